@@ -1,0 +1,67 @@
+-- The program's trees: folds, induction, and the equations of their meaning.
+use Rattle.std.proofs.Common.{◌≡◌, ℕ, List, [], ◌∷◌, map, refl, ap, sym, ◌∙◌, subst}
+use Rattle.std.specs.List.{AllByRecursion}
+use Rattle.labelled_trees.specs.Trees.{Tree, Row, leaf, node, none, more, row}
+use Rattle.labelled_trees.specs.Meaning.{tree_step, tree_of, OneToOne}
+use Rattle.labelled_trees.specs.declared.Tree as program
+use Rattle.labelled_trees.specs.declared.Tree.TheOpen.{Tree-F}
+use Rattle.labelled_trees.specs.declared.Tree.TheFolds.{fold-Tree, fold-roll-Tree, ind-Tree, map-Tree}
+use Rattle.labelled_trees.specs.declared.Tree.TheViews.{roll-Tree}
+use Rattle.labelled_trees.specs.declared.Tree.TheVariants.{Leaf, Node, rolls-Leaf, rolls-Node}
+
+-- what a fold gives at a leaf and at a vertex
+pub fold-leaf : (A : Type 0) (step : Tree-F A → A) (i : ℕ) → fold-Tree A step (Leaf i) ≡ step (Tree-F.Leaf i)
+fold-leaf A step i = ap (fold-Tree A step) (sym (rolls-Leaf i)) ∙ fold-roll-Tree A step (Tree-F.Leaf i)
+
+pub fold-node : (A : Type 0) (step : Tree-F A → A) (g : ℕ) (ts : List program.Tree) → fold-Tree A step (Node g ts) ≡ step (Tree-F.Node g (map (fold-Tree A step) ts))
+fold-node A step g ts = ap (fold-Tree A step) (sym (rolls-Node g ts)) ∙ fold-roll-Tree A step (Tree-F.Node g ts)
+
+all_held : {X : Type 0} (P : X → Type 0) (xs : List ((x : X) × P x)) → AllByRecursion P (map (λ e. e.0) xs)
+all_held P [] = tt
+all_held P (x ∷ xs) = (x.1, all_held P xs)
+
+one_layer : (P : program.Tree → Type 0) → ((i : ℕ) → P (Leaf i)) → ((g : ℕ) (ts : List program.Tree) → AllByRecursion P ts → P (Node g ts))
+    → (y : Tree-F ((t : program.Tree) × P t)) → P (roll-Tree (map-Tree ((t : program.Tree) × P t) program.Tree (λ e. e.0) y))
+one_layer P at_leaf at_node (Tree-F.Leaf i) = subst P (sym (rolls-Leaf i)) (at_leaf i)
+one_layer P at_leaf at_node (Tree-F.Node g es) = subst P (sym (rolls-Node g (map (λ e. e.0) es))) (at_node g (map (λ e. e.0) es) (all_held P es))
+
+-- induction: a fact of each leaf, and of each vertex whose inputs have it, is a fact of each tree
+pub induction : (P : program.Tree → Type 0) → ((i : ℕ) → P (Leaf i)) → ((g : ℕ) (ts : List program.Tree) → AllByRecursion P ts → P (Node g ts)) → (t : program.Tree) → P t
+induction P at_leaf at_node = ind-Tree P (λ x y is. subst (λ z. P (roll-Tree z)) is (one_layer P at_leaf at_node y))
+
+pub tree_of-leaf : (i : ℕ) → tree_of (Leaf i) ≡ leaf i
+tree_of-leaf i = fold-leaf (Tree ℕ) tree_step i
+
+pub tree_of-node : (g : ℕ) (ts : List program.Tree) → tree_of (Node g ts) ≡ node g (row (map tree_of ts))
+tree_of-node g ts = fold-node (Tree ℕ) tree_step g ts
+
+pub ruleset meanings = (tree_of-leaf, tree_of-node)
+
+-- ---- the meaning is one-to-one
+
+abbrev IsAlone : program.Tree → Type 0
+IsAlone t = (u : program.Tree) → tree_of t ≡ tree_of u → t ≡ u
+
+rows_apart : (ts us : List program.Tree) → AllByRecursion IsAlone ts → row (map tree_of ts) ≡ row (map tree_of us) → ts ≡ us
+rows_apart [] [] h e = refl
+rows_apart [] (u ∷ us) h e = absurd cc
+rows_apart (t ∷ ts) [] h e = absurd cc
+rows_apart (t ∷ ts) (u ∷ us) h e =
+    let first : t ≡ u = h.0 u cc in
+    let others : ts ≡ us = rows_apart ts us h.1 cc in cc
+
+leaf_alone : (i : ℕ) → IsAlone (Leaf i)
+leaf_alone i = induction (λ u. tree_of (Leaf i) ≡ tree_of u → Leaf i ≡ u)
+    (λ j e. let same : leaf i ≡ leaf j = sym (tree_of-leaf i) ∙ e ∙ tree_of-leaf j in let number : i ≡ j = cc in ap Leaf number)
+    (λ g us h e. let same : leaf i ≡ node g (row (map tree_of us)) = sym (tree_of-leaf i) ∙ e ∙ tree_of-node g us in absurd cc)
+
+node_alone : (g : ℕ) (ts : List program.Tree) → AllByRecursion IsAlone ts → IsAlone (Node g ts)
+node_alone g ts k = induction (λ u. tree_of (Node g ts) ≡ tree_of u → Node g ts ≡ u)
+    (λ j e. let same : node g (row (map tree_of ts)) ≡ leaf j = sym (tree_of-node g ts) ∙ e ∙ tree_of-leaf j in absurd cc)
+    (λ l us h e.
+    let same : node g (row (map tree_of ts)) ≡ node l (row (map tree_of us)) = sym (tree_of-node g ts) ∙ e ∙ tree_of-node l us in
+    let number : g ≡ l = cc in
+    let inputs : ts ≡ us = rows_apart ts us k cc in cc)
+
+pub one_to_one : OneToOne
+one_to_one = induction IsAlone leaf_alone node_alone

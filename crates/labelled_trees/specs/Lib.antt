@@ -1,0 +1,4 @@
+pub mod Trees
+pub mod Leaves
+pub mod Labelled
+pub mod Meaning

@@ -1,0 +1,39 @@
+//! Planar trees with numbered leaves: the definitions that all crates cite, and the program's type of trees.
+#![tactic(auto)]
+
+ghost use Rattle.std.specs.Prelude.{◌≡◌, IfOk};
+ghost use Rattle.labelled_trees.specs.Meaning.{OneToOne};
+
+use sqlite_items::Items;
+use std::alloc::{AllocError, Global};
+
+/// A tree: a leaf with its number, or a vertex with the index of its generator (or label) and its inputs
+/// from left to right. Contracts see it through `tree_of`.
+#[derive(Drop)]
+pub enum Tree {
+    Leaf(u8),
+    Node(u16, Items<Tree>),
+}
+
+impl Tree {
+    /// An equal tree. `AllocError` comes for want of memory alone.
+    pub fn copy(&self, alloc: Global) -> Result<Tree, AllocError>
+        ensures same { IfOk result (λ tree. tree ≡ self.now) }
+    {
+        match self {
+            Tree::Leaf(number) => Ok(Tree::Leaf(*number)),
+            Tree::Node(generator, inputs) => {
+                let mut copies = Items::new(alloc);
+                for input in inputs.as_slice() {
+                    copies.push(input.copy(alloc)?)?;
+                }
+                Ok(Tree::Node(*generator, copies))
+            }
+        }
+    }
+}
+
+/// Law: values of the program that stand for one tree are equal.
+pub fn meanings_are_apart()
+    ensures law { OneToOne }
+{}
