@@ -43,3 +43,9 @@ Turns free s = ⊥
 abbrev pub InOnePart : List Part → ℕ → Sign → Type 0
 InOnePart [] i s = ⊥
 InOnePart (p ∷ parts) i s = ((suc i < p.size) × Turns p.kind s) ⊎ ((j : ℕ) × (i ≡ p.size + j) × InOnePart parts j s)
+
+-- the parts of generator g of a list of generators; none where there is no such generator
+abbrev pub parts_of : List (List Part) → ℕ → List Part
+parts_of [] g = []
+parts_of (p ∷ generators) zero = p
+parts_of (p ∷ generators) (suc g) = parts_of generators g

@@ -1,0 +1,235 @@
+ghost use Rattle.std.specs.Prelude.{◌≡◌, ◌↔◌, ◌<◌, [], ℕ, IfOk, IfSome, IfNone, IsTrue, MatchOption, Some, length, slice_get};
+ghost use Rattle.std.specs.List.{HoldsAt};
+ghost use Rattle.symmetric_trees.specs.Generators as spec;
+
+use sqlite_items::Items;
+use std::alloc::{AllocError, Global};
+use std::marker::Model;
+use thiserror::Error;
+
+/// The name of a generator, which contracts see as its bytes.
+#[derive(Debug, Drop)]
+pub struct Name {
+    text: String,
+}
+
+impl Model for Name {
+    ghost use Rattle.std.specs.Prelude.{List, ℕ, string_bytes};
+
+    ghost Value = { List ℕ };
+
+    ghost view = { λ name. string_bytes name.text };
+}
+
+impl Name {
+    /// A copy of the text. `AllocError` comes for want of memory alone.
+    pub fn new(alloc: Global, text: &str) -> Result<Name, AllocError>
+        ensures bytes { IfOk result (λ name. name ≡ text.now) }
+    {
+        Ok(Name {
+            text: String::from_str(alloc, text)?,
+        })
+    }
+
+    /// The name as text.
+    pub fn as_str(&self) -> &str
+        ensures bytes { result.now ≡ self.now }
+    {
+        self.text.as_str()
+    }
+
+    /// An equal name. `AllocError` comes for want of memory alone.
+    pub fn copy(&self, alloc: Global) -> Result<Name, AllocError>
+        ensures same { IfOk result (λ name. name ≡ self.now) }
+    {
+        Name::new(alloc, self.text.as_str())
+    }
+}
+
+/// What becomes of a tree when two inputs in a part change places: nothing, its sign turns, or they can't.
+#[derive(Clone, Copy, Debug, PartialEq, Eq)]
+pub enum PartKind {
+    Sym,
+    Alt,
+    Free,
+}
+
+/// Consecutive inputs of a generator.
+#[derive(Clone, Copy, Debug, PartialEq, Eq)]
+pub struct Part {
+    pub kind: PartKind,
+    pub size: u8,
+}
+
+/// A generator: its name, how many inputs it has, and the parts into which they fall, in order.
+/// In a table the arity is from 2 to 6, each size is one or more, and the sizes add up to the arity.
+#[derive(Debug, Drop)]
+pub struct Generator {
+    pub name: Name,
+    pub arity: u8,
+    pub parts: Items<Part>,
+}
+
+impl Generator {
+    /// An equal generator. `AllocError` comes for want of memory alone.
+    pub fn copy(&self, alloc: Global) -> Result<Generator, AllocError>
+        ensures same { IfOk result (λ generator. generator ≡ self.now) }
+    {
+        Ok(Generator {
+            name: self.name.copy(alloc)?,
+            arity: self.arity,
+            parts: Items::from_slice(alloc, self.parts.as_slice())?,
+        })
+    }
+
+    fn is_named(&self, name: &str) -> bool
+        ensures { IsTrue result ↔ spec.IsNamed name.now self.now }
+    {
+        self.name.as_str() == name
+    }
+
+    // Whether each size is one or more, and the sizes add up to the arity.
+    fn sizes_fit(&self) -> bool
+        ensures { IsTrue result ↔ spec.SizesFit self.now }
+    {
+        let mut left = self.arity;
+        for part in self.parts.as_slice() {
+            if part.size == 0 || part.size > left {
+                return false;
+            }
+            left -= part.size;
+        }
+        left == 0
+    }
+}
+
+/// Why a generator isn't added to a table: the first of these that applies, in the order of `GenTable::add`.
+#[derive(Debug, Drop, Error)]
+pub enum GenFail {
+    #[error("the table holds the name")]
+    NameTaken,
+    #[error("the arity isn't from 2 to 6")]
+    ArityOut,
+    #[error("the table holds twelve generators")]
+    TooManyGens,
+    #[error("the sizes of the parts aren't those of the arity")]
+    PartsOut,
+    #[error("out of memory")]
+    NoMemory,
+}
+
+/// At most twelve generators with different names, which contracts see as their list.
+#[derive(Debug, Drop)]
+pub struct GenTable {
+    generators: Items<Generator>,
+}
+
+impl Model for GenTable {
+    ghost use Rattle.std.specs.Prelude.{List};
+    ghost use Rattle.symmetric_trees.specs.declared.generators.Generator.{Generator};
+    ghost use Rattle.symmetric_trees.specs.Generators.{IsTable};
+
+    ghost Value = { List Generator };
+
+    ghost view = { λ table. table.generators };
+
+    ghost invariant = { λ table. IsTable table.generators };
+}
+
+const MOST_GENERATORS: usize = 12;
+
+impl GenTable {
+    /// A table without generators. It takes no memory yet.
+    pub fn new(alloc: Global) -> GenTable
+        ensures empty { result ≡ [] }
+    {
+        GenTable {
+            generators: Items::new(alloc),
+        }
+    }
+
+    /// How many generators the table holds, at most 12.
+    pub fn len(&self) -> u16
+        ensures length { result ≡ length self.now }
+        ensures table { spec.IsTable self.now }
+    {
+        self.generators.len() as u16
+    }
+
+    /// The generator with this index, counted from 0.
+    pub fn get(&self, index: u16) -> &Generator
+        requires held { index < length self.now }
+        ensures found { slice_get self.now index ≡ Some result.now }
+        ensures table { spec.IsTable self.now }
+    {
+        &self.generators.as_slice()[index as usize]
+    }
+
+    /// The index of the generator with this name; `None` exactly where there is none.
+    pub fn find(&self, name: &str) -> Option<u16>
+        ensures found { IfSome result (λ index. (index < length self.now) × HoldsAt (spec.IsNamed name.now) self.now index) }
+        ensures absent { IfNone result (spec.IsTaken name.now self.now → ⊥) }
+    {
+        for index in 0..self.len() {
+            if self.get(index).is_named(name) {
+                return Some(index);
+            }
+        }
+        None
+    }
+
+    /// Puts a generator behind the others. In this order: `TooManyGens` exactly where 12 generators are held,
+    /// `NameTaken` exactly where the name is held, `ArityOut` exactly where the arity isn't from 2 to 6,
+    /// `PartsOut` exactly where a size is 0 or the sizes don't add up to the arity; `NoMemory` is free.
+    /// After a refusal the table is as before.
+    pub fn add(&mut self, _alloc: Global, generator: Generator) -> Result<(), GenFail>
+        ensures answer { spec.Added self.old generator result self.new }
+    {
+        if let Some(fail) = self.refusal(&generator) {
+            return Err(fail);
+        }
+        match self.generators.push(generator) {
+            Ok(()) => Ok(()),
+            Err(_) => Err(GenFail::NoMemory),
+        }
+    }
+
+    // The first thing that stands against a generator.
+    fn refusal(&self, generator: &Generator) -> Option<GenFail>
+        ensures { MatchOption result (spec.IsWelcome self.now generator.now) (spec.Refuses self.now generator.now) }
+    {
+        if self.generators.len() == MOST_GENERATORS {
+            return Some(GenFail::TooManyGens);
+        }
+        if self.is_taken(generator.name.as_str()) {
+            return Some(GenFail::NameTaken);
+        }
+        if generator.arity < 2 || generator.arity > 6 {
+            return Some(GenFail::ArityOut);
+        }
+        if !generator.sizes_fit() {
+            return Some(GenFail::PartsOut);
+        }
+        None
+    }
+
+    fn is_taken(&self, name: &str) -> bool
+        ensures { IsTrue result ↔ spec.IsTaken name.now self.now }
+    {
+        match self.find(name) {
+            Some(_) => true,
+            None => false,
+        }
+    }
+
+    /// An equal table. `AllocError` comes for want of memory alone.
+    pub fn copy(&self, alloc: Global) -> Result<GenTable, AllocError>
+        ensures same { IfOk result (λ table. table ≡ self.now) }
+    {
+        let mut generators = Items::new(alloc);
+        for generator in self.generators.as_slice() {
+            generators.push(generator.copy(alloc)?)?;
+        }
+        Ok(GenTable { generators })
+    }
+}
