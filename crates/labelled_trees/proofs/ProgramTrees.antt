@@ -1,7 +1,11 @@
 -- The program's trees: folds, induction, and the equations of their meaning.
-use Rattle.std.proofs.Common.{◌≡◌, ℕ, List, [], ◌∷◌, map, refl, ap, sym, ◌∙◌, subst}
-use Rattle.std.specs.List.{AllByRecursion}
-use Rattle.labelled_trees.specs.Trees.{Tree, Row, leaf, node, none, more, row}
+use Rattle.std.proofs.Common.{◌≡◌, ℕ, suc, ◌+◌, ◌≤◌, List, [], ◌∷◌, length, map, refl, ap, sym, ◌∙◌, subst}
+use Rattle.std.specs.List.{AllByRecursion, sum_by}
+use Rattle.std.proofs.lemmas.List.{length-map}
+use Rattle.std.proofs.lemmas.List.Sums.{sum_by-cons}
+use Rattle.labelled_trees.specs.Trees.{Tree, Row, leaf, node, none, more, row, width, inputs}
+use Rattle.labelled_trees.specs.Leaves.{sum_leaves, sum_row, AllLeaves, AllRow}
+use Rattle.labelled_trees.specs.Labelled.{Fits, FitsRow}
 use Rattle.labelled_trees.specs.Meaning.{tree_step, tree_of, OneToOne}
 use Rattle.labelled_trees.specs.declared.Tree as program
 use Rattle.labelled_trees.specs.declared.Tree.TheOpen.{Tree-F}
@@ -65,3 +69,50 @@ node_alone g ts k = induction (λ u. tree_of (Node g ts) ≡ tree_of u → Node 
 
 pub one_to_one : OneToOne
 one_to_one = induction IsAlone leaf_alone node_alone
+
+-- ---- sums and facts over the inputs of a vertex
+
+pub sum_row-row : (ts : List program.Tree) (f : ℕ → ℕ) → sum_row (row (map tree_of ts)) f ≡ sum_by (λ t. sum_leaves (tree_of t) f) ts
+sum_row-row [] f = refl
+sum_row-row (t ∷ ts) f = ap (λ n. sum_leaves (tree_of t) f + n) (sum_row-row ts f) ∙ sym (sum_by-cons (λ u. sum_leaves (tree_of u) f) t ts)
+
+-- the sum over the leaves of a vertex is that over its inputs
+pub sum_leaves-node : (g : ℕ) (ts : List program.Tree) (f : ℕ → ℕ) → sum_leaves (tree_of (Node g ts)) f ≡ sum_by (λ t. sum_leaves (tree_of t) f) ts
+sum_leaves-node g ts f = ap (λ t. sum_leaves t f) (tree_of-node g ts) ∙ sum_row-row ts f
+
+pub all_row-row : (ts : List program.Tree) (P : ℕ → Type 0) → AllByRecursion (λ t. AllLeaves (tree_of t) P) ts → AllRow (row (map tree_of ts)) P
+all_row-row [] P h = tt
+all_row-row (t ∷ ts) P h = (h.0, all_row-row ts P h.1)
+
+pub width-row : {A : Type 0} (ts : List (Tree A)) → width (row ts) ≡ length ts
+width-row [] = refl
+width-row (t ∷ ts) = ap suc (width-row ts)
+
+pub inputs-row : {A : Type 0} (ts : List (Tree A)) → inputs (row ts) ≡ ts
+inputs-row [] = refl
+inputs-row (t ∷ ts) = ap (λ us. t ∷ us) (inputs-row ts)
+
+pub row-inputs : {A : Type 0} (r : Row A) → row (inputs r) ≡ r
+row-inputs none = refl
+row-inputs (more t r) = ap (more t) (row-inputs r)
+
+-- a row fits where each input does
+pub fits_row-row : (arity : ℕ → ℕ) (ts : List program.Tree) → AllByRecursion (λ t. Fits arity (tree_of t)) ts → FitsRow arity (row (map tree_of ts))
+fits_row-row arity [] h = tt
+fits_row-row arity (t ∷ ts) h = (h.0, fits_row-row arity ts h.1)
+
+pub fits_each : (arity : ℕ → ℕ) (ts : List program.Tree) → FitsRow arity (row (map tree_of ts)) → AllByRecursion (λ t. Fits arity (tree_of t)) ts
+fits_each arity [] h = tt
+fits_each arity (t ∷ ts) h = (h.0, fits_each arity ts h.1)
+
+pub all_leaves-node : (g : ℕ) (ts : List program.Tree) (P : ℕ → Type 0) → AllByRecursion (λ t. AllLeaves (tree_of t) P) ts → AllLeaves (tree_of (Node g ts)) P
+all_leaves-node g ts P h = subst (λ t. AllLeaves t P) (sym (tree_of-node g ts)) (all_row-row ts P h)
+
+-- a vertex fits where it has the arity of its generator and each input fits
+pub fits-node : (arity : ℕ → ℕ) (g : ℕ) (ts : List program.Tree) → 2 ≤ arity g → length ts ≡ arity g → AllByRecursion (λ t. Fits arity (tree_of t)) ts → Fits arity (tree_of (Node g ts))
+fits-node arity g ts wide as_many h = subst (Fits arity) (sym (tree_of-node g ts)) (wide, width-row (map tree_of ts) ∙ length-map ts tree_of ∙ as_many, fits_row-row arity ts h)
+
+pub fits-inputs : (arity : ℕ → ℕ) (g : ℕ) (ts : List program.Tree) → Fits arity (tree_of (Node g ts)) → (2 ≤ arity g) × (length ts ≡ arity g) × AllByRecursion (λ t. Fits arity (tree_of t)) ts
+fits-inputs arity g ts h =
+    let f = subst (Fits arity) (tree_of-node g ts) h in
+    (f.0, sym (width-row (map tree_of ts) ∙ length-map ts tree_of) ∙ f.1, fits_each arity ts f.2)

@@ -1,12 +1,16 @@
 -- Facts of tables of generators.
-use Rattle.std.proofs.Common.{◌≡◌, ℕ, ◌+◌, ◌<◌, ◌≤◌, List, [], ◌∷◌, ◌++◌, length, get_or, Some, slice_get, ◌⊎◌, ⊎_elim, ap, ◌∙◌, sym, subst, arith, length-append}
-use Rattle.std.specs.List.{All, AllPairs, Any, HoldsAt}
+use Rattle.std.proofs.Common.{◌≡◌, ℕ, zero, suc, map, refl, ◌+◌, ◌<◌, ◌≤◌, List, [], ◌∷◌, ◌++◌, length, get_or, Some, slice_get, ◌⊎◌, ⊎_elim, ap, ◌∙◌, sym, subst, arith, length-append}
+use Rattle.std.specs.List.{All, AllPairs, Any, HoldsAt, sum_by}
+use Rattle.std.proofs.lemmas.List.Sums.{sum_by-cons}
+use Rattle.operad_ideals.specs.Parts.{total}
+use Rattle.operad_ideals.specs.Laws.{arity}
+use Rattle.symmetric_trees.specs.declared.generators.Part.{Part}
 use Rattle.std.proofs.lemmas.List.Elements.{All-push}
 use Rattle.std.proofs.lemmas.List.Quantifiers.{all_pairs_push}
 use Rattle.std.proofs.lemmas.List.{get_or_default}
 use Rattle.std.proofs.lemmas.Option.{get_or_from_slice_get}
 use Rattle.symmetric_trees.specs.declared.generators.Generator.{Generator}
-use Rattle.symmetric_trees.specs.Generators.{IsTable, IsTaken, IsWelcome, IsNamed, IsArity, SizesFit}
+use Rattle.symmetric_trees.specs.Generators.{part_of, parts_at, IsTable, IsTaken, IsWelcome, IsNamed, IsArity, SizesFit}
 
 -- a name that no generator has differs from the name of each
 pub none_named : (generators : List Generator) (name : List ℕ) → (Any (IsNamed name) generators → ⊥) → (k : ℕ) (d : Generator) → k < length generators → (get_or generators k d).name ≡ name → ⊥
@@ -37,3 +41,29 @@ none_named-more generators name i g is other before k d l e = ⊎_elim
 pub taken-at : (generators : List Generator) (name : List ℕ) (i : ℕ) → i < length generators → HoldsAt (IsNamed name) generators i → IsTaken name generators
 taken-at [] name i l h = absurd (omega arith)
 taken-at (g ∷ gs) name i l h = (i, get_or (g ∷ gs) i g, l, get_or_default (g ∷ gs) i (get_or (g ∷ gs) i g) g l, h g)
+
+-- ---- arities
+
+total-parts : (parts : List Part) → total (map part_of parts) ≡ sum_by (λ part. part.size) parts
+total-parts [] = refl
+total-parts (part ∷ parts) = ap (λ n. part.size + n) (total-parts parts) ∙ sym (sum_by-cons (λ (x : Part). x.size) part parts)
+
+pub parts_at-held : (generators : List Generator) (i : ℕ) (g : Generator) → slice_get generators i ≡ Some g → parts_at generators i ≡ map part_of g.parts
+parts_at-held [] i g e = absurd cc
+parts_at-held (x ∷ xs) zero g e = let same : x ≡ g = cc in ap (λ y. map part_of y.parts) same
+parts_at-held (x ∷ xs) (suc i) g e = parts_at-held xs i g e
+
+-- the sizes of a generator of a table add up to its arity
+pub arity-held : (generators : List Generator) (i : ℕ) (g : Generator) → IsTable generators → i < length generators → slice_get generators i ≡ Some g → arity (parts_at generators) i ≡ g.arity
+arity-held generators i g table l e =
+    let fit = subst SizesFit (get_or_from_slice_get generators i g g e) (table.sizes i g l) in
+    ap total (parts_at-held generators i g e) ∙ total-parts g.parts ∙ fit.1
+
+pub arity-bounds : (generators : List Generator) (i : ℕ) (g : Generator) → IsTable generators → i < length generators → slice_get generators i ≡ Some g → IsArity g.arity
+arity-bounds generators i g table l e = subst (λ x. IsArity x.arity) (get_or_from_slice_get generators i g g e) (table.arities i g l)
+
+-- no generator, no inputs
+pub arity-past : (generators : List Generator) (i : ℕ) → length generators ≤ i → arity (parts_at generators) i ≡ 0
+arity-past [] i l = refl
+arity-past (x ∷ xs) zero l = absurd (omega arith)
+arity-past (x ∷ xs) (suc i) l = arity-past xs i (omega arith)

@@ -1,2 +1,3 @@
 pub mod Generators
 pub mod Trees
+pub mod LeafCounts

@@ -1,6 +1,8 @@
 //! Trees over generators with parts of symmetry: the table of generators, arity, and the sorted spelling.
 #![tactic(auto)]
 
+mod arity;
 mod generators;
 
+pub use arity::arity_of;
 pub use generators::{GenFail, GenTable, Generator, Name, Part, PartKind};

@@ -1,0 +1,72 @@
+-- Sums and facts over leaves.
+use Rattle.std.proofs.Common.{◌≡◌, ℕ, ◌+◌, ◌≤◌, ◌<◌, refl, sym, ◌∙◌, ap, arith, subst}
+use mathlib.Core.Path.{ap₂}
+use native.Mathlib.Decide.{ℕ_discrete, dec_lt}
+use Rattle.labelled_trees.specs.Trees.{Tree, Row, leaf, node, none, more}
+use Rattle.labelled_trees.specs.Leaves.{sum_leaves, sum_row, AllLeaves, AllRow, one_if, occurs, occurs_row}
+
+pub one_if-yes : {C : Type 0} (d : Dec C) → C → one_if d ≡ 1
+one_if-yes (yes _) c = refl
+one_if-yes (no f) c = absurd (f c)
+
+pub one_if-no : {C : Type 0} (d : Dec C) → (C → ⊥) → one_if d ≡ 0
+one_if-no (yes c) f = absurd (f c)
+one_if-no (no _) f = refl
+
+pub holds_if_one : {C : Type 0} (d : Dec C) → 0 < one_if d → C
+holds_if_one (yes c) h = c
+holds_if_one (no _) h = absurd (omega arith)
+
+mutual
+  pub sum_leaves-add : {A : Type 0} (t : Tree A) (f g : A → ℕ) → sum_leaves t (λ a. f a + g a) ≡ sum_leaves t f + sum_leaves t g
+  sum_leaves-add (leaf a) f g = refl
+  sum_leaves-add (node l r) f g = sum_row-add r f g
+
+  pub sum_row-add : {A : Type 0} (r : Row A) (f g : A → ℕ) → sum_row r (λ a. f a + g a) ≡ sum_row r f + sum_row r g
+  sum_row-add none f g = refl
+  sum_row-add (more t r) f g = omega (arith, sum_leaves-add t f g, sum_row-add r f g)
+
+mutual
+  pub sum_leaves-≤ : {A : Type 0} (t : Tree A) (f g : A → ℕ) → ((a : A) → f a ≤ g a) → sum_leaves t f ≤ sum_leaves t g
+  sum_leaves-≤ (leaf a) f g h = h a
+  sum_leaves-≤ (node l r) f g h = sum_row-≤ r f g h
+
+  pub sum_row-≤ : {A : Type 0} (r : Row A) (f g : A → ℕ) → ((a : A) → f a ≤ g a) → sum_row r f ≤ sum_row r g
+  sum_row-≤ none f g h = omega arith
+  sum_row-≤ (more t r) f g h = omega (arith, sum_leaves-≤ t f g h, sum_row-≤ r f g h)
+
+mutual
+  pub sum_leaves-same : {A : Type 0} (t : Tree A) (f g : A → ℕ) → AllLeaves t (λ a. f a ≡ g a) → sum_leaves t f ≡ sum_leaves t g
+  sum_leaves-same (leaf a) f g h = h
+  sum_leaves-same (node l r) f g h = sum_row-same r f g h
+
+  pub sum_row-same : {A : Type 0} (r : Row A) (f g : A → ℕ) → AllRow r (λ a. f a ≡ g a) → sum_row r f ≡ sum_row r g
+  sum_row-same none f g h = refl
+  sum_row-same (more t r) f g h = ap₂ (λ m n. m + n) (sum_leaves-same t f g h.0) (sum_row-same r f g h.1)
+
+either_part : (a b : ℕ) (Q : Type 0) → Dec (0 < a) → (0 < a → Q) → (0 < b → Q) → 0 < a + b → Q
+either_part a b Q (yes k) f g h = f k
+either_part a b Q (no k) f g h = g (omega arith)
+
+mutual
+  -- what holds of each leaf holds of a number that occurs
+  pub at_leaf : (t : Tree ℕ) (P : ℕ → Type 0) (i : ℕ) → AllLeaves t P → 0 < occurs i t → P i
+  at_leaf (leaf n) P i h o = subst P (holds_if_one (ℕ_discrete n i) o) h
+  at_leaf (node l r) P i h o = at_row r P i h o
+
+  pub at_row : (r : Row ℕ) (P : ℕ → Type 0) (i : ℕ) → AllRow r P → 0 < occurs_row i r → P i
+  at_row none P i h o = absurd (omega arith)
+  at_row (more t r) P i h o = either_part (occurs i t) (occurs_row i r) (P i) (dec_lt 0 (occurs i t)) (λ k. at_leaf t P i h.0 k) (λ k. at_row r P i h.1 k) o
+
+itself : (n : ℕ) → 0 < one_if (ℕ_discrete n n)
+itself n = let one = one_if-yes (ℕ_discrete n n) refl in omega (arith, one)
+
+mutual
+  -- what holds of each number that occurs holds of each leaf
+  pub by_leaf : (t : Tree ℕ) (P : ℕ → Type 0) → ((i : ℕ) → 0 < occurs i t → P i) → AllLeaves t P
+  by_leaf (leaf n) P f = f n (itself n)
+  by_leaf (node l r) P f = by_row r P f
+
+  pub by_row : (r : Row ℕ) (P : ℕ → Type 0) → ((i : ℕ) → 0 < occurs_row i r → P i) → AllRow r P
+  by_row none P f = tt
+  by_row (more t r) P f = (by_leaf t P (λ i h. f i (omega (arith, h))), by_row r P (λ i h. f i (omega (arith, h))))
