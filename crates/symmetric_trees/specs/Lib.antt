@@ -1,3 +1,4 @@
 pub mod Generators
 pub mod Trees
 pub mod LeafCounts
+pub mod Spelling

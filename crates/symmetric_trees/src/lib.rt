@@ -3,6 +3,8 @@
 
 mod arity;
 mod generators;
+mod spelling;
 
 pub use arity::arity_of;
 pub use generators::{GenFail, GenTable, Generator, Name, Part, PartKind};
+pub use spelling::{Sign, spelled};

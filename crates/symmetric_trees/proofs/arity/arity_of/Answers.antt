@@ -24,7 +24,7 @@ below_or_at i label l = grind arith
 
 -- the count at a label, which isn't at its last value
 count_at : (times : List ℕ) (k : ℕ) (t : Tree ℕ) → k < 256 → min (get_or times k 0) 255 ≡ min (get_or (replicate 256 0) k 0 + occurs k t) 255 → min (get_or times k 0) 255 ≡ min (occurs k t) 255
-count_at times k t l e = let zero = get_or-replicate 256 k 0 0 l in omega (arith, e, zero)
+count_at times k t l e = let zero = get_or-replicate {A = ℕ} 256 k 0 0 l in omega (arith, e, zero)
 
 pub returns-then-counts-label-ne1-clause-none : goal.returns-then-counts-label-ne1-clause-none
 returns-then-counts-label-ne1-clause-none c n h =
