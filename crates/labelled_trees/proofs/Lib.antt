@@ -1,1 +1,2 @@
 pub mod ProgramTrees
+pub mod Rows

@@ -1,0 +1,5 @@
+pub mod Signs
+pub mod SortedLists
+pub mod SortedParts
+pub mod Agreement
+pub mod Spellings
