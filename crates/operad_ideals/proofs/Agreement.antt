@@ -1,12 +1,11 @@
 -- What agreement up to symmetry keeps.
-use Rattle.std.proofs.Common.{◌≡◌, ℕ, suc, ◌+◌, ◌<◌, ◌≤◌, List, [], ◌∷◌, ◌++◌, refl, sym, ap, ap₂, ◌∙◌, subst, arith, min}
-use Rattle.std.proofs.lemmas.Grind.{common_steps}
+use Rattle.std.proofs.Common.{◌≡◌, ℕ, List, [], ◌∷◌, ◌++◌, refl, sym, ap, ◌∙◌, arith, min}
 use native.Mathlib.Decide.{ℕ_discrete}
-use Rattle.labelled_trees.specs.Trees.{Tree, Row, leaf, node, none, more, row, inputs, width}
-use Rattle.labelled_trees.specs.Leaves.{sum_leaves, sum_row, occurs, occurs_row, one_if}
-use Rattle.labelled_trees.specs.Labelled.{Fits, FitsRow, IsLabelled}
+use Rattle.labelled_trees.specs.Trees.{Tree, more, row}
+use Rattle.labelled_trees.specs.Leaves.{sum_leaves, occurs, one_if}
+use Rattle.labelled_trees.specs.Labelled.{Fits}
 use Rattle.labelled_trees.proofs.Rows.{width-exchange, sum_row-exchange, FitsRow-exchange, width-replace, sum_row-replace, FitsRow-replace}
-use Rattle.operad_ideals.specs.Parts.{Part, Sign, plus, times}
+use Rattle.operad_ideals.specs.Parts.{Part, Sign}
 use Rattle.operad_ideals.specs.Spelling.{least_leaf, least_leaf_row, Agrees, same, exchanged, inside, followed}
 use Rattle.operad_ideals.specs.Laws.{arity, AgreementKeepsLabels}
 

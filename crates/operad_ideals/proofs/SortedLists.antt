@@ -1,14 +1,13 @@
 -- Insertion sort by keys, and the sign of the permutation that sorts.
-use Rattle.std.proofs.Common.{◌≡◌, ◌≢◌, ◌⊎◌, inl, inr, ⊎_elim, ℕ, zero, suc, ◌+◌, ◌<◌, ◌≤◌, Bool, true, false, cond, nat_lt, ◌==◌, List, [], ◌∷◌, length, map, take, drop, get_or, refl, sym, ap, ap₂, ◌∙◌, subst, arith, All, sum_by, count_by, IsPermutation, IsSortedByKey, nat_cmp, lt-ltb, le-ltb, eq-eqb}
+use Rattle.std.proofs.Common.{◌≡◌, ◌≢◌, ◌⊎◌, inl, inr, ⊎_elim, ℕ, zero, suc, ◌+◌, ◌<◌, ◌≤◌, cond, nat_lt, ◌==◌, List, [], ◌∷◌, length, map, take, drop, get_or, refl, sym, ap, ap₂, ◌∙◌, subst, arith, sum_by, count_by, IsPermutation, IsSortedByKey, nat_cmp, lt-ltb, le-ltb}
 use Rattle.std.specs.List.{AllByRecursion}
-use Rattle.std.proofs.lemmas.Grind.{common_steps}
 use Rattle.std.proofs.lemmas.Bool.Decides.{nat_tests}
 use Rattle.std.proofs.lemmas.List.Sums.{sum_by-cons}
 use Rattle.std.proofs.lemmas.List.Elements.{recursion_from_All, All-from_recursion}
 use Rattle.std.proofs.lemmas.List.Sorted.{All-permutation, IsPermutation-sym, sum_by-IsPermutation, IsNonDecreasingBy-from_sort}
 use Rattle.operad_ideals.specs.Parts.{Sign, plus, minus, times, sign_of}
 use Rattle.operad_ideals.specs.Sorting.{put_by, sort_by, order_sign}
-use Rattle.operad_ideals.proofs.Signs.{times-plus, times_comm, times_assoc, times_left_comm, times-inverse}
+use Rattle.operad_ideals.proofs.Signs.{times_assoc, times_left_comm, times-inverse}
 
 -- ---- lists of which each element has a property
 
@@ -56,6 +55,7 @@ apart-drop key zero xs h = h
 apart-drop key (suc n) [] h = tt
 apart-drop key (suc n) (x ∷ xs) h = apart-drop key n xs h.1
 
+-- the keys themselves are pairwise different
 pub apart-map : {X : Type 0} (key : X → ℕ) (xs : List X) → Apart key xs → Apart (λ n. n) (map key xs)
 apart-map key [] h = tt
 apart-map key (x ∷ xs) h = (every_map key (λ n. key x ≢ n) xs h.0, apart-map key xs h.1)
@@ -63,6 +63,14 @@ apart-map key (x ∷ xs) h = (every_map key (λ n. key x ≢ n) xs h.0, apart-ma
 pub apart-unmap : {X : Type 0} (key : X → ℕ) (xs : List X) → Apart (λ n. n) (map key xs) → Apart key xs
 apart-unmap key [] h = tt
 apart-unmap key (x ∷ xs) h = (every_unmap key (λ n. key x ≢ n) xs h.0, apart-unmap key xs h.1)
+
+-- from the keys that another function passes on
+pub apart-from_map : {X Y : Type 0} (f : X → Y) (key : X → ℕ) (other : Y → ℕ) → ((x : X) → key x ≡ other (f x)) → (xs : List X) → Apart other (map f xs) → Apart key xs
+apart-from_map f key other e [] h = tt
+apart-from_map f key other e (x ∷ xs) h = (
+  every_weaker (λ y. other (f x) ≢ other (f y)) (λ y. key x ≢ key y) xs (λ y d k. d (sym (e x) ∙ k ∙ e y)) (every_unmap f (λ z. other (f x) ≢ other z) xs h.0),
+  apart-from_map f key other e xs h.1,
+)
 
 pub ascends-map : {X : Type 0} (key : X → ℕ) (xs : List X) → Ascends key xs → Ascends (λ n. n) (map key xs)
 ascends-map key [] h = tt
@@ -99,6 +107,7 @@ ascends-neighbours key (x ∷ (y ∷ ys)) h (suc i) l = ascends-neighbours key (
 
 -- ---- insertion
 
+-- the two cases of an insertion
 pub tested : (a b : ℕ) → (a < b) ⊎ (b ≤ a)
 tested a b = grind arith
 
@@ -109,6 +118,7 @@ module _ {X : Type 0} (key : X → ℕ) where
   pub put_before : (x y : X) (ys : List X) → key x ≤ key y → put_by key x (y ∷ ys) ≡ x ∷ (y ∷ ys)
   put_before x y ys h = ap (λ t. cond t (y ∷ put_by key x ys) (x ∷ (y ∷ ys))) (le-ltb (key y) (key x) h)
 
+  -- insertion keeps the other elements
   every_put : (P : X → Type 0) (x : X) (ys : List X) → P x → AllByRecursion P ys → AllByRecursion P (put_by key x ys)
   every_put P x [] p h = (p, tt)
   every_put P x (y ∷ ys) p h = ⊎_elim
@@ -125,11 +135,12 @@ module _ {X : Type 0} (key : X → ℕ) where
       (λ l. subst (AllByRecursion P) (put_before x y ys l) h)
       (tested (key y) (key x))
 
-  -- the sorted list has the same elements
+  -- what holds of each element holds of each element of the sorted list
   pub every_sort_by : (P : X → Type 0) (xs : List X) → AllByRecursion P xs → AllByRecursion P (sort_by key xs)
   every_sort_by P [] h = tt
   every_sort_by P (x ∷ xs) h = every_put P x (sort_by key xs) h.0 (every_sort_by P xs h.1)
 
+  -- and back
   every_unsort : (P : X → Type 0) (xs : List X) → AllByRecursion P (sort_by key xs) → AllByRecursion P xs
   every_unsort P [] h = tt
   every_unsort P (x ∷ xs) h = let k : P x × AllByRecursion P (sort_by key xs) = every_unput P x (sort_by key xs) h in (k.0, every_unsort P xs k.1)
@@ -156,6 +167,7 @@ module _ {X : Type 0} (key : X → ℕ) where
       subst (Ascends key) (sym (put_before x y ys l)) ((less, every_weaker (λ z. key y < key z) (λ z. key x < key z) ys (λ z m. omega (arith, m, less)) h.0), h))
       (tested (key y) (key x))
 
+  -- the sorted list ascends where the keys are pairwise different
   pub sort_by-ascends : (xs : List X) → Apart key xs → Ascends key (sort_by key xs)
   sort_by-ascends [] h = tt
   sort_by-ascends (x ∷ xs) h = put_ascends x (sort_by key xs) (every_sort_by (λ y. key x ≢ key y) xs h.0) (sort_by-ascends xs h.1)
@@ -164,12 +176,14 @@ module _ {X : Type 0} (key : X → ℕ) where
   put_least x [] h = refl
   put_least x (y ∷ ys) h = put_before x y ys (omega (arith, h.0))
 
+  -- an ascending list stays
   pub sort_by-same : (xs : List X) → Ascends key xs → sort_by key xs ≡ xs
   sort_by-same [] h = refl
   sort_by-same (x ∷ xs) h = ap (put_by key x) (sort_by-same xs h.1) ∙ put_least x xs h.0
 
   -- ---- an exchange of two neighbours doesn't change the sorted list
 
+  -- two insertions in a row: their order is of no account where the keys differ
   put_two_at : (x y z : X) (zs : List X) → key x < key y → (key z < key x) ⊎ (key x ≤ key z) → (key z < key y) ⊎ (key y ≤ key z)
       → put_by key x (put_by key y zs) ≡ put_by key y (put_by key x zs) → put_by key x (put_by key y (z ∷ zs)) ≡ put_by key y (put_by key x (z ∷ zs))
   put_two_at x y z zs l (inl a) (inl b) e =
@@ -210,6 +224,7 @@ length-exchange zero (x ∷ (y ∷ ys)) = refl
 length-exchange (suc i) [] = refl
 length-exchange (suc i) (x ∷ xs) = ap suc (length-exchange i xs)
 
+-- the sorted list is the same where two neighbours are exchanged
 pub sort_by-exchange : {X : Type 0} (key : X → ℕ) (i : ℕ) (xs : List X) → Apart key xs → sort_by key (exchange i xs) ≡ sort_by key xs
 sort_by-exchange key zero [] h = refl
 sort_by-exchange key zero (x ∷ []) h = refl
@@ -264,6 +279,7 @@ below_none : (k : ℕ) (ks : List ℕ) → AllByRecursion (λ m. k < m) ks → b
 below_none k [] h = refl
 below_none k (m ∷ ks) h = below_more k m ks (omega (arith, h.0)) ∙ below_none k ks h.1
 
+-- the sign of an ascending list is plus
 pub order_sign-ascending : (ks : List ℕ) → Ascends (λ n. n) ks → order_sign ks ≡ plus
 order_sign-ascending [] h = refl
 order_sign-ascending (k ∷ ks) h = ap (λ n. times (sign_of n) (order_sign ks)) (below_none k ks h.0) ∙ order_sign-ascending ks h.1
@@ -302,6 +318,7 @@ in_rest : {X : Type 0} (key : X → ℕ) (x : X) (xs zs : List X) → AllByRecur
 in_rest key x xs [] l h = tt
 in_rest key x xs (z ∷ zs) l h = (⊎_elim (λ e. let same : key z ≡ key x = ap key e in absurd (omega (arith, same, l.0))) (λ k. k) h.0, in_rest key x xs zs l.1 h.1)
 
+-- two ascending lists with the same elements are equal
 ascending_same : {X : Type 0} (key : X → ℕ) (xs ys : List X) → Ascends key xs → Ascends key ys → AllByRecursion (λ z. In z ys) xs → AllByRecursion (λ z. In z xs) ys → xs ≡ ys
 ascending_same key [] [] a b h k = refl
 ascending_same key [] (y ∷ ys) a b h k = absurd k.0
@@ -330,6 +347,7 @@ none_at key n (x ∷ xs) h = sum_by-cons (one_at key n) x xs ∙ ⊎_elim
     (λ e. absurd (h.0 (sym e.0)))
     (λ e. omega (arith, e.1, none_at key n xs h.1)) (equal_or_not (key x) n)
 
+-- keys that are pairwise different: each number is the key of one element at most
 once_at : {X : Type 0} (key : X → ℕ) (xs : List X) → Apart key xs → (n : ℕ) → sum_by (one_at key n) xs ≤ 1
 once_at key [] h n = omega arith
 once_at key (x ∷ xs) h n = rw (sum_by-cons (one_at key n) x xs) (⊎_elim
@@ -351,6 +369,7 @@ apart_once key (x ∷ xs) h =
     let here : one_at key (key x) x ≡ 1 = ⊎_elim (λ e. e.1) (λ e. absurd (e.0 refl)) (equal_or_not (key x) (key x)) in
     (apart_none key (key x) xs (omega (arith, both (key x), here)), apart_once key xs (λ n. omega (arith, both n)))
 
+-- a permutation of pairwise different keys
 pub apart-permutation : {X : Type 0} (key : X → ℕ) (xs ys : List X) → IsPermutation xs ys → Apart key xs → Apart key ys
 apart-permutation key xs ys p h = apart_once key ys (λ n. rw (sum_by-IsPermutation (one_at key n) xs ys p) (once_at key xs h n))
 

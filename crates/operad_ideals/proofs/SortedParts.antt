@@ -1,12 +1,12 @@
 -- Lists sorted part by part.
-use Rattle.std.proofs.Common.{◌≡◌, ◌⊎◌, inl, inr, ⊎_elim, ℕ, zero, suc, ◌+◌, ◌<◌, ◌≤◌, List, [], ◌∷◌, ◌++◌, length, map, take, drop, get_or, refl, sym, ap, ap₂, ◌∙◌, subst, arith, min, map-id, length-append, length-take, length-drop, take-append-drop, get_or-append-add, get_or-take, get_or-drop}
+use Rattle.std.proofs.Common.{◌≡◌, inl, inr, ⊎_elim, ℕ, zero, suc, ◌+◌, ◌<◌, ◌≤◌, List, [], ◌∷◌, ◌++◌, length, map, take, drop, get_or, refl, sym, ap, ap₂, ◌∙◌, subst, arith, min, map-id, length-append, length-take, length-drop, take-append-drop, get_or-take, get_or-drop}
 use Rattle.std.specs.List.{AllByRecursion}
-use Rattle.std.proofs.lemmas.List.{map-append}
+use Rattle.std.proofs.lemmas.List.{map-append, take-map, drop-map, nil_from_length}
 use Rattle.std.proofs.Math.ListN.{get_or-append, length-map}
-use Rattle.operad_ideals.specs.Parts.{Kind, symmetric, skew, free, Part, Sign, plus, minus, times, sign_of, total, Turns, InOnePart}
-use Rattle.operad_ideals.specs.Sorting.{sort_by, order_sign, sort_part, part_sign, sort_parts, parts_sign}
-use Rattle.operad_ideals.proofs.Signs.{times-plus, times_assoc, times_left_comm}
-use Rattle.operad_ideals.proofs.SortedLists.{Apart, Ascends, exchange, apart-take, apart-drop, every_sort_by, every_take, every_drop, length-sort_by, sort_by-ascends, sort_by-same, sort_by-exchange, order_sign-exchange, order_sign-ascending, ascends-from_neighbours, ascends-neighbours, ascends-map, length-exchange, map-sort_by}
+use Rattle.operad_ideals.specs.Parts.{Kind, symmetric, skew, free, Part, Sign, plus, minus, times, total, Turns, InOnePart}
+use Rattle.operad_ideals.specs.Sorting.{order_sign, sort_part, part_sign, sort_parts, parts_sign}
+use Rattle.operad_ideals.proofs.Signs.{times_assoc, times_left_comm}
+use Rattle.operad_ideals.proofs.SortedLists.{Apart, Ascends, exchange, apart-take, apart-drop, every_sort_by, every_take, every_drop, length-sort_by, sort_by-ascends, sort_by-same, sort_by-exchange, order_sign-exchange, order_sign-ascending, ascends-from_neighbours, ascends-neighbours, map-sort_by}
 
 -- ---- exchanges within and past the first n elements
 
@@ -110,29 +110,15 @@ map-sort_part f key other e symmetric xs = map-sort_by f key other e xs
 map-sort_part f key other e skew xs = map-sort_by f key other e xs
 map-sort_part f key other e free xs = refl
 
-map-take : {X Y : Type 0} (f : X → Y) (n : ℕ) (xs : List X) → map f (take n xs) ≡ take n (map f xs)
-map-take f zero xs = refl
-map-take f (suc n) [] = refl
-map-take f (suc n) (x ∷ xs) = ap (λ ys. f x ∷ ys) (map-take f n xs)
-
-map-drop : {X Y : Type 0} (f : X → Y) (n : ℕ) (xs : List X) → map f (drop n xs) ≡ drop n (map f xs)
-map-drop f zero xs = refl
-map-drop f (suc n) [] = refl
-map-drop f (suc n) (x ∷ xs) = map-drop f n xs
-
 pub map-sort_parts : {X Y : Type 0} (f : X → Y) (key : X → ℕ) (other : Y → ℕ) → ((x : X) → key x ≡ other (f x)) → (parts : List Part) (xs : List X) → map f (sort_parts key parts xs) ≡ sort_parts other parts (map f xs)
 map-sort_parts f key other e [] xs = refl
 map-sort_parts f key other e (p ∷ parts) xs =
     map-append f (sort_part key p.kind (take p.size xs)) (sort_parts key parts (drop p.size xs))
     ∙ ap₂ (λ ys zs. ys ++ zs) (map-sort_part f key other e p.kind (take p.size xs)) (map-sort_parts f key other e parts (drop p.size xs))
-    ∙ ap₂ (λ ys zs. sort_part other p.kind ys ++ sort_parts other parts zs) (map-take f p.size xs) (map-drop f p.size xs)
-
-empty : {X : Type 0} (xs : List X) → length xs ≡ 0 → xs ≡ []
-empty [] e = refl
-empty (x ∷ xs) e = absurd (omega (arith, e))
+    ∙ ap₂ (λ ys zs. sort_part other p.kind ys ++ sort_parts other parts zs) (sym (take-map f p.size xs)) (sym (drop-map f p.size xs))
 
 pub sort_parts-nil : {X : Type 0} (key : X → ℕ) (parts : List Part) → sort_parts key parts [] ≡ []
-sort_parts-nil key parts = empty (sort_parts key parts []) (length-sort_parts key parts [])
+sort_parts-nil key parts = nil_from_length (sort_parts key parts []) (length-sort_parts key parts [])
 
 -- ---- a list whose parts ascend is sorted, and its sign is plus
 
@@ -140,11 +126,13 @@ sort_parts-nil key parts = empty (sort_parts key parts []) (length-sort_parts ke
 abbrev pub Rise : List Part → List ℕ → Type 0
 Rise parts ks = (i : ℕ) (s : Sign) → InOnePart parts i s → get_or ks i 0 < get_or ks (suc i) 0
 
+-- the first part of a list whose parts ascend
 rise_first : {X : Type 0} (key : X → ℕ) (p : Part) (parts : List Part) (xs : List X) → Rise (p ∷ parts) (map key xs) → (s : Sign) → Turns p.kind s → Ascends key (take p.size xs)
 rise_first key p parts xs h s t = ascends-from_neighbours key (take p.size xs) (λ i l.
-  let within : suc i < p.size = let m : suc i < min p.size (length xs) = rw (length-take p.size xs) at l in omega (arith, m) in
-  rw (map-take key p.size xs, get_or-take p.size (map key xs) i 0 (omega (arith, within)), get_or-take p.size (map key xs) (suc i) 0 within) (h i s (inl (within, t))))
+    let within : suc i < p.size = let m : suc i < min p.size (length xs) = rw (length-take p.size xs) at l in omega (arith, m) in
+    rw (← take-map key p.size xs, get_or-take p.size (map key xs) i 0 (omega (arith, within)), get_or-take p.size (map key xs) (suc i) 0 within) (h i s (inl (within, t))))
 
+-- the other parts
 rise_others : (p : Part) (parts : List Part) (ks : List ℕ) → Rise (p ∷ parts) ks → Rise parts (drop p.size ks)
 rise_others p parts ks h i s here =
     let next : p.size + suc i ≡ suc (p.size + i) = omega arith in
@@ -164,7 +152,7 @@ pub sort_parts-same : {X : Type 0} (key : X → ℕ) (parts : List Part) (xs : L
 sort_parts-same key [] xs h = refl
 sort_parts-same key (p ∷ parts) xs h =
     ap₂ (λ ys zs. ys ++ zs) (sort_part-same key p.kind (take p.size xs) (rise_first key p parts xs h))
-    (sort_parts-same key parts (drop p.size xs) (subst (Rise parts) (sym (map-drop key p.size xs)) (rise_others p parts (map key xs) h)))
+    (sort_parts-same key parts (drop p.size xs) (subst (Rise parts) (drop-map key p.size xs) (rise_others p parts (map key xs) h)))
     ∙ take-append-drop p.size xs
 
 pub parts_sign-ascending : (parts : List Part) (ks : List ℕ) → Rise parts ks → parts_sign parts ks ≡ plus
