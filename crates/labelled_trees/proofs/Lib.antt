@@ -1,3 +1,4 @@
 pub mod Counts
 pub mod Leaves
 pub mod ProgramTrees
+pub mod Rows

@@ -1,6 +1,6 @@
 -- Agreement of trees up to symmetry, and the sorted spelling.
-use Rattle.std.specs.Prelude.{ℕ, ◌<◌, List, [], ◌∷◌, ◌++◌, length, map, min, slice_index}
-use Rattle.std.proofs.Common.{zero, suc}
+use Rattle.std.specs.Prelude.{ℕ, ◌<◌, List, ◌∷◌, ◌++◌, length, map, min, slice_index}
+use Rattle.std.proofs.Common.{suc}
 use Rattle.labelled_trees.specs.Trees.{Tree, Row, leaf, node, none, more, row, inputs}
 use Rattle.operad_ideals.specs.Parts.{Part, Sign, plus, times, InOnePart}
 
