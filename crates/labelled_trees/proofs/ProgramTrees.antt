@@ -6,6 +6,7 @@ use Rattle.std.proofs.lemmas.List.Sums.{sum_by-cons}
 use Rattle.labelled_trees.specs.Trees.{Tree, Row, leaf, node, none, more, row, width, inputs}
 use Rattle.labelled_trees.specs.Leaves.{sum_leaves, sum_row, AllLeaves, AllRow}
 use Rattle.labelled_trees.specs.Labelled.{Fits, FitsRow}
+use Rattle.labelled_trees.proofs.Rows.{width-row}
 use Rattle.labelled_trees.specs.Meaning.{tree_step, tree_of, OneToOne}
 use Rattle.labelled_trees.specs.declared.Tree as program
 use Rattle.labelled_trees.specs.declared.Tree.TheOpen.{Tree-F}
@@ -83,18 +84,6 @@ sum_leaves-node g ts f = ap (λ t. sum_leaves t f) (tree_of-node g ts) ∙ sum_r
 pub all_row-row : (ts : List program.Tree) (P : ℕ → Type 0) → AllByRecursion (λ t. AllLeaves (tree_of t) P) ts → AllRow (row (map tree_of ts)) P
 all_row-row [] P h = tt
 all_row-row (t ∷ ts) P h = (h.0, all_row-row ts P h.1)
-
-pub width-row : {A : Type 0} (ts : List (Tree A)) → width (row ts) ≡ length ts
-width-row [] = refl
-width-row (t ∷ ts) = ap suc (width-row ts)
-
-pub inputs-row : {A : Type 0} (ts : List (Tree A)) → inputs (row ts) ≡ ts
-inputs-row [] = refl
-inputs-row (t ∷ ts) = ap (λ us. t ∷ us) (inputs-row ts)
-
-pub row-inputs : {A : Type 0} (r : Row A) → row (inputs r) ≡ r
-row-inputs none = refl
-row-inputs (more t r) = ap (more t) (row-inputs r)
 
 -- a row fits where each input does
 pub fits_row-row : (arity : ℕ → ℕ) (ts : List program.Tree) → AllByRecursion (λ t. Fits arity (tree_of t)) ts → FitsRow arity (row (map tree_of ts))

@@ -9,7 +9,7 @@ use Rattle.symmetric_trees.specs.Generators.{parts_at}
 use Rattle.symmetric_trees.specs.declared.generators.Generator.{Generator}
 use Rattle.symmetric_trees.specs.declared.spelling.Sign.{Sign}
 use Rattle.symmetric_trees.specs.declared.spelling.Sign.TheVariants.{Plus, Minus}
-use Rattle.symmetric_trees.specs.declared.spelling.Branch.{Branch}
+use Rattle.symmetric_trees.specs.declared.branch.Branch.{Branch}
 
 abbrev pub meaning_of : Sign → math.Sign
 meaning_of Plus = plus

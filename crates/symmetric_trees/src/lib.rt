@@ -2,6 +2,7 @@
 #![tactic(auto)]
 
 mod arity;
+mod branch;
 mod generators;
 mod spelling;
 

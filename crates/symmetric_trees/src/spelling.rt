@@ -8,6 +8,7 @@ ghost use Rattle.symmetric_trees.specs.Generators.{kind_of, part_of, parts_at};
 ghost use Rattle.symmetric_trees.specs.Trees as trees;
 ghost use Rattle.symmetric_trees.specs.Spelling as spec;
 
+use crate::branch::Branch;
 use crate::{GenTable, Part, PartKind};
 use labelled_trees::Tree;
 use sqlite_items::Items;
@@ -44,14 +45,6 @@ impl Sign {
             Sign::Plus
         }
     }
-}
-
-// A spelled tree with its least leaf, by which it is sorted.
-#[derive(Drop)]
-struct Branch {
-    least: u8,
-    tree: Tree,
-    ghost least_is: { least ≡ Rattle.operad_ideals.specs.Spelling.least_leaf (tree_of tree) },
 }
 
 // The sign of the permutation that sorts the branches.
