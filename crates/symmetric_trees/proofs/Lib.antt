@@ -1,1 +1,2 @@
+pub mod SpellingSteps
 pub mod Tables
