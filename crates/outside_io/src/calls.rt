@@ -35,7 +35,8 @@ impl Calls {
     pub(crate) fn begin(&mut self) -> Result<(), Failed>
         ensures fails { is_err result ≡ fails_next self.old }
         ensures later { self.old.faults ≤ self.new.faults }
-        ensures log { self.new ≡ (if fails_next self.old then after_fault (after_call self.old) else after_call self.old) }
+        ensures log { self.new ≡ (if fails_next self.old
+            then after_fault (after_call self.old) else after_call self.old) }
     {
         if self.made == u32::MAX {
             return Ok(());

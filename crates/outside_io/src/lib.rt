@@ -53,5 +53,6 @@ pub trait Sink {
         ensures bound { WritesSome result piece.now }
         ensures bytes { WriteTakes (taken self.old) (taken self.new) result piece.now }
         ensures cause { HasCause (faults self.old) (faults self.new) result }
-        ensures empty { SkipsEmpty (taken self.old) (taken self.new) (faults self.old) (faults self.new) result piece.now };
+        ensures empty { SkipsEmpty (taken self.old) (taken self.new)
+            (faults self.old) (faults self.new) result piece.now };
 }

@@ -37,7 +37,8 @@ impl<R: Read> Source for RealSource<R> {
         ensures bytes { ReadConsumes None None result buf.new }
         ensures cause { HasCause (source_faults self.old) (source_faults self.new) result }
         ensures counts { CountsOne (source_faults self.old) (source_faults self.new) result }
-        ensures passed { ReadConsumes (R.remaining (inner_reader self.old)) (R.remaining (inner_reader self.new)) result buf.new }
+        ensures passed { ReadConsumes (R.remaining (inner_reader self.old))
+            (R.remaining (inner_reader self.new)) result buf.new }
     {
         match self.inner.read(buf) {
             Ok(count) => Ok(count),
@@ -85,9 +86,11 @@ impl<W: Write> Sink for RealSink<W> {
         ensures bound { WritesSome result piece.now }
         ensures bytes { WriteTakes None None result piece.now }
         ensures cause { HasCause (sink_faults self.old) (sink_faults self.new) result }
-        ensures empty { SkipsEmpty None None (sink_faults self.old) (sink_faults self.new) result piece.now }
+        ensures empty { SkipsEmpty None None (sink_faults self.old) (sink_faults self.new)
+            result piece.now }
         ensures counts { CountsOne (sink_faults self.old) (sink_faults self.new) result }
-        ensures passed { PassesOn (W.contents (inner_writer self.old)) (W.contents (inner_writer self.new)) result piece.now }
+        ensures passed { PassesOn (W.contents (inner_writer self.old))
+            (W.contents (inner_writer self.new)) result piece.now }
     {
         if piece.is_empty() {
             return Ok(0);

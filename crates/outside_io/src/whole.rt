@@ -35,8 +35,8 @@ const BUFFER: usize = 4096;
 /// All bytes up to the end of the input, of which there are at most `limit`, below 2^32.
 ///
 /// `TooLong` where more than `limit` bytes come before the end: one more is read then, and no other.
-/// `Fault` only where the source's count of faults rose in this call. `NoMemory` where there was no
-/// memory for the bytes, of which at most `limit + 1` are lost.
+/// `Fault` comes only where the source's count of faults rose in this call. `NoMemory` comes where
+/// there was no memory for bytes that came. The bytes read until then are lost.
 pub fn read_all<S: Source>(alloc: Global, source: &mut S, limit: u64) -> Result<Vec<u8>, ReadFail>
     requires { limit < 2 ^ 32 }
     ensures later { S.faults source.old ≤ S.faults source.new }
@@ -45,11 +45,13 @@ pub fn read_all<S: Source>(alloc: Global, source: &mut S, limit: u64) -> Result<
     ensures whole { IfOk result (λ bytes. Consumes (S.left source.old) (S.left source.new) bytes.items
         × IsAtEnd (S.left source.new) × (length bytes.items ≤ limit)) }
     ensures long { result ≡ Err ReadFail.TooLong → (S.faults source.new ≡ S.faults source.old)
-        × (bytes : List ℕ) × (length bytes ≡ limit + 1) × Consumes (S.left source.old) (S.left source.new) bytes }
+        × (bytes : List ℕ) × (length bytes ≡ limit + 1)
+        × Consumes (S.left source.old) (S.left source.new) bytes }
     ensures memory { result ≡ Err ReadFail.NoMemory → (S.faults source.new ≡ S.faults source.old)
-        × (bytes : List ℕ) × (length bytes ≤ limit + 1) × Consumes (S.left source.old) (S.left source.new) bytes }
-    ensures lost { result ≡ Err ReadFail.Fault →
-        ((bytes : List ℕ) × (length bytes ≤ limit) × Consumes (S.left source.old) (S.left source.new) bytes) }
+        × (bytes : List ℕ) × (0 < length bytes) × (length bytes ≤ limit + 1)
+        × Consumes (S.left source.old) (S.left source.new) bytes }
+    ensures lost { result ≡ Err ReadFail.Fault → ((bytes : List ℕ) × (length bytes ≤ limit)
+        × Consumes (S.left source.old) (S.left source.new) bytes) }
 {
     let mut bytes = Vec::new(alloc);
     let mut buf = [0u8; BUFFER];

@@ -10,5 +10,6 @@ returns-in-Err-extend_from_slice-clause-memory g c =
       c.in-Ok.ensures.cause.kept ∙ c.loop-buf.invariant.kept,
       c.loop-buf.bytes.items ++ new,
       grind (arith, common_steps),
+      grind (arith, common_steps),
       Consumes-trans _ _ _ c.loop-buf.bytes.items new c.loop-buf.invariant.read c.in-Ok.ensures.bytes.0,
     )
