@@ -1,0 +1,4 @@
+pub mod LineLaws
+pub mod TokenLaws
+pub mod TreeTokens
+pub mod TreePrinting

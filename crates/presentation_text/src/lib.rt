@@ -1,0 +1,10 @@
+//! The text of presentations: lines, tokens, and trees as they are read and printed.
+#![tactic(auto)]
+
+mod lexing;
+mod lines;
+mod writing;
+
+pub use lexing::{Token, tokens, tokens_are_defined};
+pub use lines::{counts, lines_are_defined, next_line};
+pub use writing::{print_tree, trees_are_read_once, write_tree};
