@@ -1,0 +1,6 @@
+pub mod Commands
+pub mod OneGenerator
+pub mod Answers
+pub mod OpeningLines
+pub mod Queries
+pub mod Runs

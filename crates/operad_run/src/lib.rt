@@ -1,0 +1,9 @@
+//! The program: words, a source and a sink in, a status out.
+#![tactic(auto)]
+
+mod commands;
+mod opening;
+mod queries;
+mod status;
+
+pub use status::Status;
