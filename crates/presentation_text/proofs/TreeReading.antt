@@ -36,11 +36,6 @@ token_at (y ∷ ys) (suc at) x rest e = token_at ys at x rest e
 pub token_read : (tokens : List Token) (at : ℕ) (token x : Token) → true ≡ ltb at (length tokens) → token ≡ get_or tokens at token → token ≡ x → slice_get tokens at ≡ Some x
 token_read tokens at token x l e same = slice_get_read tokens (length tokens) at token refl (ltb-true at (length tokens) (sym l)) e ∙ ap Some same
 
-no_token : (tokens : List Token) (at : ℕ) → slice_get tokens at ≡ None → length tokens ≤ at
-no_token [] at e = omega arith
-no_token (y ∷ ys) zero e = absurd cc
-no_token (y ∷ ys) (suc at) e = let further = no_token ys at e in omega arith
-
 -- the tokens of a tree begin with the token that stands at its place
 first_token : (generators : List Generator) (tokens : List Token) (at : ℕ) (t : Tree ℕ) (end : ℕ) (x : Token) → StandsAt generators tokens at t end → slice_get tokens at ≡ Some x
     → x ∷ drop (at + 1) tokens ≡ tree_tokens generators t ++ drop end tokens
@@ -63,9 +58,6 @@ stands-from generators tokens at t rest e =
     }
 
 -- ---- what can't be read
-
-pub reads-past : (depth : ℕ) (generators : List Generator) (tokens : List Token) (at : ℕ) → slice_get tokens at ≡ None → ReadsWithin depth generators tokens at None
-reads-past depth generators tokens at e t end stands readable = let past = no_token tokens at e in absurd (omega (arith, stands.begins, stands.within))
 
 pub reads-other : (depth : ℕ) (generators : List Generator) (tokens : List Token) (at : ℕ) (x : Token) → slice_get tokens at ≡ Some x → ((n : ℕ) → x ≢ Number n) → ((name : List ℕ) → x ≢ Word name)
     → ReadsWithin depth generators tokens at None

@@ -1,5 +1,6 @@
 ghost use Rattle.std.specs.Prelude.{◌≡◌, ◌↔◌, ◌+◌, ◌<◌, IfOk, IsTrue, Some, length, slice_get};
 ghost use Rattle.presentation_text.specs.TreeText as spec;
+ghost use Rattle.presentation_text.specs.Laws.{TreesAreReadOnce};
 
 use crate::lexing::Token;
 use labelled_trees::Tree;
@@ -93,3 +94,8 @@ fn read_node(
     }
     Ok(Some((Tree::Node(generator, inputs), next + 1)))
 }
+
+/// Law: tokens begin with those of at most one tree that fits a table.
+pub fn trees_are_read_once()
+    ensures law { TreesAreReadOnce }
+{}
