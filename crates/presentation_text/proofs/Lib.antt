@@ -2,3 +2,4 @@ pub mod LineLaws
 pub mod TokenLaws
 pub mod TreeTokens
 pub mod TreePrinting
+pub mod TreeReading

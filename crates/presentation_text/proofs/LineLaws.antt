@@ -1,9 +1,9 @@
 -- The lines of a text, one after the other, and which of them count.
-use Rattle.std.proofs.Common.{◌≡◌, ◌≢◌, ℕ, zero, suc, ◌+◌, ◌-◌, ◌<◌, ◌≤◌, Bool, true, false, not, ◌==◌, List, [], ◌∷◌, ◌++◌, length, take, drop, Option, Some, None, refl, ap, sym, ◌∙◌, subst, arith, cond, add-one, length-drop, inl, inr, ◌⊎◌, ltb}
+use Rattle.std.proofs.Common.{◌≡◌, ◌≢◌, ℕ, zero, suc, ◌+◌, ◌-◌, ◌<◌, ◌≤◌, Bool, true, false, not, ◌==◌, List, [], ◌∷◌, ◌++◌, length, take, drop, Option, Some, None, refl, ap, sym, ◌∙◌, subst, arith, cond, add-one, length-drop, inl, inr, ◌⊎◌, ⊎_elim, ltb}
 use Rattle.std.specs.List.{prefix_len, position, position_or_len, find}
 use Rattle.std.proofs.lemmas.Bool.Decides.{nat_tests}
-use Rattle.std.proofs.lemmas.List.{take_all, drop_all}
-use Rattle.presentation_text.specs.Lines.{is_blank, HasNoFeed, AreLines, no_lines, last_line, ended_line, in_front, lines, counts}
+use Rattle.std.proofs.lemmas.List.{take_all}
+use Rattle.presentation_text.specs.Lines.{is_blank, HasNoFeed, IsFirstLine, AreLines, no_lines, last_line, ended_line, in_front, lines, counts}
 use Rattle.presentation_text.specs.Laws.{LinesAreDefined}
 
 -- ---- what the lines are, and the function
@@ -42,18 +42,41 @@ lines_defined bytes found = (lines_are bytes found, λ e. subst (AreLines bytes)
 
 -- ---- the first line
 
+pub lines-first : (text line rest : List ℕ) → (length text == 0) ≡ false → IsFirstLine text line rest → lines text ≡ line ∷ lines rest
+lines-first text line rest some split = ⊎_elim
+    (λ parts. ap lines parts ∙ lines-ended line rest split.unbroken)
+    (λ parts. ap lines parts.0 ∙ whole line (subst (λ bytes. (length bytes == 0) ≡ false) parts.0 some) split.unbroken ∙ ap (λ bytes. line ∷ lines bytes) (sym parts.1))
+    split.parts
+  where
+    whole : (line : List ℕ) → (length line == 0) ≡ false → HasNoFeed line → lines line ≡ line ∷ []
+    whole [] some h = absurd cc
+    whole (c ∷ cs) some h = lines-last c cs h
+
+-- what a slice up to the end holds
+pub rest_of : (text : List ℕ) (n : ℕ) → take (length text - n) (drop n text) ≡ drop n text
+rest_of text n = take_all (length text - n) (drop n text) (omega (arith, length-drop n text))
+
 abbrev is_feed : ℕ → Bool
 is_feed c = c == 10
 
-by_test : (b : Bool) (c : ℕ) (cs : List ℕ) → (c == 10) ≡ b → (lines cs ≡ take (position_or_len is_feed cs) cs ∷ lines (drop (suc (position_or_len is_feed cs)) cs)) ⊎ (cs ≡ [])
-    → lines (c ∷ cs) ≡ take (position_or_len is_feed (c ∷ cs)) (c ∷ cs) ∷ lines (drop (suc (position_or_len is_feed (c ∷ cs))) (c ∷ cs))
-by_test true c cs e r = rw e refl
-by_test false c cs e (inl r) = let k : 1 + position_or_len is_feed cs ≡ suc (position_or_len is_feed cs) = omega arith in rw (e, r, k) refl
-by_test false c cs e (inr n) = rw (e, n) refl
+split_here : (b : Bool) (c : ℕ) (cs : List ℕ) (end : ℕ) → (c == 10) ≡ b → cond (not b) (1 + position_or_len is_feed cs) 0 ≡ end → end < length (c ∷ cs)
+    → ((n : ℕ) → position_or_len is_feed cs ≡ n → n < length cs → IsFirstLine cs (take n cs) (drop (suc n) cs)) → IsFirstLine (c ∷ cs) (take end (c ∷ cs)) (drop (suc end) (c ∷ cs))
+split_here true c cs end e at l further =
+    let feed : c ≡ 10 = grind (arith, nat_tests) in
+    subst (λ n. IsFirstLine (c ∷ cs) (take n (c ∷ cs)) (drop (suc n) (c ∷ cs))) at (record { unbroken = tt; parts = inl (ap (λ d. d ∷ cs) feed) })
+split_here false c cs end e at l further =
+    let other : c ≢ 10 = grind (arith, nat_tests) in
+    let n = position_or_len is_feed cs in
+    let here : suc n ≡ end = omega arith in
+    let split : IsFirstLine cs (take n cs) (drop (suc n) cs) = further n refl (omega arith) in
+    subst (λ n. IsFirstLine (c ∷ cs) (take n (c ∷ cs)) (drop (suc n) (c ∷ cs))) here (record {
+      unbroken = (other, split.unbroken);
+      parts = ⊎_elim (λ parts. inl (ap (λ bytes. c ∷ bytes) parts)) (λ parts. inr (ap (λ bytes. c ∷ bytes) parts.0, parts.1)) split.parts;
+    })
 
-lines-first : (c : ℕ) (cs : List ℕ) → lines (c ∷ cs) ≡ take (position_or_len is_feed (c ∷ cs)) (c ∷ cs) ∷ lines (drop (suc (position_or_len is_feed (c ∷ cs))) (c ∷ cs))
-lines-first c [] = by_test (c == 10) c [] refl (inr refl)
-lines-first c (d ∷ ds) = by_test (c == 10) c (d ∷ ds) refl (inl (lines-first d ds))
+split_at : (text : List ℕ) (end : ℕ) → position_or_len is_feed text ≡ end → end < length text → IsFirstLine text (take end text) (drop (suc end) text)
+split_at [] end e l = absurd (omega arith)
+split_at (c ∷ cs) end e l = split_here (c == 10) c cs end refl e l (split_at cs)
 
 position_is : (b : Bool) (n l end : ℕ) → ltb n l ≡ b → cond b (Some n) None ≡ Some end → (n ≡ end) × (n < l)
 position_is true n l end e h = (cc, grind (arith, nat_tests))
@@ -64,25 +87,22 @@ position_past true n l e h = absurd cc
 position_past false n l e h = grind (arith, nat_tests)
 
 -- a text with a line feed
-pub lines-to_feed : (text : List ℕ) (end : ℕ) → position is_feed text ≡ Some end → lines text ≡ take end text ∷ lines (drop (end + 1) text)
-lines-to_feed [] end h = absurd cc
-lines-to_feed (c ∷ cs) end h =
-    let at = position_is _ (position_or_len is_feed (c ∷ cs)) (length (c ∷ cs)) end refl h in
-    rw add-one (lines-first c cs ∙ ap (λ n. take n (c ∷ cs) ∷ lines (drop (suc n) (c ∷ cs))) at.0)
+pub first_line-to_feed : (text : List ℕ) (end : ℕ) → position is_feed text ≡ Some end → IsFirstLine text (take end text) (take (length text - (end + 1)) (drop (end + 1) text))
+first_line-to_feed text end h =
+    let at = position_is _ (position_or_len is_feed text) (length text) end refl h in
+    rw (rest_of text (end + 1), add-one) (split_at text end at.0 (omega arith))
+
+no_feed_left : (b : Bool) (c : ℕ) (cs : List ℕ) → (c == 10) ≡ b → length (c ∷ cs) ≤ cond (not b) (1 + position_or_len is_feed cs) 0 → (length cs ≤ position_or_len is_feed cs → HasNoFeed cs) → HasNoFeed (c ∷ cs)
+no_feed_left true c cs e past further = absurd (omega arith)
+no_feed_left false c cs e past further = let other : c ≢ 10 = grind (arith, nat_tests) in (other, further (omega arith))
+
+unbroken_text : (text : List ℕ) → length text ≤ position_or_len is_feed text → HasNoFeed text
+unbroken_text [] past = tt
+unbroken_text (c ∷ cs) past = no_feed_left (c == 10) c cs refl past (unbroken_text cs)
 
 -- a text without one
-pub lines-no_feed : (text : List ℕ) → (length text == 0) ≡ false → position is_feed text ≡ None → lines text ≡ text ∷ []
-lines-no_feed [] some h = absurd cc
-lines-no_feed (c ∷ cs) some h =
-    let past = position_past _ (position_or_len is_feed (c ∷ cs)) (length (c ∷ cs)) refl h in
-    let n = position_or_len is_feed (c ∷ cs) in
-    let whole : take n (c ∷ cs) ≡ c ∷ cs = take_all n (c ∷ cs) past in
-    let rest : drop (suc n) (c ∷ cs) ≡ [] = drop_all (suc n) (c ∷ cs) (omega arith) in
-    lines-first c cs ∙ rw (whole, rest) refl
-
--- what a slice up to the end holds
-pub rest_of : (text : List ℕ) (n : ℕ) → take (length text - n) (drop n text) ≡ drop n text
-rest_of text n = take_all (length text - n) (drop n text) (omega (arith, length-drop n text))
+pub first_line-whole : (text : List ℕ) → position is_feed text ≡ None → IsFirstLine text text []
+first_line-whole text h = record { unbroken = unbroken_text text (position_past _ (position_or_len is_feed text) (length text) refl h); parts = inr (refl, refl) }
 
 -- ---- which lines count
 

@@ -69,6 +69,9 @@ name_of-get generators g x l e = name_of-is generators g x l ∙ ap (λ y. y.nam
 pub arity_in-get : (generators : List Generator) → IsTable generators → (g : ℕ) (x : Generator) → g < length generators → slice_get generators g ≡ Some x → arity_in generators g ≡ x.arity
 arity_in-get generators table g x l e = arity_in-is generators table g x l ∙ ap (λ y. y.arity) (get_or_from_slice_get generators g x x e)
 
+pub arity_in-least : (generators : List Generator) → IsTable generators → (g : ℕ) (x : Generator) → g < length generators → 2 ≤ arity_in generators g
+arity_in-least generators table g x l = let is = arity_in-is generators table g x l in let least = (table.arities g x l).0 in omega arith
+
 -- ---- trees of the program that fit a table
 
 pub width-row : {A : Type 0} (ts : List (Tree A)) → width (row ts) ≡ length ts

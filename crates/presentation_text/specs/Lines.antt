@@ -1,5 +1,5 @@
 -- The lines of a text, and which of them count.
-use Rattle.std.specs.Prelude.{ℕ, ◌≢◌, ◌==◌, Bool, true, false, not, ◌||◌, if◌then◌else◌, List, [], ◌∷◌, ◌++◌}
+use Rattle.std.specs.Prelude.{ℕ, ◌≡◌, ◌≢◌, ◌⊎◌, ◌==◌, Bool, true, false, not, ◌||◌, if◌then◌else◌, List, [], ◌∷◌, ◌++◌}
 use Rattle.std.specs.List.{AllByRecursion}
 
 -- space, tab and carriage return
@@ -25,6 +25,11 @@ in_front c (line ∷ others) = (c ∷ line) ∷ others
 abbrev pub lines : List ℕ → List (List ℕ)
 lines [] = []
 lines (c ∷ cs) = if c == 10 then [] ∷ lines cs else in_front c (lines cs)
+
+-- The first line of a text and the text behind it: a line feed ends the line, or the text does.
+pub record IsFirstLine (text line rest : List ℕ) : Type 0 where
+  pub unbroken : HasNoFeed line
+  pub parts : (text ≡ line ++ 10 ∷ rest) ⊎ ((text ≡ line) × (rest ≡ []))
 
 -- A line of blanks alone, and a line whose first byte that isn't a blank is '#', don't count; all others do.
 abbrev pub counts : List ℕ → Bool

@@ -71,7 +71,12 @@ pub record StandsAt (generators : List Generator) (tokens : List Token) (at : �
   pub within : end ≤ length tokens
   pub spelled : drop at tokens ≡ tree_tokens generators t ++ drop end tokens
 
--- what reading gives at a place: the tree that stands there and the place behind it, or nothing where no readable tree stands there
-abbrev pub ReadWithin : ℕ → List Generator → List Token → ℕ → Option (program.Tree × ℕ) → Type 0
-ReadWithin depth generators tokens at None = (t : Tree ℕ) (end : ℕ) → StandsAt generators tokens at t end → IsReadableWithin depth generators t → ⊥
-ReadWithin depth generators tokens at (Some found) = StandsAt generators tokens at (tree_of found.0) found.1 × IsReadableWithin depth generators (tree_of found.0)
+-- What reading gives at a place: the tree that stands there and the place behind it, if it may be read;
+-- nothing where no tree stands there that may be read.
+abbrev pub ReadsWithin : ℕ → List Generator → List Token → ℕ → Option (program.Tree × ℕ) → Type 0
+ReadsWithin depth generators tokens at None = (t : Tree ℕ) (end : ℕ) → StandsAt generators tokens at t end → IsReadableWithin depth generators t → ⊥
+ReadsWithin depth generators tokens at (Some found) = StandsAt generators tokens at (tree_of found.0) found.1 × IsReadableWithin depth generators (tree_of found.0)
+
+-- the same for the trees that may be read at all
+abbrev pub Reads : List Generator → List Token → ℕ → Option (program.Tree × ℕ) → Type 0
+Reads = ReadsWithin 8

@@ -3,8 +3,13 @@
 
 mod lexing;
 mod lines;
+mod reading;
 mod writing;
 
 pub use lexing::{Token, tokens, tokens_are_defined};
 pub use lines::{counts, lines_are_defined, next_line};
-pub use writing::{print_tree, trees_are_read_once, write_tree};
+pub use reading::{read_tree, trees_are_read_once};
+pub use writing::{print_tree, write_tree};
+
+#[cfg(test)]
+mod tests;

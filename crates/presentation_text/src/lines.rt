@@ -18,7 +18,8 @@ fn line_end(text: &[u8]) -> Option<usize>
 /// The first line, without its line feed, and the text behind it; `None` exactly for the empty text.
 pub fn next_line(text: &[u8]) -> Option<(&[u8], &[u8])>
     ensures none { IsNone result ↔ (text.now ≡ []) }
-    ensures first { IfSome result (λ found. spec.lines text.now ≡ found.0.now ∷ spec.lines found.1.now) }
+    ensures split { IfSome result (λ found. spec.IsFirstLine text.now found.0.now found.1.now) }
+    ensures lines { IfSome result (λ found. spec.lines text.now ≡ found.0.now ∷ spec.lines found.1.now) }
     ensures shorter { IfSome result (λ found. length found.1.now < length text.now) }
 {
     if text.is_empty() {

@@ -3,7 +3,6 @@ ghost use Rattle.std.specs.Fmt.{decimal};
 ghost use Rattle.labelled_trees.specs.Meaning.{tree_of};
 ghost use Rattle.symmetric_trees.specs.Trees.{Fits};
 ghost use Rattle.presentation_text.specs.TreeText.{tree_text};
-ghost use Rattle.presentation_text.specs.Laws.{TreesAreReadOnce};
 
 use labelled_trees::Tree;
 use std::alloc::{AllocError, Global};
@@ -55,8 +54,3 @@ pub fn print_tree(alloc: Global, table: &GenTable, tree: &Tree) -> Result<Vec<u8
     write_tree(alloc, table, tree, &mut out)?;
     Ok(out)
 }
-
-/// Law: tokens begin with those of at most one tree that fits a table.
-pub fn trees_are_read_once()
-    ensures law { TreesAreReadOnce }
-{}

@@ -1,12 +1,17 @@
-use Rattle.std.proofs.Common.{sym, ap, ◌∙◌, ◌∷◌, ◌≡◌, ◌+◌, ◌-◌, take, drop, length}
-use Rattle.presentation_text.specs.Lines as spec
-use Rattle.presentation_text.proofs.LineLaws.{lines-to_feed, lines-no_feed, rest_of}
+use Rattle.std.proofs.Common.{sym, ◌∙◌}
+use Rattle.presentation_text.proofs.LineLaws.{lines-first, first_line-to_feed, first_line-whole}
 use Rattle.presentation_text.proofs.lines.next_line.Goals as goal
 
-pub returns-in-Some-clause-first : goal.returns-in-Some-clause-first
-returns-in-Some-clause-first c =
-    lines-to_feed c.args.text.now c.in-Some.end (sym c.in-Some.ensures)
-    ∙ ap (λ rest. take c.in-Some.end c.args.text.now ∷ spec.lines rest) (sym (rest_of c.args.text.now (c.in-Some.end + 1)))
+pub returns-in-Some-clause-split : goal.returns-in-Some-clause-split
+returns-in-Some-clause-split c = first_line-to_feed c.args.text.now c.in-Some.end (sym c.in-Some.ensures)
 
-pub returns-in-None-clause-first : goal.returns-in-None-clause-first
-returns-in-None-clause-first c = lines-no_feed c.args.text.now (sym c.is_empty.ensures ∙ c.if-is_empty.false) (sym c.in-None.ensures)
+pub returns-in-Some-clause-lines : goal.returns-in-Some-clause-lines
+returns-in-Some-clause-lines c =
+    lines-first c.args.text.now _ _ (sym c.is_empty.ensures ∙ c.if-is_empty.false) (first_line-to_feed c.args.text.now c.in-Some.end (sym c.in-Some.ensures))
+
+pub returns-in-None-clause-split : goal.returns-in-None-clause-split
+returns-in-None-clause-split c = first_line-whole c.args.text.now (sym c.in-None.ensures)
+
+pub returns-in-None-clause-lines : goal.returns-in-None-clause-lines
+returns-in-None-clause-lines c =
+    lines-first c.args.text.now _ _ (sym c.is_empty.ensures ∙ c.if-is_empty.false) (first_line-whole c.args.text.now (sym c.in-None.ensures))
