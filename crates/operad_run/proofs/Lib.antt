@@ -1,1 +1,4 @@
+pub mod AnswerSteps
+pub mod OneTable
+pub mod QueryLines
 pub mod Words

@@ -38,6 +38,12 @@ pub record IsGeneratorLine (line : List Token) (generator : Generator) : Type 0 
   pub word_is : IsKindWord kind kind_word
   pub generator_is : generator ≡ binary name kind
 
+-- the table of the generator that the line gives
+pub record IsTableLine (line : List Token) (generators : List Generator) : Type 0 where
+  pub generator : Generator
+  pub line_is : IsGeneratorLine line generator
+  pub table_is : generators ≡ generator ∷ []
+
 -- the tokens of the line `query TREE`
 abbrev pub query_line : List Generator → Tree ℕ → List Token
 query_line generators t = Word (codes "query") ∷ tree_tokens generators t

@@ -7,7 +7,7 @@ use Rattle.outside_io.specs.Taken.{Takes}
 use Rattle.symmetric_trees.specs.declared.generators.Generator.{Generator}
 use Rattle.operad_run.specs.Commands.{IsForms, IsCommand}
 use Rattle.operad_run.specs.OneGenerator.{IsDocument}
-use Rattle.operad_run.specs.Answers.{Answers}
+use Rattle.operad_run.specs.Documents.{IsAnswered, IsNoDocument}
 use Rattle.operad_run.specs.declared.status.Status.{Status}
 use Rattle.operad_run.specs.declared.status.Status.TheVariants.{Done, Refused, Usage, Document, Limit, Budget, ReadFault, WriteFault, NoMemory}
 
@@ -49,16 +49,6 @@ pub record CameTooMany (o : Outside) : Type 0 where
 
 abbrev pub line : List ℕ → List ℕ
 line text = text ++ 10 ∷ []
-
--- the document that the bytes are, and its answers
-pub record IsAnswered (bytes : List ℕ) (n : ℕ) (text : List ℕ) : Type 0 where
-  pub generator : Generator
-  pub queries : List (Tree ℕ)
-  pub document : IsDocument bytes n generator queries
-  pub answers : Answers (generator ∷ []) queries text
-
-abbrev pub IsNoDocument : List ℕ → ℕ → Type 0
-IsNoDocument bytes n = (generator : Generator) (queries : List (Tree ℕ)) → IsDocument bytes n generator queries → ⊥
 
 -- each status with its cause and the text that goes with it; the other statuses define no text
 abbrev pub Says : Status → List (List ℕ) → Outside → List ℕ → Type 0

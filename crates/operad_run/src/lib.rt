@@ -2,6 +2,7 @@
 #![tactic(auto)]
 
 mod commands;
+mod documents;
 mod opening;
 mod queries;
 mod status;

@@ -1,11 +1,11 @@
-ghost use Rattle.std.specs.Prelude.{◌≡◌, ◌↔◌, ◌≤◌, ℕ, [], ◌∷◌, List, length, IfNone, IfOk, IfSome, IsTrue, map};
+ghost use Rattle.std.specs.Prelude.{◌≡◌, ◌↔◌, ◌≤◌, ◌++◌, ℕ, [], ◌∷◌, List, length, IfNone, IfOk, IfSome, IsTrue, map};
 ghost use Rattle.symmetric_trees.specs.declared.generators.Generator.{Generator};
 ghost use Rattle.symmetric_trees.specs.declared.generators.PartKind.{PartKind};
 ghost use Rattle.presentation_text.specs.Lines.{lines};
 ghost use Rattle.presentation_text.specs.Tokens.{tokens as tokens_of};
 ghost use Rattle.presentation_text.specs.declared.lexing.Token.{Token};
 ghost use Rattle.presentation_text.specs.declared.lexing.Token.TheVariants.{Word, Number};
-ghost use Rattle.operad_run.specs.OneGenerator.{IsGeneratorLine, IsKindWord};
+ghost use Rattle.operad_run.specs.OneGenerator.{opening, IsGeneratorLine, IsKindWord, IsTableLine};
 ghost use Rattle.operad_run.specs.OpeningLines.{opening_line};
 
 use presentation_text::{Token, next_line, tokens};
@@ -136,4 +136,45 @@ fn generator(alloc: Global, tokens: &[Token]) -> Result<Option<Generator>, Alloc
         }
         _ => Ok(None),
     }
+}
+
+// The table with this generator alone.
+fn table_of(alloc: Global, generator: Generator) -> Result<GenTable, AllocError>
+    ensures { IfOk result (λ table. table ≡ generator ∷ []) }
+{
+    let mut table = GenTable::new(alloc);
+    match table.add(alloc, generator) {
+        Ok(()) => Ok(table),
+        Err(_) => Err(AllocError),
+    }
+}
+
+/// The table of the generator that a line gives by its tokens `gen NAME 2 sym` or `gen NAME 2 alt`, with a name of at
+/// most 16 bytes; `None` where the line is another. `AllocError` comes for want of memory alone.
+pub fn read_table(alloc: Global, line: &[u8]) -> Result<Option<GenTable>, AllocError>
+    ensures found { IfOk result (λ found. IfSome found (λ table. IsTableLine (tokens_of line.now) table)) }
+    ensures absent { IfOk result (λ found. IfNone found ((generator : Generator) → IsGeneratorLine (tokens_of line.now) generator → ⊥)) }
+{
+    let found = tokens(alloc, line)?;
+    match generator(alloc, found.as_slice())? {
+        Some(generator) => Ok(Some(table_of(alloc, generator)?)),
+        None => Ok(None),
+    }
+}
+
+/// The text behind the first three lines; `None` where the text begins otherwise.
+/// `AllocError` comes for want of memory alone.
+pub fn skip_opening<'a>(alloc: Global, text: &'a [u8]) -> Result<Option<&'a [u8]>, AllocError>
+    ensures found { IfOk result (λ found. IfSome found (λ rest.
+        map tokens_of (lines text.now) ≡ opening ++ map tokens_of (lines rest.now))) }
+    ensures absent { IfOk result (λ found. IfNone found ((others : List (List Token)) →
+        map tokens_of (lines text.now) ≡ opening ++ others → ⊥)) }
+{
+    let Some(rest) = OpeningLine::Header.skip(alloc, text)? else {
+        return Ok(None);
+    };
+    let Some(rest) = OpeningLine::Field.skip(alloc, rest)? else {
+        return Ok(None);
+    };
+    OpeningLine::Order.skip(alloc, rest)
 }

@@ -1,13 +1,13 @@
-ghost use Rattle.std.specs.Prelude.{◌≡◌, ◌↔◌, ◌++◌, ◌<◌, ◌∷◌, ℕ, List, OnOk, IfOk, IfSome, IfNone, IsTrue, codes, drop, length, map};
+ghost use Rattle.std.specs.Prelude.{◌≡◌, ◌↔◌, ◌++◌, ◌≤◌, [], ◌∷◌, ℕ, OnOk, IfOk, IfSome, IfNone, IsTrue};
 ghost use Rattle.std.specs.Bool.{OnTrue, OnFalse};
 ghost use Rattle.labelled_trees.specs.Trees.{Tree as PlanarTree};
 ghost use Rattle.labelled_trees.specs.Meaning.{tree_of};
+ghost use Rattle.symmetric_trees.specs.Generators.{IsTable};
 ghost use Rattle.symmetric_trees.specs.Trees as trees;
-ghost use Rattle.symmetric_trees.specs.Spelling.{IsSpelling};
 ghost use Rattle.presentation_text.specs.Tokens.{tokens as tokens_of};
 ghost use Rattle.presentation_text.specs.TreeText.{tree_text};
-ghost use Rattle.presentation_text.specs.declared.lexing.Token.TheVariants.{Word};
 ghost use Rattle.operad_run.specs.Answers.{sign_text};
+ghost use Rattle.operad_run.specs.OneGenerator.{IsWithin};
 ghost use Rattle.operad_run.specs.Queries.{IsAnswered, IsQuery};
 
 use crate::opening::is_word;
@@ -41,6 +41,8 @@ fn query(
     tokens: &[Token],
     most: u8,
 ) -> Result<Option<Tree>, AllocError>
+    requires few { most ≤ 9 }
+    requires sound { IsTable table.now }
     ensures found { IfOk result (λ found. IfSome found (λ tree. IsQuery table.now most tokens.now (tree_of tree))) }
     ensures absent { IfOk result (λ found. IfNone found ((t : PlanarTree ℕ) → IsQuery table.now most tokens.now t → ⊥)) }
 {
@@ -51,11 +53,13 @@ fn query(
             }
             match read_tree(alloc, table, tokens, 1)? {
                 Some((tree, end)) => {
-                    if end == tokens.len() && has_arity(table, &tree, most) {
-                        Ok(Some(tree))
-                    } else {
-                        Ok(None)
+                    if end != tokens.len() {
+                        return Ok(None);
                     }
+                    if !has_arity(table, &tree, most) {
+                        return Ok(None);
+                    }
+                    Ok(Some(tree))
                 }
                 None => Ok(None),
             }
@@ -66,7 +70,7 @@ fn query(
 
 // Whether the tree is labelled by 1 to some number up to `most`.
 fn has_arity(table: &GenTable, tree: &Tree, most: u8) -> bool
-    ensures { IsTrue result ↔ Rattle.operad_run.specs.OneGenerator.IsWithin table.now most (tree_of tree.now) }
+    ensures { IsTrue result ↔ IsWithin table.now most (tree_of tree.now) }
 {
     match arity_of(tree, table) {
         Some(arity) => arity <= most,
@@ -75,7 +79,7 @@ fn has_arity(table: &GenTable, tree: &Tree, most: u8) -> bool
 }
 
 /// Puts the answer to a line behind `out`: the sign and the sorted spelling of its tree. It answers whether the line
-/// is a query `query TREE` with a tree of an arity of at most `most`; `out` is as before where it isn't.
+/// is a query `query TREE` with a tree of an arity of at most `most`, which is at most 9; `out` is as before where it isn't.
 /// `AllocError` comes for want of memory alone; `out` may then hold a part of the answer.
 pub fn answer_line(
     alloc: Global,
@@ -84,6 +88,8 @@ pub fn answer_line(
     most: u8,
     out: &mut Vec<u8>,
 ) -> Result<bool, AllocError>
+    requires few { most ≤ 9 }
+    requires sound { IsTable table.now }
     ensures answered { IfOk result (λ is_query. OnTrue is_query (IsAnswered table.now most (tokens_of line.now) out.old.items out.new.items)) }
     ensures other { IfOk result (λ is_query. OnFalse is_query ((t : PlanarTree ℕ) → IsQuery table.now most (tokens_of line.now) t → ⊥)) }
 {
