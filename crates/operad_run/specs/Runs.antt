@@ -76,6 +76,12 @@ pub record WroteLess (words : List (List ℕ)) (o : Outside) : Type 0 where
   pub less : part < length text
   pub written : Takes o.taken o.taken_now (take part text)
 
+-- The whole text was written, and the status is as meant; or the sink failed, and has a first part of the text.
+abbrev pub Told : Status → List ℕ → Status → Option (List ℕ) → Option (List ℕ) → ℕ → ℕ → Type 0
+Told meant text status taken taken_now faults faults_now =
+    ((status ≡ meant) × Takes taken taken_now text × (faults_now ≡ faults))
+    ⊎ ((status ≡ WriteFault) × Rose faults faults_now × (n : ℕ) × (n < length text) × Takes taken taken_now (take n text))
+
 -- Every status has its cause. Memory may run out once the words are read; then nothing was written.
 abbrev pub Ends : Status → List (List ℕ) → Outside → Type 0
 Ends WriteFault words o = WroteLess words o

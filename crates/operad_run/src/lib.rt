@@ -5,6 +5,8 @@ mod commands;
 mod documents;
 mod opening;
 mod queries;
+mod run;
 mod status;
 
+pub use run::operad_run;
 pub use status::Status;

@@ -1,7 +1,5 @@
 //! A run: the words and the bytes of a source in, the text into a sink.
-ghost use Rattle.std.specs.Prelude.{◌≡◌, ◌<◌, ◌×◌, ℕ, length, map, string_bytes, take};
-ghost use Rattle.outside_io.specs.Causes.{Rose};
-ghost use Rattle.outside_io.specs.Taken.{Takes};
+ghost use Rattle.std.specs.Prelude.{map, string_bytes};
 ghost use Rattle.operad_run.specs.Runs.{Ends, IsComplete, Told};
 
 use crate::commands::forms_arity;
@@ -15,7 +13,7 @@ const MOST_BYTES: u64 = 16_777_216;
 
 // Writes the text; the status is then this one, or that the sink failed.
 fn tell<K: Sink>(sink: &mut K, text: &[u8], status: Status) -> Status
-    ensures told { Told status result text.now (K.taken sink.old) (K.taken sink.new) (K.faults sink.old) (K.faults sink.new) }
+    ensures told { Told status text.now result (K.taken sink.old) (K.taken sink.new) (K.faults sink.old) (K.faults sink.new) }
 {
     match write_all(sink, text) {
         Ok(()) => status,
