@@ -1,8 +1,8 @@
 -- The tokens of a line: words are ASCII, short numbers fit, and what the tokens are.
-use Rattle.std.proofs.Common.{◌≡◌, ℕ, zero, suc, ◌+◌, ◌-◌, ◌*◌, ◌^◌, ◌<◌, ◌≤◌, Bool, true, false, ◌&&◌, List, [], ◌∷◌, ◌++◌, length, get_or, drop, take, refl, ap, sym, ◌∙◌, subst, arith, add-one, drop-cons, append_assoc, append-nil, lit<, cond, Result, Ok, Err}
-use Rattle.std.specs.Prelude.{take_while, IsTrue, IsOk, MatchResult}
+use Rattle.std.proofs.Common.{◌≡◌, ℕ, zero, suc, ◌+◌, ◌-◌, ◌*◌, ◌^◌, ◌<◌, ◌≤◌, Bool, true, false, ◌&&◌, List, [], ◌∷◌, ◌++◌, length, get_or, drop, take, refl, ap, sym, ◌∙◌, subst, arith, add-one, append_assoc, append-nil, lit<, cond, Result, Ok, Err}
+use Rattle.std.specs.Prelude.{take_while, IsOk, MatchResult}
 use Rattle.std.specs.List.{list_all, prefix_len}
-use Rattle.std.specs.Str.{IsAscii, IsUtf8}
+use Rattle.std.specs.Str.{IsUtf8}
 use Rattle.std.proofs.lemmas.Str.{IsUtf8-from_ascii}
 use Rattle.std.proofs.lemmas.List.{drop_more, take_all, drop_at, take-append-drop}
 use Rattle.std.proofs.lemmas.List.Sums.{take_while-cons, prefix_len-le-length}
@@ -10,10 +10,9 @@ use Rattle.std.proofs.lemmas.List.Folds.{length-prefix_len}
 use Rattle.std.proofs.lemmas.Bool.Decides.{nat_tests}
 use Rattle.std.proofs.Math.Nat.{pow-suc, pow-le-pow_right}
 use Rattle.presentation_text.specs.declared.lexing.Token.{Token}
-use Rattle.presentation_text.specs.declared.lexing.Token.TheVariants.{Word, Number, Long, Byte, Bad}
+use Rattle.presentation_text.specs.declared.lexing.Token.TheVariants.{Word, Byte, Bad}
 use Rattle.presentation_text.specs.Lines.{is_blank}
-use Rattle.presentation_text.specs.Tokens as spec
-use Rattle.presentation_text.specs.Tokens.{is_word_byte, is_letter, is_digit, is_single, value_behind, numeral, StartsOtherwise, IsStray, AreTokens, no_bytes, blank, word, number, single, stray, tokens_behind, tokens}
+use Rattle.presentation_text.specs.Tokens.{is_word_byte, is_letter, is_digit, is_single, numeral, StartsOtherwise, IsStray, AreTokens, no_bytes, blank, word, number, single, stray, tokens_behind, tokens}
 use Rattle.presentation_text.specs.Laws.{TokensAreDefined}
 
 -- ---- bytes

@@ -8,6 +8,7 @@ use Rattle.labelled_trees.specs.Meaning.{tree_of}
 use Rattle.labelled_trees.specs.declared.Tree as program
 use Rattle.symmetric_trees.specs.Trees.{Fits}
 use Rattle.symmetric_trees.specs.declared.generators.Generator.{Generator}
+use Rattle.presentation_text.specs.Tokens.{IsWord}
 use Rattle.presentation_text.specs.declared.lexing.Token.{Token}
 use Rattle.presentation_text.specs.declared.lexing.Token.TheVariants.{Word, Number, Long, Byte, Bad}
 
@@ -16,6 +17,10 @@ abbrev pub name_of : List Generator → ℕ → List ℕ
 name_of [] g = []
 name_of (x ∷ xs) zero = x.name
 name_of (x ∷ xs) (suc g) = name_of xs g
+
+-- each name of the table is a word
+abbrev pub HasWords : List Generator → Type 0
+HasWords generators = (g : ℕ) → g < length generators → IsWord (name_of generators g)
 
 -- A tree is a number (a leaf), or a name, '(', the inputs separated by ',', and ')'.
 abbrev mutual

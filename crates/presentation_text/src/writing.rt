@@ -3,6 +3,7 @@ ghost use Rattle.std.specs.Fmt.{decimal};
 ghost use Rattle.labelled_trees.specs.Meaning.{tree_of};
 ghost use Rattle.symmetric_trees.specs.Trees.{Fits};
 ghost use Rattle.presentation_text.specs.TreeText.{tree_text};
+ghost use Rattle.presentation_text.specs.Laws.{PrintedTreesAreReadBack};
 
 use labelled_trees::Tree;
 use std::alloc::{AllocError, Global};
@@ -54,3 +55,8 @@ pub fn print_tree(alloc: Global, table: &GenTable, tree: &Tree) -> Result<Vec<u8
     write_tree(alloc, table, tree, &mut out)?;
     Ok(out)
 }
+
+/// Law: the text of a tree has the tree's tokens, where the names are words.
+pub fn printed_trees_are_read_back()
+    ensures law { PrintedTreesAreReadBack }
+{}
