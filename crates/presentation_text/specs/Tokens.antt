@@ -7,9 +7,11 @@ use Rattle.presentation_text.specs.declared.lexing.Token.TheVariants.{Word, Numb
 
 -- ---- bytes
 
+-- a to z and A to Z
 abbrev pub is_letter : ℕ → Bool
 is_letter c = (nat_le 97 c && nat_le c 122) || (nat_le 65 c && nat_le c 90)
 
+-- 0 to 9
 abbrev pub is_digit : ℕ → Bool
 is_digit c = nat_le 48 c && nat_le c 57
 

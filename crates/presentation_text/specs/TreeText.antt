@@ -28,6 +28,7 @@ abbrev mutual
   tree_tokens generators (leaf n) = Number n ∷ []
   tree_tokens generators (node g r) = Word (name_of generators g) ∷ Byte 40 ∷ (row_tokens generators r ++ Byte 41 ∷ [])
 
+  -- inputs with a ',' between them
   pub row_tokens : List Generator → Row ℕ → List Token
   row_tokens generators none = []
   row_tokens generators (more t r) = tree_tokens generators t ++ more_tokens generators r

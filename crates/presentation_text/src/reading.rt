@@ -22,8 +22,9 @@ fn is_mark(tokens: &[Token], at: usize, mark: u8) -> bool
     }
 }
 
-/// The tree that stands at a place among tokens, and the place behind it; `None` exactly where no tree stands there
-/// that fits the table, has at most 8 generators one inside the other, and leaf numbers of at most 99.
+/// The tree that stands at a place among tokens, and the place behind it, which is past `at` and at most
+/// the number of tokens; `None` exactly where no tree stands there that fits the table, has at most
+/// 8 generators one inside the other, and leaf numbers of at most 99.
 /// `AllocError` comes for want of memory alone.
 pub fn read_tree(
     alloc: Global,

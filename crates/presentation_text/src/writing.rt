@@ -20,7 +20,8 @@ fn write_number(number: u8, out: &mut Vec<u8>) -> Result<(), AllocError>
     Ok(())
 }
 
-/// Puts the text of a tree behind `out`. `AllocError` comes for want of memory alone; `out` may then hold a part of the text.
+/// Puts the text of a tree behind `out`. Nothing is allocated but what `out` grows by.
+/// `AllocError` comes for want of memory alone; `out` may then hold a part of the text.
 pub fn write_tree(
     alloc: Global,
     table: &GenTable,
@@ -28,7 +29,8 @@ pub fn write_tree(
     out: &mut Vec<u8>,
 ) -> Result<(), AllocError>
     requires fits { Fits table.now (tree_of tree.now) }
-    ensures text { OnOk result (out.new.items ≡ out.old.items ++ tree_text table.now (tree_of tree.now)) }
+    ensures text { OnOk result
+        (out.new.items ≡ out.old.items ++ tree_text table.now (tree_of tree.now)) }
 {
     match tree {
         Tree::Leaf(number) => write_number(*number, out),
