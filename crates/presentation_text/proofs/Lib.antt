@@ -3,3 +3,4 @@ pub mod TokenLaws
 pub mod TreeTokens
 pub mod TreePrinting
 pub mod TreeReading
+pub mod PrintedTokens

@@ -1,6 +1,6 @@
 -- The lines of a text, one after the other, and which of them count.
-use Rattle.std.proofs.Common.{◌≡◌, ◌≢◌, ℕ, zero, suc, ◌+◌, ◌-◌, ◌<◌, ◌≤◌, Bool, true, false, not, ◌==◌, List, [], ◌∷◌, ◌++◌, length, take, drop, Option, Some, None, refl, ap, sym, ◌∙◌, subst, arith, cond, add-one, length-drop, inl, inr, ◌⊎◌, ⊎_elim, ltb}
-use Rattle.std.specs.List.{prefix_len, position, position_or_len, find}
+use Rattle.std.proofs.Common.{◌≡◌, ◌≢◌, ℕ, suc, ◌+◌, ◌-◌, ◌<◌, ◌≤◌, Bool, true, false, not, ◌==◌, List, [], ◌∷◌, ◌++◌, length, take, drop, Some, None, refl, ap, sym, ◌∙◌, subst, arith, cond, add-one, length-drop, inl, inr, ⊎_elim, ltb}
+use Rattle.std.specs.List.{position, position_or_len, find}
 use Rattle.std.proofs.lemmas.Bool.Decides.{nat_tests}
 use Rattle.std.proofs.lemmas.List.{take_all}
 use Rattle.presentation_text.specs.Lines.{is_blank, HasNoFeed, IsFirstLine, AreLines, no_lines, last_line, ended_line, in_front, lines, counts}

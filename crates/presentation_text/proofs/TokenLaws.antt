@@ -1,22 +1,21 @@
 -- The tokens of a line: words are ASCII, short numbers fit, and what the tokens are.
-use Rattle.std.proofs.Common.{◌≡◌, ℕ, zero, suc, ◌+◌, ◌-◌, ◌*◌, ◌^◌, ◌<◌, ◌≤◌, Bool, true, false, ◌&&◌, List, [], ◌∷◌, ◌++◌, length, get_or, drop, take, refl, ap, sym, ◌∙◌, subst, arith, add-one, drop-cons, append_assoc, append-nil, lit<, cond, Result, Ok, Err}
-use Rattle.std.specs.Prelude.{take_while, IsTrue, IsOk, MatchResult}
+use Rattle.std.proofs.Common.{◌≡◌, ℕ, zero, suc, ◌+◌, ◌-◌, ◌^◌, ◌<◌, ◌≤◌, Bool, true, false, ◌&&◌, List, [], ◌∷◌, ◌++◌, length, get_or, drop, take, refl, ap, sym, ◌∙◌, subst, arith, add-one, append_assoc, append-nil, lit<, cond, Result, Ok, Err}
+use Rattle.std.specs.Prelude.{take_while, IsOk, MatchResult}
 use Rattle.std.specs.List.{list_all, prefix_len}
-use Rattle.std.specs.Str.{IsAscii, IsUtf8}
+use Rattle.std.specs.Str.{IsUtf8}
 use Rattle.std.proofs.lemmas.Str.{IsUtf8-from_ascii}
 use Rattle.std.proofs.lemmas.List.{drop_more, take_all, drop_at, take-append-drop}
-use Rattle.std.proofs.lemmas.List.Sums.{take_while-cons, prefix_len-le-length}
+use Rattle.std.proofs.lemmas.List.Sums.{take_while-cons}
 use Rattle.std.proofs.lemmas.List.Folds.{length-prefix_len}
 use Rattle.std.proofs.lemmas.Bool.Decides.{nat_tests}
-use Rattle.std.proofs.Math.Nat.{pow-suc, pow-le-pow_right}
+use Rattle.std.proofs.Math.Nat.{pow-le-pow_right}
 use Rattle.presentation_text.specs.declared.lexing.Token.{Token}
-use Rattle.presentation_text.specs.declared.lexing.Token.TheVariants.{Word, Number, Long, Byte, Bad}
+use Rattle.presentation_text.specs.declared.lexing.Token.TheVariants.{Word, Byte, Bad}
 use Rattle.presentation_text.specs.Lines.{is_blank}
-use Rattle.presentation_text.specs.Tokens as spec
-use Rattle.presentation_text.specs.Tokens.{is_word_byte, is_letter, is_digit, is_single, value_behind, numeral, StartsOtherwise, IsStray, AreTokens, no_bytes, blank, word, number, single, stray, tokens_behind, tokens}
+use Rattle.presentation_text.specs.Tokens.{is_word_byte, is_letter, is_digit, is_single, numeral, StartsOtherwise, IsStray, AreTokens, no_bytes, blank, word, number, single, stray, tokens_behind, tokens}
 use Rattle.presentation_text.specs.Laws.{TokensAreDefined}
 
--- ---- bytes
+-- ---- tests of bytes
 
 pub and_left : (a b : Bool) → (a && b) ≡ true → a ≡ true
 and_left true b h = refl
@@ -79,9 +78,6 @@ run_passes p c cs h = let r = run_is p c cs in rw (r, h) (passes_all p cs)
 
 pub letter_goes_on : (c : ℕ) → is_letter c ≡ true → is_word_byte c ≡ true
 letter_goes_on c h = rw h refl
-
-pub run_within : (p : ℕ → Bool) (cs : List ℕ) → length (take_while p cs) ≤ length cs
-run_within p cs = rw (length-prefix_len p cs) (prefix_len-le-length p cs)
 
 run_splits : (p : ℕ → Bool) (cs : List ℕ) → take_while p cs ++ drop (length (take_while p cs)) cs ≡ cs
 run_splits p cs = let l = length-prefix_len p cs in rw l (take-append-drop (prefix_len p cs) cs)
@@ -218,6 +214,3 @@ digit_at ds i d l e h =
 
 pub below_limit : (v i : ℕ) → i ≤ 17 → v < 10 ^ i → v < 10 ^ 17
 below_limit v i l h = let p = pow-le-pow_right {n = 10} (lit< tt) l in omega (arith, p)
-
-pub below_next : (v d i : ℕ) → v < 10 ^ i → d ≤ 57 → v * 10 + (d - 48) < 10 ^ (i + 1)
-below_next v d i h l = let p = pow-suc 10 i in rw (add-one, p) (omega arith)

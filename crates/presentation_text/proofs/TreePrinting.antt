@@ -1,13 +1,12 @@
 -- The text of a tree, piece by piece.
-use Rattle.std.proofs.Common.{◌≡◌, ℕ, zero, suc, ◌+◌, ◌-◌, ◌*◌, ◌/◌, ◌%◌, ◌^◌, ◌<◌, ◌≤◌, List, [], ◌∷◌, ◌++◌, length, refl, ap, sym, ◌∙◌, subst, arith, append_assoc, append-nil}
+use Rattle.std.proofs.Common.{◌≡◌, ℕ, ◌+◌, ◌/◌, ◌%◌, ◌^◌, ◌<◌, ◌≤◌, List, [], ◌∷◌, ◌++◌, length, refl, ap, sym, ◌∙◌, arith, append_assoc}
 use Rattle.std.specs.List.{flat_map}
 use Rattle.std.specs.Fmt.{decimal}
 use Rattle.std.proofs.lemmas.Fmt.{decimal_digit, decimal_step}
 use Rattle.std.proofs.lemmas.Grind.{flat_map-append}
-use Rattle.labelled_trees.specs.Trees.{Tree, Row, leaf, node, row}
+use Rattle.labelled_trees.specs.Trees.{Tree, node, row}
 use Rattle.symmetric_trees.specs.declared.generators.Generator.{Generator}
-use Rattle.presentation_text.specs.declared.lexing.Token.{Token}
-use Rattle.presentation_text.specs.declared.lexing.Token.TheVariants.{Word, Number, Long, Byte, Bad}
+use Rattle.presentation_text.specs.declared.lexing.Token.TheVariants.{Byte}
 use Rattle.presentation_text.specs.TreeText.{name_of, tree_tokens, row_tokens, more_tokens, token_text, tree_text}
 
 -- ---- numbers
@@ -25,9 +24,6 @@ number_short n old new small e =
     e ∙ ap (λ d. old ++ (48 + d) ∷ []) same ∙ ap (λ x. old ++ x) (sym (decimal_digit n small))
 
 -- ---- trees
-
-pub tree_text-leaf : (generators : List Generator) (n : ℕ) → tree_text generators (leaf n) ≡ decimal n
-tree_text-leaf generators n = append-nil (decimal n)
 
 -- the texts of trees, with one byte before the first and a ',' before each other
 abbrev pub marked_text : List Generator → ℕ → List (Tree ℕ) → List ℕ

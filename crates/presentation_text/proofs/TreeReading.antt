@@ -1,11 +1,11 @@
 -- Reading a tree from tokens: what stands at a place, and that the inputs read so far are the first of any tree that stands there.
-use Rattle.std.proofs.Common.{◌≡◌, ◌≢◌, ℕ, zero, suc, ◌+◌, ◌-◌, ◌<◌, ◌≤◌, max, List, [], ◌∷◌, ◌++◌, length, get_or, map, drop, slice_get, Option, Some, None, true, ltb, refl, ap, sym, ◌∙◌, subst, arith, add-one, append_assoc, append-nil, length-append, length-drop}
+use Rattle.std.proofs.Common.{◌≡◌, ◌≢◌, ℕ, zero, suc, ◌+◌, ◌-◌, ◌<◌, ◌≤◌, max, List, [], ◌∷◌, ◌++◌, length, get_or, map, drop, slice_get, Some, None, true, ltb, refl, ap, sym, ◌∙◌, subst, arith, append_assoc, append-nil, length-append, length-drop}
 use Rattle.std.specs.List.{AllByRecursion, HoldsAt}
-use Rattle.std.proofs.lemmas.List.{length-map, map-append, drop_at, drop_more, drop-drop}
+use Rattle.std.proofs.lemmas.List.{length-map, drop_at, drop_more, drop-drop}
 use Rattle.std.proofs.lemmas.Option.{get_or_from_slice_get, slice_get_within, slice_get_read}
 use Rattle.std.proofs.lemmas.Bool.{ltb-true}
 use Rattle.labelled_trees.specs.Trees.{Tree, Row, leaf, node, none, more, row, width, inputs}
-use Rattle.labelled_trees.specs.Leaves.{AllLeaves, AllRow}
+use Rattle.labelled_trees.specs.Leaves.{AllRow}
 use Rattle.labelled_trees.specs.Labelled as labelled
 use Rattle.labelled_trees.specs.Meaning.{tree_of}
 use Rattle.labelled_trees.specs.declared.Tree as program
@@ -13,10 +13,9 @@ use Rattle.labelled_trees.specs.declared.Tree.TheVariants.{Leaf, Node}
 use Rattle.labelled_trees.proofs.ProgramTrees.{tree_of-leaf, tree_of-node}
 use Rattle.symmetric_trees.specs.declared.generators.Generator.{Generator}
 use Rattle.symmetric_trees.specs.Generators.{IsTable, IsTaken, IsNamed}
-use Rattle.symmetric_trees.specs.Trees.{Fits}
 use Rattle.symmetric_trees.proofs.Tables.{taken-at}
 use Rattle.presentation_text.specs.declared.lexing.Token.{Token}
-use Rattle.presentation_text.specs.declared.lexing.Token.TheVariants.{Word, Number, Long, Byte, Bad}
+use Rattle.presentation_text.specs.declared.lexing.Token.TheVariants.{Word, Number, Byte}
 use Rattle.presentation_text.specs.TreeText.{name_of, tree_tokens, row_tokens, more_tokens, nested, nested_row, IsReadableWithin, StandsAt, ReadsWithin}
 use Rattle.presentation_text.proofs.TreeTokens.{arity_in, in_table, name_of-is, names_apart, read_once, width-row}
 
@@ -135,7 +134,7 @@ node_tokens : (generators : List Generator) (g : ℕ) (ts : List (Tree ℕ)) (re
     → tree_tokens generators (node g (row ts)) ++ rest ≡ Word (name_of generators g) ∷ (marked_tokens generators 40 ts ++ Byte 41 ∷ rest)
 node_tokens generators g ts rest some =
     ap (λ x. Word (name_of generators g) ∷ x)
-        (append_assoc (Byte 40 ∷ row_tokens generators (row ts)) (Byte 41 ∷ []) rest ∙ ap (λ x. x ++ Byte 41 ∷ rest) (row_is generators ts some))
+    (append_assoc (Byte 40 ∷ row_tokens generators (row ts)) (Byte 41 ∷ []) rest ∙ ap (λ x. x ++ Byte 41 ∷ rest) (row_is generators ts some))
 
 marked_tokens-push : (generators : List Generator) (mark : ℕ) (ts : List (Tree ℕ)) (t : Tree ℕ) (rest : List Token)
     → marked_tokens generators mark (ts ++ t ∷ []) ++ rest ≡ marked_tokens generators mark ts ++ Byte (mark_after mark ts) ∷ (tree_tokens generators t ++ rest)
@@ -251,7 +250,7 @@ front depth generators table mark (t ∷ ts) [] x y ft fu l e = absurd (omega ar
 front depth generators table mark (t ∷ ts) (u ∷ us) x y ft fu l e =
     let inside : (tree_tokens generators t ++ marked_tokens generators 44 ts) ++ x ≡ (tree_tokens generators u ++ marked_tokens generators 44 us) ++ y = cc in
     let first : (t ≡ u) × (marked_tokens generators 44 ts ++ x ≡ marked_tokens generators 44 us ++ y) = read_once generators table t u (marked_tokens generators 44 ts ++ x) (marked_tokens generators 44 us ++ y) ft.0.fits fu.0.fits
-        (sym (append_assoc (tree_tokens generators t) (marked_tokens generators 44 ts) x) ∙ inside ∙ append_assoc (tree_tokens generators u) (marked_tokens generators 44 us) y) in
+    (sym (append_assoc (tree_tokens generators t) (marked_tokens generators 44 ts) x) ∙ inside ∙ append_assoc (tree_tokens generators u) (marked_tokens generators 44 us) y) in
     let further : Front generators 44 ts us x y = front depth generators table 44 ts us x y ft.1 fu.1 (omega arith) first.1 in
     record {
       others = further.others;
@@ -295,7 +294,7 @@ rest depth generators table tokens at g ts next held so_far l named (node h r) e
     let shallow : suc (nested_row r) ≤ depth + 1 = readable.shallow in
     let wide : length (inputs r) ≡ arity_in generators g = sym (width-row (inputs r)) ∙ ap width (row-inputs r) ∙ fits.1 ∙ ap (arity_in generators) (sym same) in
     rest_inputs depth generators table tokens at g ts next so_far l named (inputs r) end (subst (λ k. 2 ≤ arity_in generators k) (sym same) least) wide
-        (inputs_readable depth generators r fits.2 (omega arith) readable.small) (subst (λ t. StandsAt generators tokens at t end) whole stands)
+    (inputs_readable depth generators r fits.2 (omega arith) readable.small) (subst (λ t. StandsAt generators tokens at t end) whole stands)
 
 -- the next input begins with its mark
 next_begins : (depth : ℕ) (generators : List Generator) (tokens : List Token) (ts : List (Tree ℕ)) (next arity : ℕ) → length ts < arity → Rest depth generators tokens ts next arity

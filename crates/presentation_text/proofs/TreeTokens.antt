@@ -1,6 +1,6 @@
 -- The tokens of a tree: names in a table, separators, and that tokens begin with at most one tree.
-use Rattle.std.proofs.Common.{◌≡◌, ℕ, zero, suc, ◌+◌, ◌-◌, ◌<◌, ◌≤◌, max, List, [], ◌∷◌, ◌++◌, length, get_or, map, slice_get, Some, refl, ap, sym, ◌∙◌, subst, arith, append_assoc, inl, inr, ◌⊎◌, ⊎_elim}
-use Rattle.std.specs.List.{All, AllPairs, sum_by}
+use Rattle.std.proofs.Common.{◌≡◌, ℕ, zero, suc, ◌+◌, ◌<◌, ◌≤◌, List, [], ◌∷◌, ◌++◌, length, get_or, map, slice_get, Some, refl, ap, sym, ◌∙◌, subst, arith, append_assoc, ◌⊎◌, ⊎_elim}
+use Rattle.std.specs.List.{sum_by}
 use Rattle.std.proofs.lemmas.List.{length-map}
 use Rattle.std.proofs.lemmas.List.Sums.{sum_by-cons}
 use Rattle.std.proofs.lemmas.Option.{get_or_from_slice_get}
@@ -15,10 +15,10 @@ use Rattle.operad_ideals.specs.Parts as inputs
 use Rattle.operad_ideals.specs.Laws.{arity}
 use Rattle.symmetric_trees.specs.declared.generators.Generator.{Generator}
 use Rattle.symmetric_trees.specs.declared.generators.Part.{Part}
-use Rattle.symmetric_trees.specs.Generators.{IsTable, part_of, generators_of, parts_at}
+use Rattle.symmetric_trees.specs.Generators.{IsTable, part_of, parts_at}
 use Rattle.symmetric_trees.specs.Trees.{Fits}
 use Rattle.presentation_text.specs.declared.lexing.Token.{Token}
-use Rattle.presentation_text.specs.declared.lexing.Token.TheVariants.{Word, Number, Long, Byte, Bad}
+use Rattle.presentation_text.specs.declared.lexing.Token.TheVariants.{Byte}
 use Rattle.presentation_text.specs.TreeText.{name_of, tree_tokens, row_tokens, more_tokens, nested, nested_row}
 use Rattle.presentation_text.specs.Laws.{TreesAreReadOnce}
 
@@ -91,10 +91,10 @@ node_fits generators t g ts e h =
     record { least = fits.0; wide = sym (width-row (map tree_of ts) ∙ length-map ts tree_of) ∙ fits.1; inputs = fits.2 }
 
 -- each input of a vertex that fits fits
-pub input_fits : (arity : ℕ → ℕ) (ts : List program.Tree) (i : ℕ) (t : program.Tree) → labelled.FitsRow arity (row (map tree_of ts)) → i < length ts → t ≡ get_or ts i t → labelled.Fits arity (tree_of t)
-input_fits arity [] i t h l e = absurd (omega arith)
-input_fits arity (u ∷ us) zero t h l e = subst (λ x. labelled.Fits arity (tree_of x)) (sym e) h.0
-input_fits arity (u ∷ us) (suc i) t h l e = input_fits arity us i t h.1 (omega arith) e
+pub input_fits : (arities : ℕ → ℕ) (ts : List program.Tree) (i : ℕ) (t : program.Tree) → labelled.FitsRow arities (row (map tree_of ts)) → i < length ts → t ≡ get_or ts i t → labelled.Fits arities (tree_of t)
+input_fits arities [] i t h l e = absurd (omega arith)
+input_fits arities (u ∷ us) zero t h l e = subst (λ x. labelled.Fits arities (tree_of x)) (sym e) h.0
+input_fits arities (u ∷ us) (suc i) t h l e = input_fits arities us i t h.1 (omega arith) e
 
 -- ---- a tree is read in one way
 
@@ -148,10 +148,10 @@ read_once generators table t u r s ft fu e = once generators table t u r s ft fu
 
 mutual
   -- fewer generators stand one inside the other than there are leaves
-  pub nested-below : (arity : ℕ → ℕ) (t : Tree ℕ) → labelled.Fits arity t → nested t < leaf_count t
-  nested-below arity (leaf n) h = omega arith
-  nested-below arity (node g r) h = let inside = nested_row-below arity r h.2 in let least = h.0 in let wide = h.1 in omega arith
+  pub nested-below : (arities : ℕ → ℕ) (t : Tree ℕ) → labelled.Fits arities t → nested t < leaf_count t
+  nested-below arities (leaf n) h = omega arith
+  nested-below arities (node g r) h = let inside = nested_row-below arities r h.2 in let least = h.0 in let wide = h.1 in omega arith
 
-  pub nested_row-below : (arity : ℕ → ℕ) (r : Row ℕ) → labelled.FitsRow arity r → nested_row r + width r ≤ leaf_count_row r
-  nested_row-below arity none h = omega arith
-  nested_row-below arity (more t r) h = let first = nested-below arity t h.0 in let others = nested_row-below arity r h.1 in omega arith
+  pub nested_row-below : (arities : ℕ → ℕ) (r : Row ℕ) → labelled.FitsRow arities r → nested_row r + width r ≤ leaf_count_row r
+  nested_row-below arities none h = omega arith
+  nested_row-below arities (more t r) h = let first = nested-below arities t h.0 in let others = nested_row-below arities r h.1 in omega arith

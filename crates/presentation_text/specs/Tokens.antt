@@ -1,5 +1,5 @@
 -- The tokens of a line.
-use Rattle.std.specs.Prelude.{ℕ, zero, suc, ◌≡◌, ◌+◌, ◌-◌, ◌*◌, Bool, true, false, IsTrue, ◌&&◌, ◌||◌, if◌then◌else◌, ◌==◌, nat_le, List, [], ◌∷◌, ◌++◌, length, take_while}
+use Rattle.std.specs.Prelude.{ℕ, zero, suc, ◌≡◌, ◌+◌, ◌-◌, ◌*◌, Bool, false, IsTrue, ◌&&◌, ◌||◌, if◌then◌else◌, ◌==◌, nat_le, List, [], ◌∷◌, ◌++◌, length, take_while}
 use Rattle.std.specs.List.{list_all}
 use Rattle.presentation_text.specs.Lines.{is_blank}
 use Rattle.presentation_text.specs.declared.lexing.Token.{Token}
@@ -7,15 +7,22 @@ use Rattle.presentation_text.specs.declared.lexing.Token.TheVariants.{Word, Numb
 
 -- ---- bytes
 
+-- a to z and A to Z
 abbrev pub is_letter : ℕ → Bool
 is_letter c = (nat_le 97 c && nat_le c 122) || (nat_le 65 c && nat_le c 90)
 
+-- 0 to 9
 abbrev pub is_digit : ℕ → Bool
 is_digit c = nat_le 48 c && nat_le c 57
 
 -- what goes on with a word: a letter, a digit or '_'
 abbrev pub is_word_byte : ℕ → Bool
 is_word_byte c = is_letter c || is_digit c || c == 95
+
+-- a word: a letter, and behind it letters, digits and '_'
+abbrev pub IsWord : List ℕ → Type 0
+IsWord [] = ⊥
+IsWord (c ∷ cs) = IsTrue (is_letter c) × IsTrue (list_all is_word_byte cs)
 
 -- + - * ( ) , ; =
 abbrev pub is_single : ℕ → Bool

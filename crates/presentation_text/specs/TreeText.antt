@@ -8,6 +8,7 @@ use Rattle.labelled_trees.specs.Meaning.{tree_of}
 use Rattle.labelled_trees.specs.declared.Tree as program
 use Rattle.symmetric_trees.specs.Trees.{Fits}
 use Rattle.symmetric_trees.specs.declared.generators.Generator.{Generator}
+use Rattle.presentation_text.specs.Tokens.{IsWord}
 use Rattle.presentation_text.specs.declared.lexing.Token.{Token}
 use Rattle.presentation_text.specs.declared.lexing.Token.TheVariants.{Word, Number, Long, Byte, Bad}
 
@@ -17,12 +18,17 @@ name_of [] g = []
 name_of (x ∷ xs) zero = x.name
 name_of (x ∷ xs) (suc g) = name_of xs g
 
+-- each name of the table is a word
+abbrev pub HasWords : List Generator → Type 0
+HasWords generators = (g : ℕ) → g < length generators → IsWord (name_of generators g)
+
 -- A tree is a number (a leaf), or a name, '(', the inputs separated by ',', and ')'.
 abbrev mutual
   pub tree_tokens : List Generator → Tree ℕ → List Token
   tree_tokens generators (leaf n) = Number n ∷ []
   tree_tokens generators (node g r) = Word (name_of generators g) ∷ Byte 40 ∷ (row_tokens generators r ++ Byte 41 ∷ [])
 
+  -- inputs with a ',' between them
   pub row_tokens : List Generator → Row ℕ → List Token
   row_tokens generators none = []
   row_tokens generators (more t r) = tree_tokens generators t ++ more_tokens generators r

@@ -15,11 +15,13 @@ fn line_end(text: &[u8]) -> Option<usize>
     text.iter().position(|byte| *byte == b'\n')
 }
 
-/// The first line, without its line feed, and the text behind it; `None` exactly for the empty text.
+/// The first line, without its line feed, and the text behind it, which is shorter than the whole;
+/// `None` exactly for the empty text.
 pub fn next_line(text: &[u8]) -> Option<(&[u8], &[u8])>
     ensures none { IsNone result ↔ (text.now ≡ []) }
     ensures split { IfSome result (λ found. spec.IsFirstLine text.now found.0.now found.1.now) }
-    ensures lines { IfSome result (λ found. spec.lines text.now ≡ found.0.now ∷ spec.lines found.1.now) }
+    ensures lines { IfSome result
+        (λ found. spec.lines text.now ≡ found.0.now ∷ spec.lines found.1.now) }
     ensures shorter { IfSome result (λ found. length found.1.now < length text.now) }
 {
     if text.is_empty() {
@@ -38,7 +40,8 @@ fn first_visible(line: &[u8]) -> Option<u8>
     line.iter().copied().find(|byte| !is_blank(*byte))
 }
 
-/// Whether a line counts: not if it has blanks alone, nor if its first byte that isn't a blank is `#`.
+/// Whether a line counts: not if it has blanks alone (space, tab, carriage return),
+/// nor if its first byte that isn't a blank is `#`.
 pub fn counts(line: &[u8]) -> bool
     ensures { result ≡ spec.counts line.now }
 {

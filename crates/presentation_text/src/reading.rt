@@ -22,10 +22,16 @@ fn is_mark(tokens: &[Token], at: usize, mark: u8) -> bool
     }
 }
 
-/// The tree that stands at a place among tokens, and the place behind it; `None` exactly where no tree stands there
-/// that fits the table, has at most 8 generators one inside the other, and leaf numbers of at most 99.
+/// The tree that stands at a place among tokens, and the place behind it, which is past `at` and at most
+/// the number of tokens; `None` exactly where no tree stands there that fits the table, has at most
+/// 8 generators one inside the other, and leaf numbers of at most 99.
 /// `AllocError` comes for want of memory alone.
-pub fn read_tree(alloc: Global, table: &GenTable, tokens: &[Token], at: usize) -> Result<Option<(Tree, usize)>, AllocError>
+pub fn read_tree(
+    alloc: Global,
+    table: &GenTable,
+    tokens: &[Token],
+    at: usize,
+) -> Result<Option<(Tree, usize)>, AllocError>
     ensures read { IfOk result (spec.Reads table.now tokens.now at) }
 {
     read_within(alloc, table, tokens, at, MOST_NESTED)
@@ -33,7 +39,13 @@ pub fn read_tree(alloc: Global, table: &GenTable, tokens: &[Token], at: usize) -
 
 // A tree with at most `depth` generators one inside the other.
 #[cycle(read)]
-fn read_within(alloc: Global, table: &GenTable, tokens: &[Token], at: usize, depth: u8) -> Result<Option<(Tree, usize)>, AllocError>
+fn read_within(
+    alloc: Global,
+    table: &GenTable,
+    tokens: &[Token],
+    at: usize,
+    depth: u8,
+) -> Result<Option<(Tree, usize)>, AllocError>
     ensures { IfOk result (spec.ReadsWithin depth table.now tokens.now at) }
 {
     let Some(token) = tokens.get(at) else {

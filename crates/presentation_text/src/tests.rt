@@ -1,7 +1,7 @@
 use super::*;
+use sqlite_items::Items;
 use std::alloc::{AllocError, Global};
 use std::test::*;
-use sqlite_items::Items;
 use symmetric_trees::{GenTable, Generator, Name, Part, PartKind};
 
 // A table with one generator `l`, of arity 2, whose inputs change the sign when they change places.
@@ -53,10 +53,16 @@ fn a_tree_is_read_and_printed(rt: HostRuntime) -> Result<(), Fail> {
     let line = tokens(alloc, b"l(1,2) + l(l(1,2),3)")?;
     let (tree, end) = read_tree(alloc, &table, &line, 0)?.ok_or("no tree")?;
     assert_eq!(rt; end, 6);
-    assert_eq!(rt; print_tree(alloc, &table, &tree)?.as_slice(), b"l(1,2)".as_slice());
+    assert_eq!(rt;
+        print_tree(alloc, &table, &tree)?.as_slice(),
+        b"l(1,2)".as_slice()
+    );
     let (inner, end) = read_tree(alloc, &table, &line, 7)?.ok_or("no tree")?;
     assert_eq!(rt; end, 18);
-    assert_eq!(rt; print_tree(alloc, &table, &inner)?.as_slice(), b"l(l(1,2),3)".as_slice());
+    assert_eq!(rt;
+        print_tree(alloc, &table, &inner)?.as_slice(),
+        b"l(l(1,2),3)".as_slice()
+    );
     assert!(rt; read_tree(alloc, &table, &line, 6)?.is_none());
     Ok(())
 }

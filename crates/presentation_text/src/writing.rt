@@ -3,6 +3,7 @@ ghost use Rattle.std.specs.Fmt.{decimal};
 ghost use Rattle.labelled_trees.specs.Meaning.{tree_of};
 ghost use Rattle.symmetric_trees.specs.Trees.{Fits};
 ghost use Rattle.presentation_text.specs.TreeText.{tree_text};
+ghost use Rattle.presentation_text.specs.Laws.{PrintedTreesAreReadBack};
 
 use labelled_trees::Tree;
 use std::alloc::{AllocError, Global};
@@ -19,7 +20,8 @@ fn write_number(number: u8, out: &mut Vec<u8>) -> Result<(), AllocError>
     Ok(())
 }
 
-/// Puts the text of a tree behind `out`. `AllocError` comes for want of memory alone; `out` may then hold a part of the text.
+/// Puts the text of a tree behind `out`. Nothing is allocated but what `out` grows by.
+/// `AllocError` comes for want of memory alone; `out` may then hold a part of the text.
 pub fn write_tree(
     alloc: Global,
     table: &GenTable,
@@ -27,7 +29,8 @@ pub fn write_tree(
     out: &mut Vec<u8>,
 ) -> Result<(), AllocError>
     requires fits { Fits table.now (tree_of tree.now) }
-    ensures text { OnOk result (out.new.items ≡ out.old.items ++ tree_text table.now (tree_of tree.now)) }
+    ensures text { OnOk result
+        (out.new.items ≡ out.old.items ++ tree_text table.now (tree_of tree.now)) }
 {
     match tree {
         Tree::Leaf(number) => write_number(*number, out),
@@ -54,3 +57,8 @@ pub fn print_tree(alloc: Global, table: &GenTable, tree: &Tree) -> Result<Vec<u8
     write_tree(alloc, table, tree, &mut out)?;
     Ok(out)
 }
+
+/// Law: the text of a tree has the tree's tokens, where the names are words.
+pub fn printed_trees_are_read_back()
+    ensures law { PrintedTreesAreReadBack }
+{}

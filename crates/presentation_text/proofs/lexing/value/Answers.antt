@@ -1,6 +1,6 @@
-use Rattle.std.proofs.Common.{arith, get_or, refl, sym}
+use Rattle.std.proofs.Common.{arith, get_or}
 use Rattle.std.proofs.lemmas.List.{get_or_default}
-use Rattle.presentation_text.proofs.TokenLaws.{digit_at, below_limit, below_next}
+use Rattle.presentation_text.proofs.TokenLaws.{digit_at, below_limit}
 use Rattle.presentation_text.proofs.lexing.value.Goals as goal
 
 pub overflow_mul-value : goal.overflow_mul-value

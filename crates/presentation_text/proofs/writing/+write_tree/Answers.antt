@@ -1,14 +1,13 @@
-use Rattle.std.proofs.Common.{◌≡◌, ◌<◌, ◌++◌, ◌∷◌, [], ◌+◌, List, ℕ, map, drop, length, rules, arith, ap, sym, subst, ◌∙◌}
+use Rattle.std.proofs.Common.{◌≡◌, ◌<◌, ◌++◌, ◌∷◌, [], ◌+◌, map, drop, length, rules, arith, ap, sym, subst, ◌∙◌}
 use Rattle.std.proofs.lemmas.List.{drop_more, length-map}
-use Rattle.labelled_trees.specs.Trees.{Tree, node, row}
 use Rattle.labelled_trees.specs.Meaning.{tree_of}
 use Rattle.labelled_trees.specs.declared.Tree as program
 use Rattle.labelled_trees.specs.declared.Tree.TheViews.{the_lemmas}
-use Rattle.labelled_trees.proofs.ProgramTrees.{tree_of-node, tree_of-leaf}
+use Rattle.labelled_trees.proofs.ProgramTrees.{tree_of-node}
 use Rattle.symmetric_trees.specs.Trees.{Fits}
 use Rattle.presentation_text.specs.TreeText.{tree_text}
 use Rattle.presentation_text.proofs.TreeTokens.{FitsNode, arity_in, in_table, name_of-get, node_fits, input_fits}
-use Rattle.presentation_text.proofs.TreePrinting.{marked_text, marked_begin, marked_step, tree_text-leaf}
+use Rattle.presentation_text.proofs.TreePrinting.{marked_text, marked_begin, marked_step}
 use Rattle.presentation_text.proofs.writing.+write_tree.Goals as goal
 
 pub get-requires : goal.get-requires
