@@ -57,7 +57,7 @@ pub enum PartKind {
     Free,
 }
 
-/// A part: so many consecutive inputs of a generator, all of one kind.
+/// A part: `size` consecutive inputs of a generator, all of one kind.
 #[derive(Clone, Copy, Debug, PartialEq, Eq)]
 pub struct Part {
     pub kind: PartKind,

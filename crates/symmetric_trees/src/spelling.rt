@@ -17,9 +17,9 @@ use std::alloc::{AllocError, Global};
 /// The sign with which a tree agrees with its sorted spelling.
 #[derive(Clone, Copy, Debug, PartialEq, Eq)]
 pub enum Sign {
-    /// The tree is its sorted spelling.
+    /// The tree equals its sorted spelling.
     Plus,
-    /// The tree is the negative of its sorted spelling.
+    /// The tree equals the negative of its sorted spelling.
     Minus,
 }
 
