@@ -1,5 +1,5 @@
 -- Sums and facts over leaves.
-use Rattle.std.proofs.Common.{◌≡◌, ℕ, ◌+◌, ◌≤◌, ◌<◌, refl, sym, ◌∙◌, ap, arith, subst}
+use Rattle.std.proofs.Common.{◌≡◌, ℕ, ◌+◌, ◌≤◌, ◌<◌, refl, arith, subst}
 use mathlib.Core.Path.{ap₂}
 use native.Mathlib.Decide.{ℕ_discrete, dec_lt}
 use Rattle.labelled_trees.specs.Trees.{Tree, Row, leaf, node, none, more}

@@ -1,15 +1,13 @@
 -- Spelled inputs of a vertex, with their least leaves.
-use Rattle.std.proofs.Common.{◌≡◌, ℕ, ◌+◌, ◌<◌, ◌≤◌, List, [], ◌∷◌, ◌++◌, length, map, take, refl, ap, ap₂, sym, ◌∙◌, subst, arith, append_assoc}
+use Rattle.std.proofs.Common.{◌≡◌, ℕ, ◌≤◌, List, [], ◌∷◌, map, refl, ap, ap₂, sym, ◌∙◌, subst}
 use Rattle.std.specs.List.{AllByRecursion}
-use Rattle.std.proofs.lemmas.List.{map-append, length-map}
-use Rattle.labelled_trees.specs.Trees.{Tree, row, node}
+use Rattle.labelled_trees.specs.Trees.{row}
 use Rattle.labelled_trees.specs.Leaves.{occurs}
 use Rattle.labelled_trees.specs.Meaning.{tree_of}
 use Rattle.labelled_trees.specs.declared.Tree as program
 use Rattle.labelled_trees.specs.declared.Tree.TheVariants.{Node}
 use Rattle.labelled_trees.proofs.ProgramTrees.{tree_of-node}
-use Rattle.operad_ideals.specs.Parts.{Part, Sign, plus, times}
-use Rattle.operad_ideals.specs.Laws.{arity}
+use Rattle.operad_ideals.specs.Parts.{Part, Sign, times}
 use Rattle.operad_ideals.specs.Spelling.{least_leaf}
 use Rattle.operad_ideals.specs.Sorting as plain
 use Rattle.operad_ideals.proofs.SortedLists.{Apart, apart-from_map}

@@ -1,7 +1,7 @@
 -- The least of some numbers, and the least leaf of a vertex.
 use Rattle.std.proofs.Common.{◌≡◌, ℕ, ◌<◌, ◌≤◌, List, [], ◌∷◌, ◌++◌, length, map, min, refl, ap, sym, ◌∙◌, subst, arith}
 use Rattle.std.specs.List.{AllByRecursion}
-use Rattle.labelled_trees.specs.Trees.{Tree, row, more}
+use Rattle.labelled_trees.specs.Trees.{Tree, row}
 use Rattle.operad_ideals.specs.Spelling.{least_leaf, least_leaf_row}
 
 -- the least of a number and those of a list

@@ -1,6 +1,6 @@
 -- Facts of tables of generators.
 use Rattle.std.proofs.Common.{◌≡◌, ℕ, zero, suc, map, refl, ◌+◌, ◌<◌, ◌≤◌, List, [], ◌∷◌, ◌++◌, length, get_or, Some, slice_get, ◌⊎◌, ⊎_elim, ap, ◌∙◌, sym, subst, arith, length-append}
-use Rattle.std.specs.List.{All, AllPairs, Any, HoldsAt, sum_by}
+use Rattle.std.specs.List.{Any, HoldsAt, sum_by}
 use Rattle.std.proofs.lemmas.List.Sums.{sum_by-cons}
 use Rattle.operad_ideals.specs.Parts.{total}
 use Rattle.operad_ideals.specs.Laws.{arity}

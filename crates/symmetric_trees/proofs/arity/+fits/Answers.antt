@@ -1,10 +1,8 @@
-use Rattle.std.proofs.Common.{◌≡◌, ◌∙◌, ℕ, sym, arith, ap, subst, take, refl, true, false, IsTrue, length}
+use Rattle.std.proofs.Common.{◌≡◌, ◌∙◌, sym, subst, take, refl}
 use Rattle.std.proofs.lemmas.List.{take_all}
 use Rattle.std.proofs.lemmas.List.Elements.{All-from_recursion}
 use Rattle.std.specs.List.{AllByRecursion}
 use Rattle.operad_ideals.specs.Laws.{arity}
-use Rattle.labelled_trees.specs.declared.Tree as program
-use Rattle.labelled_trees.specs.declared.Tree.TheVariants.{Node}
 use Rattle.labelled_trees.specs.Meaning.{tree_of}
 use Rattle.labelled_trees.proofs.ProgramTrees.{fits-node, fits-inputs}
 use Rattle.symmetric_trees.specs.Generators.{parts_at}

@@ -4,8 +4,8 @@ use Rattle.std.proofs.lemmas.List.{take_all, length-map, nil_from_length}
 use Rattle.std.proofs.lemmas.List.Elements.{All-from_recursion}
 use Rattle.std.proofs.lemmas.List.Sums.{get_or-le-sum_by}
 use Rattle.std.specs.List.{AllByRecursion, sum_by}
-use native.Mathlib.Decide.{dec_lt, ℕ_discrete}
-use Rattle.labelled_trees.specs.Leaves.{occurs, one_if, sum_leaves}
+use native.Mathlib.Decide.{ℕ_discrete}
+use Rattle.labelled_trees.specs.Leaves.{occurs, one_if}
 use Rattle.labelled_trees.specs.Trees.{row}
 use Rattle.labelled_trees.specs.Meaning.{tree_of}
 use Rattle.labelled_trees.specs.declared.Tree as program
@@ -18,11 +18,10 @@ use Rattle.operad_ideals.specs.Sorting as plain
 use Rattle.operad_ideals.proofs.Signs.{times-plus}
 use Rattle.operad_ideals.proofs.SortedLists.{apart-at}
 use Rattle.operad_ideals.proofs.SortedParts.{length-sort_parts}
-use Rattle.symmetric_trees.specs.Generators.{parts_at, part_of, IsTable}
+use Rattle.symmetric_trees.specs.Generators.{parts_at, part_of}
 use Rattle.symmetric_trees.specs.Spelling.{trees_of, least_leaves, meaning_of}
 use Rattle.symmetric_trees.specs.Trees.{Fits}
 use Rattle.symmetric_trees.specs.declared.branch.Branch.{Branch}
-use Rattle.symmetric_trees.specs.declared.generators.Generator.{Generator}
 use Rattle.symmetric_trees.specs.declared.generators.Part.{Part}
 use Rattle.symmetric_trees.proofs.Tables.{parts_at-held, sizes-held, held_if_wide}
 use Rattle.symmetric_trees.proofs.Branches.{vertex-apart, vertex-spelled, vertex-sign}

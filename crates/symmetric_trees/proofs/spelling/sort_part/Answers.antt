@@ -1,4 +1,4 @@
-use Rattle.std.proofs.Common.{◌≡◌, ◌∙◌, sym, ap, rules}
+use Rattle.std.proofs.Common.{◌∙◌, sym, ap, rules}
 use Rattle.std.proofs.lemmas.List.Sorted.{answers_always}
 use Rattle.operad_ideals.specs.Sorting as plain
 use Rattle.operad_ideals.proofs.SortedLists.{sorted-permutation}

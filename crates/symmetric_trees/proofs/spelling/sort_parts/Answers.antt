@@ -2,12 +2,10 @@ use Rattle.std.proofs.Common.{◌≡◌, ◌∙◌, ◌+◌, ◌-◌, ◌≤◌,
 use Rattle.std.proofs.lemmas.List.{drop_more}
 use Rattle.std.proofs.lemmas.List.Sums.{sum_by_more, sum_by-take-le}
 use Rattle.std.specs.List.{sum_by}
-use Rattle.operad_ideals.specs.Parts as math
-use Rattle.operad_ideals.specs.Sorting as plain
 use Rattle.operad_ideals.proofs.SortedLists.{Apart, apart-take, apart-drop, apart-at, apart-from_at}
 use Rattle.operad_ideals.proofs.SortedParts.{length-sort_part}
 use Rattle.symmetric_trees.specs.Generators.{kind_of, part_of}
-use Rattle.symmetric_trees.specs.Spelling.{meaning_of, least_leaves}
+use Rattle.symmetric_trees.specs.Spelling.{meaning_of}
 use Rattle.symmetric_trees.specs.declared.branch.Branch.{Branch}
 use Rattle.symmetric_trees.specs.declared.generators.Part.{Part}
 use Rattle.symmetric_trees.specs.declared.generators.PartKind.TheVariants.{Sym}

@@ -1,11 +1,9 @@
-use Rattle.std.proofs.Common.{◌≡◌, ◌∙◌, sym, ap, ap₂, subst}
+use Rattle.std.proofs.Common.{◌∙◌, sym, subst}
 use Rattle.labelled_trees.specs.Meaning.{tree_of}
-use Rattle.operad_ideals.specs.Parts.{Sign}
 use Rattle.operad_ideals.specs.Spelling.{IsSpelling}
 use Rattle.operad_ideals.specs.Sorting.{spelled_sign}
 use Rattle.operad_ideals.proofs.Spellings.{one_spelling}
 use Rattle.symmetric_trees.specs.Generators.{parts_at}
-use Rattle.symmetric_trees.specs.Spelling.{meaning_of}
 use Rattle.symmetric_trees.proofs.spelling.spelled.Goals as goal
 
 pub returns-clause-spelling : goal.returns-clause-spelling

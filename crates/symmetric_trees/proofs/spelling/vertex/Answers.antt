@@ -1,15 +1,12 @@
-use Rattle.std.proofs.Common.{◌≡◌, ◌∙◌, ◌++◌, ◌∷◌, [], ◌<◌, ◌≤◌, ℕ, List, length, map, sym, ap, arith, refl, subst, min, map-id}
-use Rattle.std.specs.List.{AllByRecursion}
+use Rattle.std.proofs.Common.{◌≡◌, ◌∙◌, ◌++◌, ◌∷◌, [], ◌<◌, List, length, map, sym, ap, arith, refl, min, map-id}
 use Rattle.std.proofs.lemmas.List.{map-append, length-map}
 use Rattle.std.proofs.lemmas.Iterator.Consumers.{YieldsList-end}
 use Rattle.std.proofs.lemmas.Iterator.Adapters.{YieldsList-from_vec}
-use Rattle.labelled_trees.specs.Trees.{Tree, row, node}
+use Rattle.labelled_trees.specs.Trees.{row, node}
 use Rattle.labelled_trees.specs.Meaning.{tree_of}
-use Rattle.labelled_trees.specs.declared.Tree as program
-use Rattle.labelled_trees.specs.declared.Tree.TheVariants.{Node}
 use Rattle.labelled_trees.proofs.ProgramTrees.{tree_of-node}
-use Rattle.operad_ideals.specs.Spelling.{least_leaf, least_leaf_row}
-use Rattle.symmetric_trees.specs.Spelling.{least_leaves, trees_of, vertex_of}
+use Rattle.operad_ideals.specs.Spelling.{least_leaf}
+use Rattle.symmetric_trees.specs.Spelling.{least_leaves, trees_of}
 use Rattle.symmetric_trees.specs.declared.branch.Branch.{Branch}
 use Rattle.symmetric_trees.proofs.Branches.{keys_are, keys_low}
 use Rattle.symmetric_trees.proofs.LeastOf.{least_from, least_from-push, least_from-bound, least_from-low}

@@ -1,4 +1,4 @@
-use Rattle.std.proofs.Common.{◌≡◌, ◌%◌, sym, arith}
+use Rattle.std.proofs.Common.{sym, arith}
 use Rattle.symmetric_trees.proofs.SpellingSteps.{sign_of-even, sign_of-odd}
 use Rattle.symmetric_trees.proofs.spelling.Sign.of_count.Goals as goal
 
