@@ -1,19 +1,16 @@
 -- The lines of queries, and the trees that stand in them.
-use Rattle.std.proofs.Common.{◌≡◌, ℕ, ◌+◌, ◌<◌, ◌≤◌, List, [], ◌∷◌, ◌++◌, length, drop, refl, ap, sym, ◌∙◌, subst, arith, append-nil, length-drop}
+use Rattle.std.proofs.Common.{◌≡◌, ℕ, ◌<◌, ◌≤◌, List, ◌++◌, length, drop, ap, sym, ◌∙◌, arith, append-nil, length-drop}
 use Rattle.std.proofs.Math.Seq.{drop-length}
 use Rattle.labelled_trees.specs.Trees.{Tree, leaf, node}
-use Rattle.labelled_trees.specs.Leaves.{leaf_count}
 use Rattle.labelled_trees.proofs.Leaves.{by_leaf}
 use Rattle.labelled_trees.proofs.Counts.{leaf_count-labelled}
 use Rattle.operad_ideals.specs.Laws.{arity}
 use Rattle.symmetric_trees.specs.Generators.{IsTable, parts_at}
 use Rattle.symmetric_trees.specs.Trees.{Fits}
 use Rattle.symmetric_trees.specs.declared.generators.Generator.{Generator}
-use Rattle.presentation_text.specs.TreeText.{tree_tokens, nested, IsReadable, StandsAt}
+use Rattle.presentation_text.specs.TreeText.{tree_tokens, IsReadable, StandsAt}
 use Rattle.presentation_text.specs.declared.lexing.Token.{Token}
-use Rattle.presentation_text.specs.declared.lexing.Token.TheVariants.{Word}
 use Rattle.presentation_text.proofs.TreeTokens.{nested-below, read_once}
-use Rattle.operad_run.specs.OneGenerator.{IsWithin}
 use Rattle.operad_run.specs.Queries.{IsQuery}
 
 -- the tree of a query may be read

@@ -1,14 +1,10 @@
 -- How runs end.
-use Rattle.std.proofs.Common.{◌≡◌, ℕ, ◌+◌, ◌<◌, ◌≤◌, ◌⊎◌, ⊎_elim, inl, inr, List, [], ◌∷◌, ◌++◌, length, Option, Some, None, get_or, refl, ap, sym, ◌∙◌, subst, arith, length-append, append-nil}
+use Rattle.std.proofs.Common.{◌≡◌, ℕ, ◌+◌, ◌≤◌, ⊎_elim, inl, inr, List, [], ◌++◌, length, Option, Some, None, get_or, refl, ap, sym, ◌∙◌, subst, arith, length-append, append-nil}
 use Rattle.std.specs.Io.KnownBytes.{Consumes, IsAtEnd}
-use Rattle.labelled_trees.specs.Trees.{Tree}
-use Rattle.outside_io.specs.Causes.{Rose}
 use Rattle.outside_io.specs.Taken.{Takes}
-use Rattle.symmetric_trees.specs.declared.generators.Generator.{Generator}
-use Rattle.operad_run.specs.Commands.{IsForms, IsCommand}
+use Rattle.operad_run.specs.Commands.{IsForms}
 use Rattle.operad_run.specs.OneGenerator.{IsDocument}
-use Rattle.operad_run.specs.Documents.{IsNoDocument}
-use Rattle.operad_run.specs.Runs.{Outside, Came, CameTooMany, Says, Told, Wrote, WroteLess, Ends, IsComplete, most_bytes}
+use Rattle.operad_run.specs.Runs.{Outside, Came, CameTooMany, Says, Told, Wrote, Ends, IsComplete, most_bytes}
 use Rattle.operad_run.specs.declared.status.Status.{Status}
 use Rattle.operad_run.specs.declared.status.Status.TheVariants.{Done, Refused, Usage, Document, Limit, Budget, ReadFault, WriteFault, NoMemory}
 

@@ -1,5 +1,5 @@
 -- Three words.
-use Rattle.std.proofs.Common.{◌≡◌, ℕ, ◌+◌, ◌<◌, ◌≤◌, List, [], ◌∷◌, length, map, get_or, Option, Some, None, refl, ap, sym, ◌∙◌, arith, codes}
+use Rattle.std.proofs.Common.{◌≡◌, ℕ, ◌+◌, ◌<◌, ◌≤◌, List, [], ◌∷◌, length, map, get_or, Option, Some, None, ap, ◌∙◌, arith, codes}
 use Rattle.std.specs.Option.{IfSome}
 use Rattle.operad_run.specs.Commands.{IsBound, IsForms}
 

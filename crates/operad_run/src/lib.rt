@@ -7,6 +7,8 @@ mod opening;
 mod queries;
 mod run;
 mod status;
+#[cfg(test)]
+mod tests;
 
 pub use run::operad_run;
 pub use status::Status;

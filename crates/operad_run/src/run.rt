@@ -34,15 +34,25 @@ pub fn operad_run<S: Source, K: Sink>(
     sink: &mut K,
 ) -> Status
     ensures ends { Ends result (map string_bytes words.now) (record {
-        left = S.left source.old; left_now = S.left source.new;
-        read_faults = S.faults source.old; read_faults_now = S.faults source.new;
-        taken = K.taken sink.old; taken_now = K.taken sink.new;
-        write_faults = K.faults sink.old; write_faults_now = K.faults sink.new }) }
+      left = S.left source.old;
+      left_now = S.left source.new;
+      read_faults = S.faults source.old;
+      read_faults_now = S.faults source.new;
+      taken = K.taken sink.old;
+      taken_now = K.taken sink.new;
+      write_faults = K.faults sink.old;
+      write_faults_now = K.faults sink.new;
+    }) }
     ensures complete { IsComplete result (map string_bytes words.now) (record {
-        left = S.left source.old; left_now = S.left source.new;
-        read_faults = S.faults source.old; read_faults_now = S.faults source.new;
-        taken = K.taken sink.old; taken_now = K.taken sink.new;
-        write_faults = K.faults sink.old; write_faults_now = K.faults sink.new }) }
+      left = S.left source.old;
+      left_now = S.left source.new;
+      read_faults = S.faults source.old;
+      read_faults_now = S.faults source.new;
+      taken = K.taken sink.old;
+      taken_now = K.taken sink.new;
+      write_faults = K.faults sink.old;
+      write_faults_now = K.faults sink.new;
+    }) }
 {
     let Some(most) = forms_arity(words) else {
         return tell(sink, b"fault usage\n", Status::Usage);

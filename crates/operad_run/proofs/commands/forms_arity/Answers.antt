@@ -1,4 +1,4 @@
-use Rattle.std.proofs.Common.{◌≡◌, ◌∙◌, ◌∷◌, ◌+◌, ◌≤◌, [], sym, ap, arith, subst, map, string_bytes, codes, refl, rules}
+use Rattle.std.proofs.Common.{◌≡◌, ◌∙◌, ◌∷◌, ◌+◌, ◌≤◌, [], ap, arith, subst, map, string_bytes, codes, refl, rules}
 use Rattle.std.specs.Option.{IfSome}
 use Rattle.operad_run.specs.Commands.{IsBound}
 use Rattle.operad_run.proofs.Words.{three, is_forms}

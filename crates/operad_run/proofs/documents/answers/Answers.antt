@@ -1,4 +1,4 @@
-use Rattle.std.proofs.Common.{◌≡◌, ℕ, subst, ap, map}
+use Rattle.std.proofs.Common.{ℕ, subst, ap, map}
 use Rattle.std.specs.Bool.{OnTrue, OnFalse}
 use Rattle.labelled_trees.specs.Trees.{Tree}
 use Rattle.presentation_text.specs.Lines.{lines}

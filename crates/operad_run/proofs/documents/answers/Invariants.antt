@@ -1,4 +1,4 @@
-use Rattle.std.proofs.Common.{◌≡◌, ◌++◌, List, length, map}
+use Rattle.std.proofs.Common.{length, map}
 use Rattle.presentation_text.specs.Lines.{lines}
 use Rattle.presentation_text.specs.Tokens.{tokens}
 use Rattle.operad_run.proofs.AnswerSteps.{AnsweredSoFar}

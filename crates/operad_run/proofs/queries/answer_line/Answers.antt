@@ -1,4 +1,4 @@
-use Rattle.std.proofs.Common.{◌≡◌, subst}
+use Rattle.std.proofs.Common.{subst}
 use Rattle.std.specs.Option.{IfSome}
 use Rattle.labelled_trees.specs.Meaning.{tree_of}
 use Rattle.operad_ideals.proofs.Agreement.{agreement_keeps_labels}

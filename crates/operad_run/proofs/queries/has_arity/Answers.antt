@@ -1,4 +1,3 @@
-use Rattle.std.proofs.Common.{◌≡◌}
 use Rattle.operad_run.proofs.queries.has_arity.Goals as goal
 
 pub returns-in-None : goal.returns-in-None
