@@ -1,9 +1,9 @@
 -- The program's trees: folds, induction, and the equations of their meaning.
-use Rattle.std.proofs.Common.{◌≡◌, ℕ, suc, ◌+◌, ◌≤◌, List, [], ◌∷◌, length, map, refl, ap, sym, ◌∙◌, subst}
+use Rattle.std.proofs.Common.{◌≡◌, ℕ, ◌+◌, ◌≤◌, List, [], ◌∷◌, length, map, refl, ap, sym, ◌∙◌, subst}
 use Rattle.std.specs.List.{AllByRecursion, sum_by}
 use Rattle.std.proofs.lemmas.List.{length-map}
 use Rattle.std.proofs.lemmas.List.Sums.{sum_by-cons}
-use Rattle.labelled_trees.specs.Trees.{Tree, Row, leaf, node, none, more, row, width, inputs}
+use Rattle.labelled_trees.specs.Trees.{Tree, leaf, node, row}
 use Rattle.labelled_trees.specs.Leaves.{sum_leaves, sum_row, AllLeaves, AllRow}
 use Rattle.labelled_trees.specs.Labelled.{Fits, FitsRow}
 use Rattle.labelled_trees.proofs.Rows.{width-row}

@@ -1,0 +1,3 @@
+pub mod Lists
+pub mod Residues
+pub mod Sums
