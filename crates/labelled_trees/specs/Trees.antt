@@ -1,5 +1,5 @@
 -- Planar rooted trees.
-use Rattle.std.specs.Prelude.{ℕ, List, [], ◌∷◌, ◌++◌}
+use Rattle.std.specs.Prelude.{ℕ, ◌+◌, List, [], ◌∷◌, ◌++◌}
 use Rattle.std.proofs.Common.{suc}
 
 -- A tree is a leaf with a value, or a vertex with a number (a generator or a label) and its inputs from left to right
@@ -66,3 +66,13 @@ IsNode (node l r) = Unit {0}
 abbrev pub IsLeaf : {A : Type 0} → Tree A → Type 0
 IsLeaf (leaf a) = Unit {0}
 IsLeaf (node l r) = ⊥
+
+-- how many vertices there are
+abbrev mutual
+  pub vertices : {A : Type 0} → Tree A → ℕ
+  vertices (leaf a) = 0
+  vertices (node l r) = suc (vertices_row r)
+
+  pub vertices_row : {A : Type 0} → Row A → ℕ
+  vertices_row none = 0
+  vertices_row (more t r) = vertices t + vertices_row r

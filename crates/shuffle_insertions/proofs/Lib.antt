@@ -1,0 +1,16 @@
+pub mod Comparing
+pub mod Counting
+pub mod Counts
+pub mod Determine
+pub mod Insertions
+pub mod Into
+pub mod Keys
+pub mod Listing
+pub mod Named
+pub mod Orders
+pub mod PathWords
+pub mod Paths
+pub mod Rising
+pub mod Splits
+pub mod TreeOrders
+pub mod Words

@@ -1,0 +1,7 @@
+pub mod Counting
+pub mod Keys
+pub mod Labels
+pub mod Listing
+pub mod Orders
+pub mod ShuffleTrees
+pub mod Slots

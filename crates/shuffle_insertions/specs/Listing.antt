@@ -1,0 +1,57 @@
+-- The list of all shuffle trees over a list of labels.
+use Rattle.std.specs.Prelude.{ℕ, ◌+◌, ◌≡◌, ◌<◌, List, [], ◌∷◌, ◌++◌, map}
+use Rattle.std.proofs.Common.{zero, suc}
+use Rattle.labelled_trees.specs.Trees.{Tree, Row, leaf, node, none, more}
+use Rattle.labelled_trees.specs.Leaves.{one_if}
+use Rattle.labelled_trees.specs.Labelled.{Fits}
+use Rattle.shuffle_insertions.specs.ShuffleTrees.{IsShuffle}
+
+-- how often an item stands in a list
+abbrev pub times : {X : Type 0} → Discrete X → X → List X → ℕ
+times dec x [] = 0
+times dec x (y ∷ l) = one_if (dec y x) + times dec x l
+
+-- f 0, f 1 and so on below b, joined
+abbrev pub joined_below : {X : Type 0} → ℕ → (ℕ → List X) → List X
+joined_below zero f = []
+joined_below (suc b) f = joined_below b f ++ f b
+
+-- for each way to divide the list in two, what f gives, joined
+abbrev pub joined_splits : {X : Type 0} → List ℕ → (List ℕ → List ℕ → List X) → List X
+joined_splits [] f = f [] []
+joined_splits (x ∷ l) f = joined_splits l (λ b c. f (x ∷ b) c) ++ joined_splits l (λ b c. f b (x ∷ c))
+
+abbrev pub each_with_each : List (Tree ℕ) → List (Row ℕ) → List (Row ℕ)
+each_with_each [] rs = []
+each_with_each (t ∷ ts) rs = map (λ r. more t r) rs ++ each_with_each ts rs
+
+-- rows of k inputs over the leaf numbers, which rise, where t lists the trees over given numbers: the least number stands in the first input
+abbrev pub rows : (List ℕ → List (Tree ℕ)) → ℕ → List ℕ → List (Row ℕ)
+rows t zero [] = none ∷ []
+rows t zero (a ∷ l) = []
+rows t (suc k) [] = []
+rows t (suc k) (a ∷ l) = joined_splits l (λ b c. each_with_each (t (a ∷ b)) (rows t k c))
+
+abbrev pub lone : List ℕ → List (Tree ℕ)
+lone [] = []
+lone (a ∷ []) = leaf a ∷ []
+lone (a ∷ (b ∷ l)) = []
+
+-- the shuffle trees of at most so many levels over the leaf numbers, which rise
+abbrev pub shuffles : ℕ → (ℕ → ℕ) → ℕ → List ℕ → List (Tree ℕ)
+shuffles count arity zero l = []
+shuffles count arity (suc levels) l = lone l ++ joined_below count (λ g. map (λ r. node g r) (rows (shuffles count arity levels) (arity g) l))
+
+-- 1 to n
+abbrev pub upto : ℕ → List ℕ
+upto zero = []
+upto (suc n) = upto n ++ (suc n ∷ [])
+
+-- 04 section 6, where a label stands for each of the words of its generator
+abbrev pub all_trees : ℕ → (ℕ → ℕ) → ℕ → List (Tree ℕ)
+all_trees count arity n = shuffles count arity n (upto n)
+
+-- the trees of the set, each once
+pub record IsListing (count : ℕ) (arity : ℕ → ℕ) (n : ℕ) (dec : Discrete (Tree ℕ)) (l : List (Tree ℕ)) : Type 0 where
+  pub only : (t : Tree ℕ) → 0 < times dec t l → IsShuffle n t × Fits arity t
+  pub each : (t : Tree ℕ) → IsShuffle n t → Fits arity t → times dec t l ≡ 1

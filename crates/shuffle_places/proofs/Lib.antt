@@ -1,0 +1,9 @@
+pub mod AllMultiples
+pub mod Cuts
+pub mod Frames
+pub mod Numberings
+pub mod Overlaps
+pub mod Overlays
+pub mod PlacesOf
+pub mod Sets
+pub mod Vertices
