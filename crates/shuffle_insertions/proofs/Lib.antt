@@ -5,6 +5,7 @@ pub mod Determine
 pub mod Insertions
 pub mod Into
 pub mod Keys
+pub mod ListedRows
 pub mod Listing
 pub mod Named
 pub mod Orders
@@ -13,4 +14,5 @@ pub mod Paths
 pub mod Rising
 pub mod Splits
 pub mod TreeOrders
+pub mod Upto
 pub mod Words

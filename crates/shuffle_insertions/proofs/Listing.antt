@@ -1,6 +1,5 @@
 -- The list of all shuffle trees has each of them once, and no others.
 use Rattle.std.proofs.Common.{◌≡◌, ◌≢◌, ℕ, zero, suc, ◌+◌, ◌-◌, ◌*◌, ◌<◌, ◌≤◌, List, [], ◌∷◌, map, refl, sym, ◌∙◌, ap, arith, subst, inl, inr, ◌⊎◌}
-use mathlib.Core.List.{◌++◌}
 use mathlib.Core.Path.{ap₂}
 use native.Mathlib.Decide.{ℕ_discrete, dec_lt}
 use Rattle.labelled_trees.specs.Trees.{Tree, Row, leaf, node, none, more, vertices, vertices_row, width}
@@ -14,17 +13,11 @@ use Rattle.labelled_trees.proofs.Leaves.{by_leaf, at_row, one_if-no, one_if-yes}
 use Rattle.labelled_trees.specs.RangeSums.{range_sum}
 use Rattle.labelled_trees.proofs.RangeSums.{range_sum-one, range_sum-past, range_sum_ext, by_counts}
 use Rattle.shuffle_insertions.proofs.Rising.{least-occurs, least_row-le}
-use Rattle.modular_sums.proofs.Lists.{tail_same, mem_either, Rises-append, mem_right, mem_left}
-use Rattle.shuffle_insertions.proofs.Splits.{Split, count, split_count, mem_left_split, mem_right_split, left_rises, right_rises, count_mem, mem_count, rises_once, times-append, times-splits, times-below, sum_zero, sum_some, sum_one}
+use Rattle.modular_sums.proofs.Lists.{tail_same}
+use Rattle.shuffle_insertions.proofs.Splits.{Split, count, split_count, mem_left_split, mem_right_split, left_rises, right_rises, count_mem, mem_count, times-append, times-splits, times-below, sum_zero, sum_some, sum_one}
 use Rattle.shuffle_insertions.proofs.Insertions.{once_of}
-
-one_if_and : (P Q R : Type 0) (d : Dec P) (e : Dec Q) (f : Dec R) → (P → Q × R) → (Q → R → P) → one_if d ≡ one_if e * one_if f
-one_if_and P Q R (yes p) (yes q) (yes r) f g = omega arith
-one_if_and P Q R (yes p) (no q) e f g = absurd (q (f p).0)
-one_if_and P Q R (yes p) (yes q) (no r) f g = absurd (r (f p).1)
-one_if_and P Q R (no p) (yes q) (yes r) f g = absurd (p (g q r))
-one_if_and P Q R (no p) (no q) e f g = omega arith
-one_if_and P Q R (no p) (yes q) (no r) f g = omega arith
+use Rattle.shuffle_insertions.proofs.ListedRows.{times_node, none_each, node_lone, leaf_node, times_each}
+use Rattle.shuffle_insertions.proofs.Upto.{upto_rises, upto_count}
 
 -- a tree over the leaf numbers of a list
 pub record Good (arity : ℕ → ℕ) (l : List ℕ) (t : Tree ℕ) : Type 0 where
@@ -72,41 +65,6 @@ first_of (a ∷ l) (more t r) h g n e =
     member (inr m) = let k = h.0 (least t) m in omega arith
 
 module _ (labels : ℕ) (arity : ℕ → ℕ) (are : AreLabels labels arity) (dec : Discrete (Tree ℕ)) (decr : Discrete (Row ℕ)) where
-  pub times_more : (t : Tree ℕ) (r : Row ℕ) (u : Tree ℕ) (rs : List (Row ℕ)) → times decr (more t r) (map (λ s. more u s) rs) ≡ one_if (dec u t) * times decr r rs
-  times_more t r u [] = omega arith
-  times_more t r u (s ∷ rs) =
-      let e = one_if_and (more u s ≡ more t r) (u ≡ t) (s ≡ r) (decr (more u s) (more t r)) (dec u t) (decr s r) (λ p. (cc, cc)) (λ p q. cc) in
-      ap₂ (λ m n. m + n) e (times_more t r u rs) ∙ let k : one_if (dec u t) * one_if (decr s r) + one_if (dec u t) * times decr r rs ≡ one_if (dec u t) * (one_if (decr s r) + times decr r rs) = omega arith in k
-
-  pub times_each : (t : Tree ℕ) (r : Row ℕ) (ts : List (Tree ℕ)) (rs : List (Row ℕ)) → times decr (more t r) (each_with_each ts rs) ≡ times dec t ts * times decr r rs
-  times_each t r [] rs = omega arith
-  times_each t r (u ∷ ts) rs =
-      times-append decr (more t r) (map (λ s. more u s) rs) (each_with_each ts rs) ∙ ap₂ (λ m n. m + n) (times_more t r u rs) (times_each t r ts rs)
-      ∙ let k : one_if (dec u t) * times decr r rs + times dec t ts * times decr r rs ≡ (one_if (dec u t) + times dec t ts) * times decr r rs = omega arith in k
-
-  pub none_more : (u : Tree ℕ) (rs : List (Row ℕ)) → times decr none (map (λ s. more u s) rs) ≡ 0
-  none_more u [] = refl
-  none_more u (s ∷ rs) = let e = one_if-no (decr (more u s) none) (λ p. cc p) in omega (arith, e, none_more u rs)
-
-  pub none_each : (ts : List (Tree ℕ)) (rs : List (Row ℕ)) → times decr none (each_with_each ts rs) ≡ 0
-  none_each [] rs = refl
-  none_each (u ∷ ts) rs = times-append decr none (map (λ s. more u s) rs) (each_with_each ts rs) ∙ let e = none_more u rs in let f = none_each ts rs in omega (arith, e, f)
-
-  pub times_node : (g : ℕ) (r : Row ℕ) (h : ℕ) (rs : List (Row ℕ)) → times dec (node g r) (map (λ s. node h s) rs) ≡ one_if (ℕ_discrete g h) * times decr r rs
-  times_node g r h [] = omega arith
-  times_node g r h (s ∷ rs) =
-      let e = one_if_and (node h s ≡ node g r) (g ≡ h) (s ≡ r) (dec (node h s) (node g r)) (ℕ_discrete g h) (decr s r) (λ p. (cc, cc)) (λ p q. cc) in
-      ap₂ (λ m n. m + n) e (times_node g r h rs) ∙ let k : one_if (ℕ_discrete g h) * one_if (decr s r) + one_if (ℕ_discrete g h) * times decr r rs ≡ one_if (ℕ_discrete g h) * (one_if (decr s r) + times decr r rs) = omega arith in k
-
-  pub leaf_node : (n h : ℕ) (rs : List (Row ℕ)) → times dec (leaf n) (map (λ s. node h s) rs) ≡ 0
-  leaf_node n h [] = refl
-  leaf_node n h (s ∷ rs) = let e = one_if-no (dec (node h s) (leaf n)) (λ p. cc p) in omega (arith, e, leaf_node n h rs)
-
-  pub node_lone : (g : ℕ) (r : Row ℕ) (l : List ℕ) → times dec (node g r) (lone l) ≡ 0
-  node_lone g r [] = refl
-  node_lone g r (a ∷ []) = let e = one_if-no (dec (leaf a) (node g r)) (λ p. cc p) in omega (arith, e)
-  node_lone g r (a ∷ (b ∷ l)) = refl
-
   zero_range : (b : ℕ) (f : ℕ → ℕ) → ((i : ℕ) → f i ≡ 0) → range_sum b f ≡ 0
   zero_range zero f h = refl
   zero_range (suc b) f h = omega (arith, zero_range b f h, h b)
@@ -115,15 +73,15 @@ module _ (labels : ℕ) (arity : ℕ → ℕ) (are : AreLabels labels arity) (de
   times_leaf d n l =
       times-append dec (leaf n) (lone l) (joined_below labels (λ g. map (λ r. node g r) (rows (shuffles labels arity d) (arity g) l)))
       ∙ ap (λ m. times dec (leaf n) (lone l) + m) (times-below dec (leaf n) labels (λ g. map (λ r. node g r) (rows (shuffles labels arity d) (arity g) l))
-      ∙ zero_range labels (λ g. times dec (leaf n) (map (λ r. node g r) (rows (shuffles labels arity d) (arity g) l))) (λ g. leaf_node n g (rows (shuffles labels arity d) (arity g) l)))
+      ∙ zero_range labels (λ g. times dec (leaf n) (map (λ r. node g r) (rows (shuffles labels arity d) (arity g) l))) (λ g. leaf_node dec decr n g (rows (shuffles labels arity d) (arity g) l)))
       ∙ let k : times dec (leaf n) (lone l) + 0 ≡ times dec (leaf n) (lone l) = omega arith in k
 
   times_vertex : (d g : ℕ) (r : Row ℕ) (l : List ℕ) → times dec (node g r) (shuffles labels arity (suc d) l) ≡ range_sum labels (λ h. one_if (ℕ_discrete g h) * times decr r (rows (shuffles labels arity d) (arity h) l))
   times_vertex d g r l =
       times-append dec (node g r) (lone l) (joined_below labels (λ h. map (λ s. node h s) (rows (shuffles labels arity d) (arity h) l)))
-      ∙ ap₂ (λ m n. m + n) (node_lone g r l) (times-below dec (node g r) labels (λ h. map (λ s. node h s) (rows (shuffles labels arity d) (arity h) l))
+      ∙ ap₂ (λ m n. m + n) (node_lone dec decr g r l) (times-below dec (node g r) labels (λ h. map (λ s. node h s) (rows (shuffles labels arity d) (arity h) l))
       ∙ range_sum_ext labels (λ h. times dec (node g r) (map (λ s. node h s) (rows (shuffles labels arity d) (arity h) l))) (λ h. one_if (ℕ_discrete g h) * times decr r (rows (shuffles labels arity d) (arity h) l))
-      (λ h. times_node g r h (rows (shuffles labels arity d) (arity h) l)))
+      (λ h. times_node dec decr g r h (rows (shuffles labels arity d) (arity h) l)))
       ∙ let k : 0 + range_sum labels (λ h. one_if (ℕ_discrete g h) * times decr r (rows (shuffles labels arity d) (arity h) l)) ≡ range_sum labels (λ h. one_if (ℕ_discrete g h) * times decr r (rows (shuffles labels arity d) (arity h) l)) = omega arith in k
 
   module _ (t_of : List ℕ → List (Tree ℕ)) (only : (l : List ℕ) (t : Tree ℕ) → Rises l → 0 < times dec t (t_of l) → Good arity l t) where
@@ -152,13 +110,13 @@ module _ (labels : ℕ) (arity : ℕ → ℕ) (are : AreLabels labels arity) (de
     only_rows zero (a ∷ l) r h p = absurd (omega arith)
     only_rows (suc k) [] r h p = absurd (omega arith)
     only_rows (suc k) (a ∷ l) none h p =
-        let z = sum_zero l (λ b c. times decr none (each_with_each (t_of (a ∷ b)) (rows t_of k c))) (λ b c s. none_each (t_of (a ∷ b)) (rows t_of k c)) in
+        let z = sum_zero l (λ b c. times decr none (each_with_each (t_of (a ∷ b)) (rows t_of k c))) (λ b c s. none_each dec decr (t_of (a ∷ b)) (rows t_of k c)) in
         let e = times-splits decr none l (λ b c. each_with_each (t_of (a ∷ b)) (rows t_of k c)) in
         absurd (omega (arith, z, e, p))
     only_rows (suc k) (a ∷ l) (more t r) h p =
         let e = times-splits decr (more t r) l (λ b c. each_with_each (t_of (a ∷ b)) (rows t_of k c)) in
         let s = sum_some l (λ b c. times decr (more t r) (each_with_each (t_of (a ∷ b)) (rows t_of k c))) (omega (arith, e, p)) in
-        let m = times_each t r (t_of (a ∷ s.first)) (rows t_of k s.second) in
+        let m = times_each dec decr t r (t_of (a ∷ s.first)) (rows t_of k s.second) in
         let tp = pos_left (times dec t (t_of (a ∷ s.first))) (times decr r (rows t_of k s.second)) (times decr (more t r) (each_with_each (t_of (a ∷ s.first)) (rows t_of k s.second))) m s.some in
         let rp = pos_right (times dec t (t_of (a ∷ s.first))) (times decr r (rows t_of k s.second)) (times decr (more t r) (each_with_each (t_of (a ∷ s.first)) (rows t_of k s.second))) m s.some in
         join_good k a l s.first s.second t r h s.split
@@ -211,11 +169,11 @@ module _ (labels : ℕ) (arity : ℕ → ℕ) (are : AreLabels labels arity) (de
           ∙ sum_one l h.1 (λ i. occurs i t - one_if (ℕ_discrete a i)) (λ i. occurs_row i r) (λ b c. times decr (more t r) (each_with_each (t_of (a ∷ b)) (rows t_of k c)))
           (λ i. omega (arith, g.counts i, le i))
           (λ b c s m n. one_times (times dec t (t_of (a ∷ b))) (times decr r (rows t_of k c)) (times decr (more t r) (each_with_each (t_of (a ∷ b)) (rows t_of k c)))
-          (times_each t r (t_of (a ∷ b)) (rows t_of k c))
+          (times_each dec decr t r (t_of (a ∷ b)) (rows t_of k c))
           (each (a ∷ b) t (λ u q. h.0 u (mem_left_split s u q), left_rises s h.1) (first_good k a l b c t r e g m le) pt)
           (ih c (right_rises s h.1) (rest_good k c t r (right_rises s h.1) g.rising.2 g.belongs.1 (let i : suc (width r) ≡ suc k = g.inputs_are in omega arith) n)))
           (λ b c s i ne. zero_times (times dec t (t_of (a ∷ b))) (times decr r (rows t_of k c)) (times decr (more t r) (each_with_each (t_of (a ∷ b)) (rows t_of k c)))
-          (times_each t r (t_of (a ∷ b)) (rows t_of k c)) (not_there b c s i ne (dec_lt 0 (times dec t (t_of (a ∷ b))))))
+          (times_each dec decr t r (t_of (a ∷ b)) (rows t_of k c)) (not_there b c s i ne (dec_lt 0 (times dec t (t_of (a ∷ b))))))
         where
           not_there : (b c : List ℕ) → Split l b c → (i : ℕ) → (count i b ≢ occurs i t - one_if (ℕ_discrete a i)) → Dec (0 < times dec t (t_of (a ∷ b))) → times dec t (t_of (a ∷ b)) ≡ 0
           not_there b c s i ne (yes p) =
@@ -310,37 +268,6 @@ module _ (labels : ℕ) (arity : ℕ → ℕ) (are : AreLabels labels arity) (de
   few_leaves : (b : ℕ) (t : Tree ℕ) → occurs 0 t ≡ 0 → ((i : ℕ) → occurs i t ≤ 1) → range_sum (suc b) (λ i. occurs i t * 1) ≤ b
   few_leaves zero t z o = omega (arith, z)
   few_leaves (suc b) t z o = omega (arith, few_leaves b t z o, o (suc b))
-
-  upto_mem : (n u : ℕ) → Mem u (upto n) → (0 < u) × (u ≤ n)
-  upto_mem zero u h = absurd h
-  upto_mem (suc n) u h = go (mem_either u (upto n) (suc n ∷ []) h) (λ m. upto_mem n u m)
-    where
-      go : Mem u (upto n) ⊎ Mem u (suc n ∷ []) → (Mem u (upto n) → (0 < u) × (u ≤ n)) → (0 < u) × (u ≤ suc n)
-      go (inl m) f = let k = f m in (k.0, omega (arith, k.1))
-      go (inr (inl e)) f = (omega arith, omega arith)
-      go (inr (inr e)) f = absurd e
-
-  pub upto_rises : (n : ℕ) → Rises (upto n)
-  upto_rises zero = tt
-  upto_rises (suc n) = Rises-append (upto n) (suc n ∷ []) (upto_rises n) (λ u m. absurd m, tt) (λ u v m k. below u v (upto_mem n u m) k)
-    where
-      below : (u v : ℕ) → (0 < u) × (u ≤ n) → (v ≡ suc n) ⊎ ⊥ → u < v
-      below u v k (inl e) = omega (arith, k.1, e)
-      below u v k (inr e) = absurd e
-
-  pub upto_count : (n i : ℕ) → (0 < i → i ≤ n → count i (upto n) ≡ 1) × (0 < count i (upto n) → (0 < i) × (i ≤ n))
-  upto_count n i = (λ p le. one (mem_count i (upto n) (in_upto n i p le)), λ p. upto_mem n i (count_mem i (upto n) p))
-    where
-      in_upto : (n i : ℕ) → 0 < i → i ≤ n → Mem i (upto n)
-      in_upto zero i p le = absurd (omega arith)
-      in_upto (suc n) i p le = go (dec_lt n i) (λ k. in_upto n i p k)
-        where
-          go : Dec (n < i) → (i ≤ n → Mem i (upto n)) → Mem i (upto n ++ (suc n ∷ []))
-          go (yes h) f = mem_right i (upto n) (suc n ∷ []) (inl (omega arith))
-          go (no h) f = mem_left i (upto n) (suc n ∷ []) (f (omega (arith, h)))
-
-      one : 0 < count i (upto n) → count i (upto n) ≡ 1
-      one p = let k = rises_once (upto n) (upto_rises n) i in omega (arith, k, p)
 
   shuffle_of : (n : ℕ) (t : Tree ℕ) → Good arity (upto n) t → IsShuffle n t × Fits arity t
   shuffle_of n t g = (

@@ -7,12 +7,12 @@ use Rattle.std.specs.declared.cmp.Ordering.TheVariants.{Less, Equal, Greater}
 use Rattle.std.specs.Ordering.{nat_cmp, is_lt}
 use Rattle.std.specs.Cmp.Lexicographic.{slice_cmp}
 use Rattle.labelled_trees.specs.Trees.{Tree, IsNode, vertices}
-use Rattle.labelled_trees.specs.Equality.{tree_discrete, shape_discrete}
+use Rattle.labelled_trees.specs.Equality.{tree_discrete}
 use Rattle.shuffle_insertions.specs.ShuffleTrees.{IsShuffle}
 use Rattle.shuffle_places.specs.Cuts.{IsCut}
 use Rattle.modular_sums.specs.Lists.{Mem, Distinct, holds, has}
 use Rattle.shuffle_insertions.specs.Listing.{times, upto}
-use Rattle.shuffle_places.specs.Overlays.{shape, shapes_of}
+use Rattle.shuffle_places.specs.Overlays.{shape_discrete, shape, shapes_of}
 use Rattle.shuffle_places.specs.Numberings.{numberings}
 use Rattle.shuffle_places.specs.Places.{places}
 use Rattle.shuffle_places.specs.Multiples.{IsMultiple}

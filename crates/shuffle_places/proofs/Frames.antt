@@ -12,11 +12,11 @@ use Rattle.shuffle_places.specs.Cuts.{numbers, numbers_row, start, IsCut}
 use Rattle.labelled_trees.proofs.Grafts.{graft_assoc, graft_leaf}
 use Rattle.labelled_trees.proofs.GraftLeaves.{graft_ext, agree, AllLeaves_of_graft, sum_leaves-graft}
 use Rattle.labelled_trees.proofs.Factors.{factor}
-use Rattle.labelled_trees.proofs.Leaves.{by_leaf, at_leaf, AllLeaves-imp}
+use Rattle.labelled_trees.proofs.Leaves.{sum_leaves-same, by_leaf, at_leaf, AllLeaves-imp}
 use Rattle.labelled_trees.proofs.ContextLeaves.{sum_of_fill}
 use Rattle.shuffle_insertions.proofs.Rising.{rising_change, rising_of_fill}
 use Rattle.shuffle_insertions.proofs.Insertions.{InRange, all_among, once_of}
-use Rattle.labelled_trees.proofs.Ranks.{below-mono, below-lt, standard_each, standard_only}
+use Rattle.labelled_trees.proofs.Ranks.{same_if, below_sum, below-mono, below-lt, standard_each, standard_only}
 use Rattle.shuffle_insertions.proofs.Named.{parts_rise, occurs-named}
 
 mutual
@@ -57,7 +57,7 @@ module _ (m : ℕ) (f : Slot) (d : Tree ℕ) (hd : IsShuffle m d) (rise : PartsR
   rank_back (suc i) a =
       ap suc (below_sum (least (f.parts (suc i))) (graft d (λ j. leaf (least (f.parts j))))
       ∙ sum_leaves-graft d (λ j. leaf (least (f.parts j))) (λ x. one_if (dec_lt x (least (f.parts (suc i)))))
-      ∙ sum_same d (λ j. one_if (dec_lt (least (f.parts j)) (least (f.parts (suc i))))) (λ j. one_if (dec_lt j (suc i)))
+      ∙ sum_leaves-same d (λ j. one_if (dec_lt (least (f.parts j)) (least (f.parts (suc i))))) (λ j. one_if (dec_lt j (suc i)))
       (AllLeaves-imp d (InRange m) (λ j. one_if (dec_lt (least (f.parts j)) (least (f.parts (suc i)))) ≡ one_if (dec_lt j (suc i)))
       (λ j b. same_if (dec_lt (least (f.parts j)) (least (f.parts (suc i)))) (dec_lt j (suc i)) (down j (suc i) b a) (up j (suc i) b a)) (all_among m d hd))
       ∙ sym (below_sum (suc i) d) ∙ below_valid m d hd i (omega (arith, a.1)))

@@ -15,7 +15,9 @@ use Rattle.shuffle_insertions.proofs.Rising.{least-occurs}
 use Rattle.modular_sums.proofs.Lists.{tail_same}
 use Rattle.labelled_trees.proofs.Contexts.{node-eq, more-eq}
 use Rattle.shuffle_insertions.proofs.Splits.{Split, count, split_count, mem_left_split, mem_right_split, left_rises, right_rises, mem_count, times-splits, sum_zero, sum_some, sum_one}
-use Rattle.shuffle_insertions.proofs.Listing.{times_each, none_each, times_node, leaf_node, first_of, pos_left, pos_right, upto_rises, upto_count}
+use Rattle.shuffle_insertions.proofs.Listing.{first_of, pos_left, pos_right}
+use Rattle.shuffle_insertions.proofs.ListedRows.{times_each, none_each, times_node, leaf_node}
+use Rattle.shuffle_insertions.proofs.Upto.{upto_rises, upto_count}
 
 -- a tree over the leaf numbers of a list
 pub record Plain (l : List ℕ) (t : Tree ℕ) : Type 0 where
@@ -81,17 +83,14 @@ lone_once dec n (a ∷ (b ∷ l)) g = absurd (two (tail_same a n (b ∷ l) g.oth
         let o : one_if (ℕ_discrete b b) ≡ 1 = one_if-yes (ℕ_discrete b b) refl in
         omega (arith, g.counts b, z, o)
 
-nothing_wide : (g : ℕ) → g < 0 → 2 ≤ 0
-nothing_wide g h = absurd (omega arith)
-
 module _ (dec : Discrete (Tree ℕ)) (decr : Discrete (Row ℕ)) where
   abbrev each_is : (t : Tree ℕ) (r : Row ℕ) (ts : List (Tree ℕ)) (rs : List (Row ℕ)) → times decr (more t r) (each_with_each ts rs) ≡ times dec t ts * times decr r rs
-  each_is t r ts rs = times_each 0 (λ g. 0) nothing_wide dec decr t r ts rs
+  each_is t r ts rs = times_each dec decr t r ts rs
 
   node_in : (t : Tree ℕ) (g : ℕ) (rs : List (Row ℕ)) → 0 < times dec t (map (λ s. node g s) rs) → (r : Row ℕ) × (t ≡ node g r) × (0 < times decr r rs)
-  node_in (leaf n) g rs p = absurd (let z = leaf_node 0 (λ g. 0) nothing_wide dec decr n g rs in omega (arith, z, p))
+  node_in (leaf n) g rs p = absurd (let z = leaf_node dec decr n g rs in omega (arith, z, p))
   node_in (node h r) g rs p =
-      let e = times_node 0 (λ g. 0) nothing_wide dec decr h r g rs in
+      let e = times_node dec decr h r g rs in
       let a = pos_left (one_if (ℕ_discrete h g)) (times decr r rs) (times dec (node h r) (map (λ s. node g s) rs)) e p in
       let b = pos_right (one_if (ℕ_discrete h g)) (times decr r rs) (times dec (node h r) (map (λ s. node g s) rs)) e p in
       (r, ap (λ k. node k r) (same (ℕ_discrete h g) a), b)
@@ -119,7 +118,7 @@ module _ (dec : Discrete (Tree ℕ)) (decr : Discrete (Row ℕ)) where
     only_plain_row none (a ∷ l) r h p = absurd (omega arith)
     only_plain_row (more f fs) [] r h p = absurd (omega arith)
     only_plain_row (more f fs) (a ∷ l) none h p =
-        let z = sum_zero l (λ b c. times decr none (each_with_each (numberings f (a ∷ b)) (numberings_row fs c))) (λ b c s. none_each 0 (λ g. 0) nothing_wide dec decr (numberings f (a ∷ b)) (numberings_row fs c)) in
+        let z = sum_zero l (λ b c. times decr none (each_with_each (numberings f (a ∷ b)) (numberings_row fs c))) (λ b c s. none_each dec decr (numberings f (a ∷ b)) (numberings_row fs c)) in
         let e = times-splits decr none l (λ b c. each_with_each (numberings f (a ∷ b)) (numberings_row fs c)) in
         absurd (omega (arith, z, e, p))
     only_plain_row (more f fs) (a ∷ l) (more t r) h p =
@@ -176,7 +175,7 @@ module _ (dec : Discrete (Tree ℕ)) (decr : Discrete (Row ℕ)) where
     once_plain (node k none) l (node m (more t r)) h g e = absurd (cc e)
     once_plain (node k (more f fs)) l (node m r) h g e =
         let d = node-eq m k (shape_row r) (more f fs) e in
-        times_node 0 (λ g. 0) nothing_wide dec decr m r k (numberings_row (more f fs) l)
+        times_node dec decr m r k (numberings_row (more f fs) l)
         ∙ let o = one_if-yes (ℕ_discrete m k) d.0 in
         let p = once_plain_row (more f fs) l r h record { rising = g.rising.1; counts = g.counts; first = λ i. (g.others, g.first_is) } d.1 in
         one_times (one_if (ℕ_discrete m k)) (times decr r (numberings_row (more f fs) l)) (one_if (ℕ_discrete m k) * times decr r (numberings_row (more f fs) l)) refl o p
@@ -206,10 +205,10 @@ all_numbered n form dec = record {
 }
   where
     rises : Rises (upto n)
-    rises = upto_rises 0 (λ g. 0) nothing_wide dec row_discrete n
+    rises = upto_rises n
 
     in_range : (i : ℕ) → (0 < i → i ≤ n → count i (upto n) ≡ 1) × (0 < count i (upto n) → (0 < i) × (i ≤ n))
-    in_range i = upto_count 0 (λ g. 0) nothing_wide dec row_discrete n i
+    in_range i = upto_count n i
 
     counts : (t : Tree ℕ) → IsShuffle n t → (i : ℕ) → occurs i t ≡ count i (upto n)
     counts t h i = go (dec_lt 0 (occurs i t)) (dec_lt 0 (count i (upto n)))

@@ -13,9 +13,9 @@ use Rattle.labelled_trees.proofs.Grafts.{graft_assoc, graft_leaf}
 use Rattle.labelled_trees.proofs.Contexts.{graft-fill}
 use Rattle.labelled_trees.proofs.Unions.{join-over_first, parts-over_first, union_comm, union-over_first}
 use Rattle.labelled_trees.proofs.GraftLeaves.{graft_ext, agree, AllLeaves-graft, AllLeaves_of_graft}
-use Rattle.labelled_trees.proofs.Factors.{factor}
-use Rattle.labelled_trees.proofs.Leaves.{by_leaf, at_leaf, AllLeaves-imp, AllLeaves-and}
-use Rattle.labelled_trees.proofs.ContextLeaves.{sum_of_fill}
+use Rattle.labelled_trees.proofs.Factors.{refine, Refined, factor}
+use Rattle.labelled_trees.proofs.Leaves.{AllLeaves-each, by_leaf, at_leaf, AllLeaves-imp, AllLeaves-and}
+use Rattle.labelled_trees.proofs.ContextLeaves.{all_of_fill, sum_of_fill}
 use Rattle.shuffle_insertions.proofs.Rising.{head, rising_change}
 use Rattle.shuffle_insertions.proofs.Insertions.{InRange}
 use Rattle.labelled_trees.proofs.Ranks.{below-mono, below-lt, below_bound, standard_each, standard_only}
@@ -265,7 +265,7 @@ module _ (ka kb n : ℕ) (a b : Tree ℕ) (front : Ctx ℕ) (part : Tree ℕ) (s
       (sym (graft_assoc part (λ i. leaf (fine_first.by i)) (λ v. leaf (graft v (λ w. leaf (rank w))))) ∙ ap (λ x. graft x (λ v. leaf (graft v (λ w. leaf (rank w))))) (sym fine_first.is))
       (sym (graft_assoc b (λ i. leaf (fine_second.by i)) (λ v. leaf (graft v (λ w. leaf (rank w))))) ∙ ap (λ x. graft x (λ v. leaf (graft v (λ w. leaf (rank w))))) (sym fine_second.is))
       ∙ union-over_first (λ v. v) (λ x y e. e) (λ w. leaf (rank w)) first_pattern second_pattern one_tree))
-      (AllLeaves-graft (union first_pattern second_pattern) (λ x. leaf (leaf (rank x))) IsLeaf (all_given (union first_pattern second_pattern) (λ x. Unit {0}) (λ x. tt)))
+      (AllLeaves-graft (union first_pattern second_pattern) (λ x. leaf (leaf (rank x))) IsLeaf (AllLeaves-each (union first_pattern second_pattern) (λ x. Unit {0}) (λ x. tt)))
 
   pub common : Common ka kb n a b front part s t
   unfolding size placed

@@ -5,9 +5,9 @@ use native.Mathlib.Decide.{ℕ_discrete}
 use Rattle.std.specs.Ordering.{nat_cmp, is_lt}
 use Rattle.std.specs.Cmp.Lexicographic.{slice_cmp}
 use Rattle.labelled_trees.specs.Trees.{Tree, vertices}
-use Rattle.labelled_trees.specs.Equality.{tree_discrete, shape_discrete}
+use Rattle.labelled_trees.specs.Equality.{tree_discrete}
 use Rattle.shuffle_insertions.specs.Listing.{upto}
-use Rattle.shuffle_places.specs.Overlays.{shapes_of}
+use Rattle.shuffle_places.specs.Overlays.{shape_discrete, shapes_of}
 use Rattle.shuffle_places.specs.Numberings.{numberings}
 use Rattle.shuffle_places.specs.Places.{places}
 

@@ -1,7 +1,7 @@
 -- Places as patterns: a form that serves the proofs.
 use Rattle.std.specs.Prelude.{ℕ, ◌+◌, ◌≡◌, List, [], ◌∷◌, ◌++◌}
 use Rattle.std.proofs.Common.{suc, Bool, true, false}
-use Rattle.labelled_trees.specs.Trees.{Tree, Row, leaf, node, none, more, graft, join, IsNode}
+use Rattle.labelled_trees.specs.Trees.{vertices, Tree, Row, leaf, node, none, more, graft, join, IsNode}
 use Rattle.labelled_trees.specs.Contexts.{Ctx, RowCtx, hole, inside, here, past, fill}
 use Rattle.shuffle_insertions.specs.ShuffleTrees.{least}
 use Rattle.labelled_trees.specs.Ranks.{standard}

@@ -1,5 +1,8 @@
 -- The shapes that a small common multiple can have.
-use Rattle.std.specs.Prelude.{ℕ, List, [], ◌∷◌, ◌++◌, map}
+use Rattle.std.specs.Prelude.{ℕ, ◌≡◌, List, [], ◌∷◌, ◌++◌, map}
+
+use Rattle.std.proofs.Common.{refl}
+use Rattle.labelled_trees.specs.Equality.{tree_discrete_by}
 use Rattle.labelled_trees.specs.Trees.{Tree, Row, leaf, node, none, more, graft, graft_row}
 use Rattle.labelled_trees.specs.Unions.{union}
 
@@ -23,3 +26,11 @@ abbrev mutual
 -- candidates for the shapes of the small common multiples of a and b; which of their numberings are, is tested
 abbrev pub shapes_of : Tree ℕ → Tree ℕ → List (Tree (Unit {0}))
 shapes_of a b = overlays (shape a) (shape b) ++ overlays (shape b) (shape a)
+
+unfoldable pub one_unit : (a b : Unit {0}) → Dec (a ≡ b)
+one_unit a b = yes refl
+
+-- whether two shapes are one
+unfoldable pub shape_discrete : (t u : Tree (Unit {0})) → Dec (t ≡ u)
+unfolding one_unit
+shape_discrete = tree_discrete_by one_unit

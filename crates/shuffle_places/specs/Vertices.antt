@@ -1,5 +1,5 @@
 -- The vertices of a tree, numbered from 1 in preorder.
-use Rattle.std.specs.Prelude.{ℕ, ◌+◌, ◌≡◌, [], ◌∷◌, ◌++◌}
+use Rattle.std.specs.Prelude.{ℕ, ◌+◌}
 use Rattle.std.proofs.Common.{suc}
 use Rattle.labelled_trees.specs.Trees.{Tree, Row, leaf, node, none, more}
 
