@@ -68,85 +68,85 @@ module _ (M : Type 0) (dec : Discrete M) (q : ℕ) where
   kept_sum m x (yes e) l f c s h = rw (e, h) (omega arith)
   kept_sum m x (no n) l f c s h = omega arith
 
-  sum_without : (m : M) (e : List (ℕ × M)) (f : M → ℕ) → sum_over e f ≡ coef M dec e m * f m + sum_over (without m e) f
+  sum_without : (m : M) (e : List (ℕ × M)) (f : M → ℕ) → sum_over e f ≡ coef dec e m * f m + sum_over (without m e) f
   unfolding without coef
   sum_without m [] f = omega arith
-  sum_without m (x ∷ e) f = kept_sum m x (dec x.1 m) (without m e) f (coef M dec e m) (sum_over e f) (sum_without m e f)
+  sum_without m (x ∷ e) f = kept_sum m x (dec x.1 m) (without m e) f (coef dec e m) (sum_over e f) (sum_without m e f)
 
-  kept_same : (m : M) (x : ℕ × M) (d : Dec (x.1 ≡ m)) (l : List (ℕ × M)) → coef M dec l m ≡ 0 → coef M dec (keep d x l) m ≡ 0
+  kept_same : (m : M) (x : ℕ × M) (d : Dec (x.1 ≡ m)) (l : List (ℕ × M)) → coef dec l m ≡ 0 → coef dec (keep d x l) m ≡ 0
   unfolding coef
   kept_same m x (yes e) l h = h
   kept_same m x (no n) l h = go (dec x.1 m)
     where
-      go : (d : Dec (x.1 ≡ m)) → hit d x.0 + coef M dec l m ≡ 0
+      go : (d : Dec (x.1 ≡ m)) → hit d x.0 + coef dec l m ≡ 0
       go (yes e) = absurd (n e)
       go (no _) = omega arith
 
-  without_same : (m : M) (e : List (ℕ × M)) → coef M dec (without m e) m ≡ 0
+  without_same : (m : M) (e : List (ℕ × M)) → coef dec (without m e) m ≡ 0
   unfolding without coef
   without_same m [] = refl
   without_same m (x ∷ e) = kept_same m x (dec x.1 m) (without m e) (without_same m e)
 
-  kept_other : (m t : M) → (t ≢ m) → (x : ℕ × M) (d : Dec (x.1 ≡ m)) (l : List (ℕ × M)) (c : ℕ) → coef M dec l t ≡ c → coef M dec (keep d x l) t ≡ hit (dec x.1 t) x.0 + c
+  kept_other : (m t : M) → (t ≢ m) → (x : ℕ × M) (d : Dec (x.1 ≡ m)) (l : List (ℕ × M)) (c : ℕ) → coef dec l t ≡ c → coef dec (keep d x l) t ≡ hit (dec x.1 t) x.0 + c
   unfolding coef
   kept_other m t ne x (yes e) l c h = go (dec x.1 t)
     where
-      go : (d : Dec (x.1 ≡ t)) → coef M dec l t ≡ hit d x.0 + c
+      go : (d : Dec (x.1 ≡ t)) → coef dec l t ≡ hit d x.0 + c
       go (yes f) = absurd (ne (sym f ∙ e))
       go (no _) = omega arith
   kept_other m t ne x (no n) l c h = ap (λ k. hit (dec x.1 t) x.0 + k) h
 
-  without_other : (m t : M) → (t ≢ m) → (e : List (ℕ × M)) → coef M dec (without m e) t ≡ coef M dec e t
+  without_other : (m t : M) → (t ≢ m) → (e : List (ℕ × M)) → coef dec (without m e) t ≡ coef dec e t
   unfolding without coef
   without_other m t ne [] = refl
-  without_other m t ne (x ∷ e) = kept_other m t ne x (dec x.1 m) (without m e) (coef M dec e t) (without_other m t ne e)
+  without_other m t ne (x ∷ e) = kept_other m t ne x (dec x.1 m) (without m e) (coef dec e t) (without_other m t ne e)
 
-  head_other : (x : ℕ × M) (e : List (ℕ × M)) (t : M) → (t ≢ x.1) → coef M dec (x ∷ e) t ≡ coef M dec e t
+  head_other : (x : ℕ × M) (e : List (ℕ × M)) (t : M) → (t ≢ x.1) → coef dec (x ∷ e) t ≡ coef dec e t
   unfolding coef
   head_other x e t ne = go (dec x.1 t)
     where
-      go : (d : Dec (x.1 ≡ t)) → hit d x.0 + coef M dec e t ≡ coef M dec e t
+      go : (d : Dec (x.1 ≡ t)) → hit d x.0 + coef dec e t ≡ coef dec e t
       go (yes f) = absurd (ne (sym f))
       go (no _) = omega arith
 
-  head_sum : (x : ℕ × M) (e : List (ℕ × M)) (f : M → ℕ) → sum_over (x ∷ e) f ≡ coef M dec (x ∷ e) x.1 * f x.1 + sum_over (without x.1 e) f
+  head_sum : (x : ℕ × M) (e : List (ℕ × M)) (f : M → ℕ) → sum_over (x ∷ e) f ≡ coef dec (x ∷ e) x.1 * f x.1 + sum_over (without x.1 e) f
   unfolding coef
   head_sum x e f = go (dec x.1 x.1)
     where
-      go : (d : Dec (x.1 ≡ x.1)) → x.0 * f x.1 + sum_over e f ≡ (hit d x.0 + coef M dec e x.1) * f x.1 + sum_over (without x.1 e) f
+      go : (d : Dec (x.1 ≡ x.1)) → x.0 * f x.1 + sum_over e f ≡ (hit d x.0 + coef dec e x.1) * f x.1 + sum_over (without x.1 e) f
       go (yes _) = omega (arith, sum_without x.1 e f)
       go (no n) = absurd (n refl)
 
-  sums_zero : (n : ℕ) (e : List (ℕ × M)) (f : M → ℕ) → size e ≤ n → ((t : M) → Alike q (coef M dec e t) 0) → Alike q (sum_over e f) 0
+  sums_zero : (n : ℕ) (e : List (ℕ × M)) (f : M → ℕ) → size e ≤ n → ((t : M) → Alike q (coef dec e t) 0) → Alike q (sum_over e f) 0
   sums_zero n [] f le h = refl
   sums_zero zero (x ∷ e) f le h = absurd (omega arith)
   sums_zero (suc n) (x ∷ e) f le h =
       let k : Alike q (sum_over (without x.1 e) f) 0 = sums_zero n (without x.1 e) f (omega (arith, without_size x.1 e, le)) (λ t. at t (dec t x.1)) in
       let z : 0 * f x.1 + 0 ≡ 0 = omega arith in
-      rw (head_sum x e f) (rw z at (alike_add q (coef M dec (x ∷ e) x.1 * f x.1) (0 * f x.1) _ _ (alike_mul q (coef M dec (x ∷ e) x.1) 0 (f x.1) (f x.1) (h x.1) refl) k))
+      rw (head_sum x e f) (rw z at (alike_add q (coef dec (x ∷ e) x.1 * f x.1) (0 * f x.1) _ _ (alike_mul q (coef dec (x ∷ e) x.1) 0 (f x.1) (f x.1) (h x.1) refl) k))
     where
-      at : (t : M) → Dec (t ≡ x.1) → Alike q (coef M dec (without x.1 e) t) 0
+      at : (t : M) → Dec (t ≡ x.1) → Alike q (coef dec (without x.1 e) t) 0
       at t (yes p) = rw p (rw (without_same x.1 e) refl)
       at t (no ne) = rw (without_other x.1 t ne e, ← head_other x e t ne) (h t)
 
-  sum_over-scale : (c : ℕ) (e : List (ℕ × M)) (f : M → ℕ) → sum_over (scale M dec c e) f ≡ c * sum_over e f
+  sum_over-scale : (c : ℕ) (e : List (ℕ × M)) (f : M → ℕ) → sum_over (scale c e) f ≡ c * sum_over e f
   unfolding scale
   sum_over-scale c [] f = omega arith
   sum_over-scale c (x ∷ e) f = omega (arith, sum_over-scale c e f)
 
   -- a sum of values at the trees of an element depends on its coefficients alone
-  pub same_sum : (e g : List (ℕ × M)) (f : M → ℕ) → Same M dec q e g → Alike q (sum_over e f) (sum_over g f)
+  pub same_sum : (e g : List (ℕ × M)) (f : M → ℕ) → Same dec q e g → Alike q (sum_over e f) (sum_over g f)
   same_sum e g f h =
-      let z : Alike q (sum_over (e ++ scale M dec q g) f) 0 = sums_zero (size (e ++ scale M dec q g)) (e ++ scale M dec q g) f (omega arith) gone in
-      let s : Alike q (sum_over e f + q * sum_over g f) 0 = rw (sum_over-append e (scale M dec q g) f, sum_over-scale q g f) at z in
+      let z : Alike q (sum_over (e ++ scale q g) f) 0 = sums_zero (size (e ++ scale q g)) (e ++ scale q g) f (omega arith) gone in
+      let s : Alike q (sum_over e f + q * sum_over g f) 0 = rw (sum_over-append e (scale q g) f, sum_over-scale q g f) at z in
       settle (sum_over e f) (sum_over g f) s
     where
-      gone : (t : M) → Alike q (coef M dec (e ++ scale M dec q g) t) 0
+      gone : (t : M) → Alike q (coef dec (e ++ scale q g) t) 0
       gone t =
-          let a : Alike q (coef M dec e t + q * coef M dec g t) (coef M dec g t + q * coef M dec g t) = alike_add q (coef M dec e t) (coef M dec g t) _ _ (h t) refl in
-          let b : Alike q (0 + (coef M dec g t + q * coef M dec g t)) 0 = alike_drop q 0 (coef M dec g t) in
-          let z : 0 + (coef M dec g t + q * coef M dec g t) ≡ coef M dec g t + q * coef M dec g t = omega arith in
-          rw (coef-append M dec e (scale M dec q g) t, coef-scale M dec q g t) (a ∙ (rw z at b))
+          let a : Alike q (coef dec e t + q * coef dec g t) (coef dec g t + q * coef dec g t) = alike_add q (coef dec e t) (coef dec g t) _ _ (h t) refl in
+          let b : Alike q (0 + (coef dec g t + q * coef dec g t)) 0 = alike_drop q 0 (coef dec g t) in
+          let z : 0 + (coef dec g t + q * coef dec g t) ≡ coef dec g t + q * coef dec g t = omega arith in
+          rw (coef-append dec e (scale q g) t, coef-scale dec q g t) (a ∙ (rw z at b))
 
       settle : (a b : ℕ) → Alike q (a + q * b) 0 → Alike q a b
       settle a b s =
@@ -155,19 +155,20 @@ module _ (M : Type 0) (dec : Discrete M) (q : ℕ) where
           let e2 : 0 + b ≡ b = omega arith in
           sym (alike_drop q a b) ∙ (rw (e1, e2) at k)
 
-  pub Same-moved : (f : M → M) (e g : List (ℕ × M)) → Same M dec q e g → Same M dec q (moved f e) (moved f g)
-  Same-moved f e g h t = rw (coef-moved M dec q f e t, coef-moved M dec q f g t) (same_sum e g (λ x. hit (dec (f x) t) 1) h)
+-- the images of one sum are one sum
+pub Same-moved : {M N : Type 0} (dec : Discrete M) (decn : Discrete N) (q : ℕ) (f : M → N) (e g : List (ℕ × M)) → Same dec q e g → Same decn q (moved f e) (moved f g)
+Same-moved {M} dec decn q f e g h t = rw (coef-moved decn f e t, coef-moved decn f g t) (same_sum M dec q e g (λ x. hit (decn (f x) t) 1) h)
 
-  pub moved-scale : (f : M → M) (c : ℕ) (e : List (ℕ × M)) → moved f (scale M dec c e) ≡ scale M dec c (moved f e)
-  unfolding scale
-  moved-scale f c [] = refl
-  moved-scale f c (x ∷ e) = ap (λ m. (c * x.0, f x.1) ∷ m) (moved-scale f c e)
+pub moved-scale : {M N : Type 0} (f : M → N) (c : ℕ) (e : List (ℕ × M)) → moved f (scale c e) ≡ scale c (moved f e)
+unfolding scale
+moved-scale f c [] = refl
+moved-scale f c (x ∷ e) = ap (λ m. (c * x.0, f x.1) ∷ m) (moved-scale f c e)
 
-  -- the image of a sum of instances is the sum of their images
-  pub moved-expand : (I J : Type 0) (vi : I → List (ℕ × M)) (vj : J → List (ℕ × M)) (f : M → M) (g : I → J) → ((i : I) → vj (g i) ≡ moved f (vi i))
-      → (l : List (ℕ × I)) → moved f (expand M dec I vi l) ≡ expand M dec J vj (moved g l)
-  unfolding expand
-  moved-expand I J vi vj f g h [] = refl
-  moved-expand I J vi vj f g h (x ∷ l) =
-      moved-append f (scale M dec x.0 (vi x.1)) (expand M dec I vi l)
-      ∙ ap₂ (λ a b. a ++ b) (moved-scale f x.0 (vi x.1) ∙ ap (scale M dec x.0) (sym (h x.1))) (moved-expand I J vi vj f g h l)
+-- the image of a sum of instances is the sum of their images
+pub moved-expand : {I J M N : Type 0} (vi : I → List (ℕ × M)) (vj : J → List (ℕ × N)) (f : M → N) (g : I → J) → ((i : I) → vj (g i) ≡ moved f (vi i))
+    → (l : List (ℕ × I)) → moved f (expand vi l) ≡ expand vj (moved g l)
+unfolding expand
+moved-expand vi vj f g h [] = refl
+moved-expand vi vj f g h (x ∷ l) =
+    moved-append f (scale x.0 (vi x.1)) (expand vi l)
+    ∙ ap₂ (λ a b. a ++ b) (moved-scale f x.0 (vi x.1) ∙ ap (scale x.0) (sym (h x.1))) (moved-expand vi vj f g h l)

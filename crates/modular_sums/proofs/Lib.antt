@@ -1,5 +1,6 @@
 pub mod Diamond
 pub mod Images
+pub mod Laws
 pub mod Lists
 pub mod Ranks
 pub mod Replacements

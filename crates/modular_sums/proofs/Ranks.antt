@@ -1,14 +1,7 @@
 -- A rank for a strict order on the things of a list: how many of them are less.
-use Rattle.std.proofs.Common.{◌≡◌, ℕ, ◌+◌, ◌<◌, ◌≤◌, List, [], ◌∷◌, Bool, true, false, refl, ap, arith, subst, inl, inr, ◌⊎◌}
+use Rattle.std.proofs.Common.{◌≡◌, ◌<◌, ◌≤◌, List, [], ◌∷◌, Bool, true, false, refl, ap, arith, subst, inl, inr, ◌⊎◌}
 use Rattle.modular_sums.specs.Lists.{Mem}
-
-abbrev bit : Bool → ℕ
-bit true = 1
-bit false = 0
-
-abbrev pub count_less : {X : Type 0} → (X → X → Bool) → List X → X → ℕ
-count_less less [] t = 0
-count_less less (x ∷ l) t = bit (less x t) + count_less less l t
+use Rattle.modular_sums.specs.Ranks.{bit, count_less}
 
 bit_le : (b c : Bool) → (b ≡ true → c ≡ true) → bit b ≤ bit c
 bit_le true true h = omega arith

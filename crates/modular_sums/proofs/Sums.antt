@@ -8,47 +8,43 @@ pub hit-mul : {A : Type 0} (d : Dec A) (k c : ℕ) → hit d (k * c) ≡ k * hit
 hit-mul (yes _) k c = refl
 hit-mul (no _) k c = omega arith
 
-module _ (M : Type 0) (dec : Discrete M) where
-  pub coef-append : (e f : List (ℕ × M)) (t : M) → coef M dec (e ++ f) t ≡ coef M dec e t + coef M dec f t
+module _ {M : Type 0} (dec : Discrete M) where
+  pub coef-append : (e f : List (ℕ × M)) (t : M) → coef dec (e ++ f) t ≡ coef dec e t + coef dec f t
   unfolding coef
   coef-append [] f t = omega arith
   coef-append (x ∷ e) f t = omega (arith, coef-append e f t)
 
-  pub coef-scale : (c : ℕ) (e : List (ℕ × M)) (t : M) → coef M dec (scale M dec c e) t ≡ c * coef M dec e t
+  pub coef-scale : (c : ℕ) (e : List (ℕ × M)) (t : M) → coef dec (scale c e) t ≡ c * coef dec e t
   unfolding coef scale
   coef-scale c [] t = omega arith
   coef-scale c (x ∷ e) t = omega (arith, coef-scale c e t, hit-mul (dec x.1 t) c x.0)
 
-  module _ (I : Type 0) (value : I → List (ℕ × M)) where
-    pub coef-expand : (x : ℕ × I) (l : List (ℕ × I)) (t : M) → coef M dec (expand M dec I value (x ∷ l)) t ≡ x.0 * coef M dec (value x.1) t + coef M dec (expand M dec I value l) t
+  module _ {I : Type 0} (value : I → List (ℕ × M)) where
+    pub coef-expand : (x : ℕ × I) (l : List (ℕ × I)) (t : M) → coef dec (expand value (x ∷ l)) t ≡ x.0 * coef dec (value x.1) t + coef dec (expand value l) t
     unfolding expand
     coef-expand x l t = rw (coef-append, coef-scale)
 
-    pub coef-expand_append : (k l : List (ℕ × I)) (t : M) → coef M dec (expand M dec I value (k ++ l)) t ≡ coef M dec (expand M dec I value k) t + coef M dec (expand M dec I value l) t
+    pub coef-expand_append : (k l : List (ℕ × I)) (t : M) → coef dec (expand value (k ++ l)) t ≡ coef dec (expand value k) t + coef dec (expand value l) t
     unfolding expand coef
     coef-expand_append [] l t = omega arith
     coef-expand_append (x ∷ k) l t = rw (coef-append, coef-append) (omega (arith, coef-expand_append k l t))
 
-    unfoldable pub times : ℕ → List (ℕ × I) → List (ℕ × I)
-    times c [] = []
-    times c (x ∷ l) = (c * x.0, x.1) ∷ times c l
+    pub coef-expand_scale : (c : ℕ) (l : List (ℕ × I)) (t : M) → coef dec (expand value (scale c l)) t ≡ c * coef dec (expand value l) t
+    unfolding expand scale coef
+    coef-expand_scale c [] t = omega arith
+    coef-expand_scale c (x ∷ l) t = simp (coef-append, coef-scale) (omega (arith, coef-expand_scale c l t))
 
-    pub coef-expand_times : (c : ℕ) (l : List (ℕ × I)) (t : M) → coef M dec (expand M dec I value (times c l)) t ≡ c * coef M dec (expand M dec I value l) t
-    unfolding expand times coef
-    coef-expand_times c [] t = omega arith
-    coef-expand_times c (x ∷ l) t = simp (coef-append, coef-scale) (omega (arith, coef-expand_times c l t))
-
-    pub Member-append : (q : ℕ) {e f : List (ℕ × M)} → Member M dec I value q e → Member M dec I value q f → Member M dec I value q (e ++ f)
+    pub Member-append : (q : ℕ) {e f : List (ℕ × M)} → Member dec value q e → Member dec value q f → Member dec value q (e ++ f)
     Member-append q {e} {f} m n = record {
       uses = m.uses ++ n.uses;
       adds_up = λ t. rw (coef-append e f t, coef-expand_append m.uses n.uses t) (alike_add q _ _ _ _ (m.adds_up t) (n.adds_up t));
     }
 
-    pub Member-scale : (q c : ℕ) {e : List (ℕ × M)} → Member M dec I value q e → Member M dec I value q (scale M dec c e)
+    pub Member-scale : (q c : ℕ) {e : List (ℕ × M)} → Member dec value q e → Member dec value q (scale c e)
     Member-scale q c {e} m = record {
-      uses = times c m.uses;
-      adds_up = λ t. rw (coef-scale c e t, coef-expand_times c m.uses t) (alike_mul q c c _ _ refl (m.adds_up t));
+      uses = scale c m.uses;
+      adds_up = λ t. rw (coef-scale c e t, coef-expand_scale c m.uses t) (alike_mul q c c _ _ refl (m.adds_up t));
     }
 
-    pub Member-same : (q : ℕ) {e f : List (ℕ × M)} → Same M dec q e f → Member M dec I value q f → Member M dec I value q e
+    pub Member-same : (q : ℕ) {e f : List (ℕ × M)} → Same dec q e f → Member dec value q f → Member dec value q e
     Member-same q s m = record { uses = m.uses; adds_up = λ t. s t ∙ m.adds_up t }
