@@ -11,11 +11,11 @@ use Rattle.labelled_trees.proofs.Leaves.{by_leaf, by_row, one_if-yes}
 use Rattle.labelled_trees.proofs.Factors.{pick, pick_yes, pick_no}
 
 mutual
-  occurs_in_fill : (c : Ctx ℕ) (k : ℕ) → 0 < occurs k (fill c (leaf k))
+  pub occurs_in_fill : (c : Ctx ℕ) (k : ℕ) → 0 < occurs k (fill c (leaf k))
   occurs_in_fill hole k = let e : one_if (ℕ_discrete k k) ≡ 1 = one_if-yes (ℕ_discrete k k) refl in omega arith
   occurs_in_fill (inside l c) k = occurs_in_fill_row c k
 
-  occurs_in_fill_row : (c : RowCtx ℕ) (k : ℕ) → 0 < occurs_row k (fill_row c (leaf k))
+  pub occurs_in_fill_row : (c : RowCtx ℕ) (k : ℕ) → 0 < occurs_row k (fill_row c (leaf k))
   occurs_in_fill_row (here c r) k = omega (arith, occurs_in_fill c k)
   occurs_in_fill_row (past t c) k = omega (arith, occurs_in_fill_row c k)
 
@@ -61,27 +61,27 @@ mutual
   hole_at_row k (more t r) o = at_more k t r (dec_lt 0 (occurs k t)) (λ h. hole_at k t h) (λ h. hole_at_row k r h) o
 
 -- s with v for k
-unfoldable pub put : (ℕ → Tree ℕ) → ℕ → Tree ℕ → ℕ → Tree ℕ
-put s k v i = pick (ℕ_discrete i k) v (s i)
+unfoldable pub updated : (ℕ → Tree ℕ) → ℕ → Tree ℕ → ℕ → Tree ℕ
+updated s k v i = pick (ℕ_discrete i k) v (s i)
 
-pub put_same : (s : ℕ → Tree ℕ) (k : ℕ) (v : Tree ℕ) → put s k v k ≡ v
-unfolding put
-put_same s k v = pick_yes (ℕ_discrete k k) v (s k) refl
+pub updated_same : (s : ℕ → Tree ℕ) (k : ℕ) (v : Tree ℕ) → updated s k v k ≡ v
+unfolding updated
+updated_same s k v = pick_yes (ℕ_discrete k k) v (s k) refl
 
-pub put_other : (s : ℕ → Tree ℕ) (k : ℕ) (v : Tree ℕ) (i : ℕ) → i ≢ k → put s k v i ≡ s i
-unfolding put
-put_other s k v i h = pick_no (ℕ_discrete i k) v (s i) h
+pub updated_other : (s : ℕ → Tree ℕ) (k : ℕ) (v : Tree ℕ) (i : ℕ) → i ≢ k → updated s k v i ≡ s i
+unfolding updated
+updated_other s k v i h = pick_no (ℕ_discrete i k) v (s i) h
 
-pub put_back : (s : ℕ → Tree ℕ) (k : ℕ) (i : ℕ) → put s k (s k) i ≡ s i
-unfolding put
-put_back s k i = go (ℕ_discrete i k)
+pub updated_back : (s : ℕ → Tree ℕ) (k : ℕ) (i : ℕ) → updated s k (s k) i ≡ s i
+unfolding updated
+updated_back s k i = go (ℕ_discrete i k)
   where
     go : (d : Dec (i ≡ k)) → pick d (s k) (s i) ≡ s i
     go (yes e) = ap s (sym e)
     go (no _) = refl
 
 -- a tree whose leaf k is replaced by v, as a context with v in its hole
-pub graft-put : (c : Ctx ℕ) (k : ℕ) (s : ℕ → Tree ℕ) (v : Tree ℕ) → occurs k (fill c (leaf k)) ≤ 1 → graft (fill c (leaf k)) (put s k v) ≡ fill (graft_ctx c s) v
-graft-put c k s v o =
-    graft-fill c (leaf k) (put s k v)
-    ∙ ap₂ fill (ctx_agree c k (put s k v) s o (put_other s k v)) (put_same s k v)
+pub graft-updated : (c : Ctx ℕ) (k : ℕ) (s : ℕ → Tree ℕ) (v : Tree ℕ) → occurs k (fill c (leaf k)) ≤ 1 → graft (fill c (leaf k)) (updated s k v) ≡ fill (graft_ctx c s) v
+graft-updated c k s v o =
+    graft-fill c (leaf k) (updated s k v)
+    ∙ ap₂ fill (ctx_agree c k (updated s k v) s o (updated_other s k v)) (updated_same s k v)

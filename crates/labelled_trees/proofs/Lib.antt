@@ -6,8 +6,10 @@ pub mod Fitting
 pub mod GraftLeaves
 pub mod Grafts
 pub mod Holes
+pub mod Insertions
 pub mod Leaves
 pub mod Meetings
+pub mod Permutations
 pub mod ProgramTrees
 pub mod RangeSums
 pub mod Ranks

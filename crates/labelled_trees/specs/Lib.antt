@@ -1,6 +1,8 @@
 pub mod Contexts
 pub mod Equality
+pub mod Insertions
 pub mod Labelled
+pub mod Laws
 pub mod Leaves
 pub mod Meaning
 pub mod RangeSums
