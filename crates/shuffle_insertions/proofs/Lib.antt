@@ -2,6 +2,7 @@ pub mod Comparing
 pub mod Counting
 pub mod Counts
 pub mod Determine
+pub mod Frames
 pub mod Insertions
 pub mod Into
 pub mod Keys

@@ -1,5 +1,5 @@
 -- The four orders are orders of trees that are kept by insertion.
-use Rattle.std.proofs.Common.{◌≡◌, ℕ, zero, suc, ◌+◌, ◌*◌, ◌<◌, ◌≤◌, List, [], ◌∷◌, length, refl, sym, ◌∙◌, ap, arith, inl, inr, ◌⊎◌, length-append}
+use Rattle.std.proofs.Common.{subst, ◌≡◌, ℕ, zero, suc, ◌+◌, ◌*◌, ◌<◌, ◌≤◌, List, [], ◌∷◌, length, refl, sym, ◌∙◌, ap, arith, inl, inr, ◌⊎◌, length-append}
 use mathlib.Core.Path.{ap₂}
 use mathlib.Core.List.{◌++◌}
 use native.Mathlib.Decide.{dec_lt}
@@ -28,6 +28,7 @@ use Rattle.shuffle_insertions.proofs.Orders.{rows, less-fill, leaves-graft, less
 use Rattle.shuffle_insertions.proofs.Comparing.{nat_less, nat_same, less_nat, same_nat, then_less, then_equal, then_first, then_second, list_same, itself, lex_of, of_lex, word_same, short_same, word_less_of, of_word_less, short_less_of, of_short_less, word_total, short_total, path_total, pathshort_total, leafpath_total, weightpath_total}
 use Rattle.shuffle_insertions.proofs.Keys.{has_at, all_same, below_of_same, less_of, of_less, at_all}
 use Rattle.shuffle_insertions.proofs.Determine.{words_tagged, determined, tag}
+use Rattle.shuffle_insertions.proofs.Frames.{slot_of}
 
 -- insertion keeps what a comparison says, where it says less or equal
 pub record Keeps (C : ℕ → Tree ℕ → Tree ℕ → Ordering) : Type 0 where
@@ -200,17 +201,23 @@ module _ (arity : ℕ → ℕ) (w : ℕ → ℕ) (C : Key → Key → Ordering) 
   same_cmp : (n : ℕ) (x y : Tree ℕ) → IsShuffle n x → IsShuffle n y → C (key w x) (key w y) ≡ C (key_at w n x) (key_at w n y)
   same_cmp n x y hx hy = ap₂ C (as_key n x hx) (as_key n y hy)
 
+  kept_slot : (k n : ℕ) (f : Slot) (x y : Tree ℕ) → PartsRise k f.parts → IsShuffle k x → IsShuffle k y → IsShuffle n (fill_slot f x)
+      → C (key w (fill_slot f x)) (key w (fill_slot f y)) ≡ C (key w x) (key w y)
+  kept_slot k n f x y r hx hy v =
+      same_cmp n (fill_slot f x) (fill_slot f y) v (fill_slot-valid k n f x y r hx hy v)
+      ∙ kept_at k n f x y r hx hy v (C (key_at w k x) (key_at w k y)) refl
+      ∙ sym (same_cmp k x y hx hy)
+
   pub tree_order : IsTreeOrder arity (λ x y. C (key w x) (key w y))
   tree_order = record {
-    equal_only = λ n x y hx hy bx by e.
-        let h = only (key_at w n x) (key_at w n y) (sym (same_cmp n x y hx hy) ∙ e) in
-        determined arity x y hx.rising hy.rising bx by (at_leaf_words n x y hx hy h.0 h.1);
+    equal_only = λ n x y hx hy e.
+        let h = only (key_at w n x) (key_at w n y) (sym (same_cmp n x y hx.shuffle hy.shuffle) ∙ e) in
+        determined arity x y hx.shuffle.rising hy.shuffle.rising hx.fits hy.fits (at_leaf_words n x y hx.shuffle hy.shuffle h.0 h.1);
     turned = λ x y. total.antisymm (key w x) (key w y);
     transitive = λ x y z e f. total.trans (key w x) (key w y) (key w z) e f;
     kept = λ k n f x y r hx hy v.
-        same_cmp n (fill_slot f x) (fill_slot f y) v (fill_slot-valid k n f x y r hx hy v)
-        ∙ kept_at k n f x y r hx hy v (C (key_at w k x) (key_at w k y)) refl
-        ∙ sym (same_cmp k x y hx hy);
+        let a = slot_of k f r in
+        ap₂ (λ u z. C (key w u) (key w z)) (a.inserts x) (a.inserts y) ∙ kept_slot k n a.slot x y a.rises hx hy (subst (IsShuffle n) (a.inserts x) v);
   }
 
 word_between : (a v w b : List ℕ) → word_cmp v w ≡ Less → word_cmp (a ++ (v ++ b)) (a ++ (w ++ b)) ≡ Less
