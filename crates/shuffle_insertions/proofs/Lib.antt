@@ -1,4 +1,5 @@
 pub mod Comparing
+pub mod Counted
 pub mod Counting
 pub mod Counts
 pub mod Determine

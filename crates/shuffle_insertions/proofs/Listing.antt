@@ -14,10 +14,11 @@ use Rattle.labelled_trees.specs.RangeSums.{range_sum}
 use Rattle.labelled_trees.proofs.RangeSums.{range_sum-one, range_sum-past, range_sum_ext, by_counts}
 use Rattle.shuffle_insertions.proofs.Rising.{least-occurs, least_row-le}
 use Rattle.modular_sums.proofs.Lists.{tail_same}
-use Rattle.shuffle_insertions.proofs.Splits.{Split, count, split_count, mem_left_split, mem_right_split, left_rises, right_rises, count_mem, mem_count, times-append, times-splits, times-below, sum_zero, sum_some, sum_one}
+use Rattle.shuffle_insertions.proofs.Splits.{Split, count, split_count, mem_left_split, mem_right_split, left_rises, right_rises, times-splits, times-below, sum_zero, sum_some, sum_one}
 use Rattle.shuffle_insertions.proofs.Insertions.{once_of}
 use Rattle.shuffle_insertions.proofs.ListedRows.{times_node, none_each, node_lone, leaf_node, times_each}
 use Rattle.shuffle_insertions.proofs.Upto.{upto_rises, upto_count}
+use Rattle.shuffle_insertions.proofs.Counted.{times-append, times_mem, mem_times}
 
 -- a tree over the leaf numbers of a list
 pub record Good (arity : ℕ → ℕ) (l : List ℕ) (t : Tree ℕ) : Type 0 where
@@ -55,8 +56,8 @@ pub first_of : (l : List ℕ) (r : Row ℕ) → Rises l → IsRisingRow r → Ha
 first_of l none h g n e = absurd n
 first_of [] (more t r) h g n e = absurd (omega (arith, e (least t), least-occurs t g.0))
 first_of (a ∷ l) (more t r) h g n e =
-    let low : least t ≤ a = at_row (more t r) (λ i. least t ≤ i) a (least_row-le (more t r) g) (let c = e a in let o = mem_count a (a ∷ l) (inl refl) in omega (arith, c, o)) in
-    let high : a ≤ least t = member (count_mem (least t) (a ∷ l) (let c = e (least t) in let o = least-occurs t g.0 in omega (arith, c, o))) in
+    let low : least t ≤ a = at_row (more t r) (λ i. least t ≤ i) a (least_row-le (more t r) g) (let c = e a in let o = mem_times ℕ_discrete a (a ∷ l) (inl refl) in omega (arith, c, o)) in
+    let high : a ≤ least t = member (times_mem ℕ_discrete (least t) (a ∷ l) (let c = e (least t) in let o = least-occurs t g.0 in omega (arith, c, o))) in
     let same : a ≡ least t = omega arith in
     (l, ap (λ x. x ∷ l) same)
   where
@@ -159,7 +160,7 @@ module _ (labels : ℕ) (arity : ℕ → ℕ) (are : AreLabels labels arity) (de
 
       empty_list : (l : List ℕ) → ((i : ℕ) → 0 ≡ count i l) → l ≡ []
       empty_list [] h = refl
-      empty_list (a ∷ l) h = absurd (let o = mem_count a (a ∷ l) (inl refl) in let e = h a in omega (arith, o, e))
+      empty_list (a ∷ l) h = absurd (let o = mem_times ℕ_discrete a (a ∷ l) (inl refl) in let e = h a in omega (arith, o, e))
 
       at_more : (k a : ℕ) (l : List ℕ) (t : Tree ℕ) (r : Row ℕ) → Rises (a ∷ l) → GoodRow arity (suc k) (a ∷ l) (more t r) → P t
           → ((c : List ℕ) → Rises c → GoodRow arity k c r → times decr r (rows t_of k c) ≡ 1) → least t ≡ a → times decr (more t r) (rows t_of (suc k) (a ∷ l)) ≡ 1

@@ -1,6 +1,5 @@
 -- Ways to divide a list in two, and sums over them.
-use Rattle.std.proofs.Common.{◌≡◌, ◌≢◌, ℕ, zero, suc, ◌+◌, ◌-◌, ◌<◌, ◌≤◌, List, [], ◌∷◌, length, refl, sym, ◌∙◌, ap, arith, subst, inl, inr, ◌⊎◌}
-use mathlib.Core.List.{◌++◌}
+use Rattle.std.proofs.Common.{◌≡◌, ◌≢◌, ℕ, zero, suc, ◌+◌, ◌-◌, ◌<◌, ◌≤◌, List, [], ◌∷◌, length, refl, ◌∙◌, ap, arith, subst, inl, inr}
 use mathlib.Core.Path.{ap₂}
 use native.Mathlib.Decide.{ℕ_discrete, dec_lt}
 use Rattle.labelled_trees.specs.Leaves.{one_if}
@@ -8,6 +7,7 @@ use Rattle.modular_sums.specs.Lists.{Mem, Rises}
 use Rattle.shuffle_insertions.specs.Listing.{times, joined_below, joined_splits}
 use Rattle.labelled_trees.proofs.Leaves.{one_if-yes}
 use Rattle.labelled_trees.specs.RangeSums.{range_sum}
+use Rattle.shuffle_insertions.proofs.Counted.{times-append, times_mem}
 
 -- b and c divide l
 pub data Split : List ℕ → List ℕ → List ℕ → Type 0 where
@@ -50,25 +50,12 @@ right_rises done h = tt
 right_rises (left s) h = right_rises s h.1
 right_rises (right s) h = (λ u m. h.0 u (mem_right_split s u m), right_rises s h.1)
 
-pub count_mem : (i : ℕ) (l : List ℕ) → 0 < count i l → Mem i l
-count_mem i [] h = absurd (omega arith)
-count_mem i (x ∷ l) h = go (ℕ_discrete x i) (λ k. count_mem i l k) h
-  where
-    go : (d : Dec (x ≡ i)) → (0 < count i l → Mem i l) → 0 < one_if d + count i l → (i ≡ x) ⊎ Mem i l
-    go (yes e) ih k = inl (sym e)
-    go (no _) ih k = inr (ih (omega arith))
-
-pub mem_count : (i : ℕ) (l : List ℕ) → Mem i l → 0 < count i l
-mem_count i [] h = absurd h
-mem_count i (x ∷ l) (inl e) = let k : one_if (ℕ_discrete x i) ≡ 1 = one_if-yes (ℕ_discrete x i) (sym e) in omega (arith, k)
-mem_count i (x ∷ l) (inr h) = omega (arith, mem_count i l h)
-
 -- the first of a rising list doesn't stand in the rest
 pub fresh : (x : ℕ) (l : List ℕ) → ((u : ℕ) → Mem u l → x < u) → count x l ≡ 0
 fresh x l h = go (dec_lt 0 (count x l))
   where
     go : Dec (0 < count x l) → count x l ≡ 0
-    go (yes k) = absurd (omega (arith, h x (count_mem x l k)))
+    go (yes k) = absurd (omega (arith, h x (times_mem ℕ_discrete x l k)))
     go (no z) = omega (arith, z)
 
 pub count_head : (x i : ℕ) (l : List ℕ) → ((u : ℕ) → Mem u l → x < u) → count x (x ∷ l) ≡ 1
@@ -86,10 +73,6 @@ rises_once (x ∷ l) h i = go (ℕ_discrete x i) (rises_once l h.1 i)
 abbrev pub sum_splits : List ℕ → (List ℕ → List ℕ → ℕ) → ℕ
 sum_splits [] h = h [] []
 sum_splits (x ∷ l) h = sum_splits l (λ b c. h (x ∷ b) c) + sum_splits l (λ b c. h b (x ∷ c))
-
-pub times-append : {X : Type 0} (dec : Discrete X) (x : X) (k l : List X) → times dec x (k ++ l) ≡ times dec x k + times dec x l
-times-append dec x [] l = omega arith
-times-append dec x (y ∷ k) l = omega (arith, times-append dec x k l)
 
 pub times-splits : {X : Type 0} (dec : Discrete X) (x : X) (l : List ℕ) (f : List ℕ → List ℕ → List X) → times dec x (joined_splits l f) ≡ sum_splits l (λ b c. times dec x (f b c))
 times-splits dec x [] f = refl

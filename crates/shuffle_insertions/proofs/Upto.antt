@@ -1,13 +1,14 @@
 -- The numbers from 1 to n.
 use Rattle.std.proofs.Common.{◌≡◌, ℕ, zero, suc, ◌<◌, ◌≤◌, [], ◌∷◌, arith, inl, inr, ◌⊎◌}
 use mathlib.Core.List.{◌++◌}
-use native.Mathlib.Decide.{dec_lt}
+use native.Mathlib.Decide.{ℕ_discrete, dec_lt}
 use Rattle.modular_sums.specs.Lists.{Mem, Rises}
 use Rattle.shuffle_insertions.specs.Listing.{upto}
 use Rattle.modular_sums.proofs.Lists.{mem_either, Rises-append, mem_right, mem_left}
-use Rattle.shuffle_insertions.proofs.Splits.{count, count_mem, mem_count, rises_once}
+use Rattle.shuffle_insertions.proofs.Splits.{count, rises_once}
+use Rattle.shuffle_insertions.proofs.Counted.{times_mem, mem_times}
 
-upto_mem : (n u : ℕ) → Mem u (upto n) → (0 < u) × (u ≤ n)
+pub upto_mem : (n u : ℕ) → Mem u (upto n) → (0 < u) × (u ≤ n)
 upto_mem zero u h = absurd h
 upto_mem (suc n) u h = go (mem_either u (upto n) (suc n ∷ []) h) (λ m. upto_mem n u m)
   where
@@ -24,16 +25,16 @@ upto_rises (suc n) = Rises-append (upto n) (suc n ∷ []) (upto_rises n) (λ u m
     below u v k (inl e) = omega (arith, k.1, e)
     below u v k (inr e) = absurd e
 
-pub upto_count : (n i : ℕ) → (0 < i → i ≤ n → count i (upto n) ≡ 1) × (0 < count i (upto n) → (0 < i) × (i ≤ n))
-upto_count n i = (λ p le. one (mem_count i (upto n) (in_upto n i p le)), λ p. upto_mem n i (count_mem i (upto n) p))
+pub in_upto : (n i : ℕ) → 0 < i → i ≤ n → Mem i (upto n)
+in_upto zero i p le = absurd (omega arith)
+in_upto (suc n) i p le = go (dec_lt n i) (λ k. in_upto n i p k)
   where
-    in_upto : (n i : ℕ) → 0 < i → i ≤ n → Mem i (upto n)
-    in_upto zero i p le = absurd (omega arith)
-    in_upto (suc n) i p le = go (dec_lt n i) (λ k. in_upto n i p k)
-      where
-        go : Dec (n < i) → (i ≤ n → Mem i (upto n)) → Mem i (upto n ++ (suc n ∷ []))
-        go (yes h) f = mem_right i (upto n) (suc n ∷ []) (inl (omega arith))
-        go (no h) f = mem_left i (upto n) (suc n ∷ []) (f (omega (arith, h)))
+    go : Dec (n < i) → (i ≤ n → Mem i (upto n)) → Mem i (upto n ++ (suc n ∷ []))
+    go (yes h) f = mem_right i (upto n) (suc n ∷ []) (inl (omega arith))
+    go (no h) f = mem_left i (upto n) (suc n ∷ []) (f (omega (arith, h)))
 
+pub upto_count : (n i : ℕ) → (0 < i → i ≤ n → count i (upto n) ≡ 1) × (0 < count i (upto n) → (0 < i) × (i ≤ n))
+upto_count n i = (λ p le. one (mem_times ℕ_discrete i (upto n) (in_upto n i p le)), λ p. upto_mem n i (times_mem ℕ_discrete i (upto n) p))
+  where
     one : 0 < count i (upto n) → count i (upto n) ≡ 1
     one p = let k = rises_once (upto n) (upto_rises n) i in omega (arith, k, p)

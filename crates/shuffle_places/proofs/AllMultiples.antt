@@ -1,7 +1,7 @@
 -- The list of multiples has exactly the small common multiples.
-use Rattle.std.proofs.Common.{◌≡◌, ℕ, zero, suc, ◌+◌, ◌<◌, ◌≤◌, List, [], ◌∷◌, Bool, true, false, cond, refl, sym, ◌∙◌, ap, arith, subst, inl, inr, ◌⊎◌}
+use Rattle.std.proofs.Common.{◌≡◌, ℕ, ◌<◌, ◌≤◌, List, [], ◌∷◌, Bool, true, false, cond, refl, sym, ◌∙◌, ap, arith, subst, inl, inr, ◌⊎◌}
 use mathlib.Core.List.{◌++◌}
-use native.Mathlib.Decide.{ℕ_discrete, dec_lt}
+use native.Mathlib.Decide.{dec_lt}
 use Rattle.std.specs.declared.cmp.Ordering.{Ordering}
 use Rattle.std.specs.declared.cmp.Ordering.TheVariants.{Less, Equal, Greater}
 use Rattle.std.specs.Ordering.{nat_cmp, is_lt}
@@ -17,29 +17,12 @@ use Rattle.shuffle_places.specs.Numberings.{numberings}
 use Rattle.shuffle_places.specs.Places.{places}
 use Rattle.shuffle_places.specs.Multiples.{IsMultiple}
 use Rattle.shuffle_places.specs.AllMultiples.{meet, cover, in_order, test, joined, any_same, different, multiples, only_where}
-use Rattle.modular_sums.proofs.Lists.{mem_either, mem_left, mem_right}
+use Rattle.modular_sums.proofs.Lists.{has_mem, mem_has, mem_either, mem_left, mem_right}
 use Rattle.shuffle_places.proofs.Overlays.{multiple_shape}
 use Rattle.shuffle_places.proofs.Numberings.{all_numbered}
 use Rattle.shuffle_places.proofs.PlacesOf.{listed_place, place_listed, places_distinct}
-use Rattle.labelled_trees.proofs.Leaves.{one_if-yes}
-use Rattle.labelled_trees.specs.Leaves.{one_if}
-
-has_mem : (l : List ℕ) (v : ℕ) → has l v ≡ true → Mem v l
-has_mem [] v e = absurd (cc e)
-has_mem (x ∷ l) v e = go (ℕ_discrete v x) (λ h. has_mem l v h) e
-  where
-    go : (d : Dec (v ≡ x)) → (has l v ≡ true → Mem v l) → holds d (has l v) ≡ true → (v ≡ x) ⊎ Mem v l
-    go (yes h) ih e = inl h
-    go (no _) ih e = inr (ih e)
-
-mem_has : (l : List ℕ) (v : ℕ) → Mem v l → has l v ≡ true
-mem_has [] v h = absurd h
-mem_has (x ∷ l) v h = go (ℕ_discrete v x) (λ m. mem_has l v m) h
-  where
-    go : (d : Dec (v ≡ x)) → (Mem v l → has l v ≡ true) → (v ≡ x) ⊎ Mem v l → holds d (has l v) ≡ true
-    go (yes _) ih h = refl
-    go (no f) ih (inl e) = absurd (f e)
-    go (no f) ih (inr m) = ih m
+use Rattle.shuffle_insertions.proofs.Counted.{mem_times, times_mem, distinct_times}
+use Rattle.shuffle_insertions.proofs.Upto.{in_upto, upto_mem}
 
 when_true : (b c : Bool) → b ≡ true → cond b true c ≡ true
 when_true true c e = refl
@@ -134,19 +117,6 @@ into_joined [] f x y h m = absurd h
 into_joined (z ∷ l) f x y (inl e) m = mem_left y (f z) (joined l f) (subst (λ w. Mem y (f w)) e m)
 into_joined (z ∷ l) f x y (inr h) m = mem_right y (f z) (joined l f) (into_joined l f x y h m)
 
-pub among_times : (dec : Discrete (Tree ℕ)) (t : Tree ℕ) (l : List (Tree ℕ)) → Mem t l → 0 < times dec t l
-among_times dec t [] h = absurd h
-among_times dec t (y ∷ l) (inl e) = let o = one_if-yes (dec y t) (sym e) in omega (arith, o)
-among_times dec t (y ∷ l) (inr h) = omega (arith, among_times dec t l h)
-
-pub times_among : (dec : Discrete (Tree ℕ)) (t : Tree ℕ) (l : List (Tree ℕ)) → 0 < times dec t l → Mem t l
-times_among dec t [] h = absurd (omega arith)
-times_among dec t (y ∷ l) h = go (dec y t) (λ k. times_among dec t l k) h
-  where
-    go : (d : Dec (y ≡ t)) → (0 < times dec t l → Mem t l) → 0 < one_if d + times dec t l → (t ≡ y) ⊎ Mem t l
-    go (yes e) f h = inl (sym e)
-    go (no _) f h = inr (f (omega arith))
-
 from_cond : {Y : Type 0} (b : Bool) (y z : Y) → Mem y (cond b (z ∷ []) []) → (b ≡ true) × (y ≡ z)
 from_cond true y z (inl e) = (refl, e)
 from_cond true y z (inr h) = absurd h
@@ -155,23 +125,6 @@ from_cond false y z h = absurd h
 into_cond : {Y : Type 0} (b : Bool) (z : Y) → b ≡ true → Mem z (cond b (z ∷ []) [])
 into_cond true z e = inl refl
 into_cond false z e = absurd (cc e)
-
-in_upto : (n i : ℕ) → 0 < i → i ≤ n → Mem i (upto n)
-in_upto zero i p le = absurd (omega arith)
-in_upto (suc n) i p le = go (dec_lt n i) (λ k. in_upto n i p k)
-  where
-    go : Dec (n < i) → (i ≤ n → Mem i (upto n)) → Mem i (upto n ++ (suc n ∷ []))
-    go (yes h) f = mem_right i (upto n) (suc n ∷ []) (inl (omega arith))
-    go (no h) f = mem_left i (upto n) (suc n ∷ []) (f (omega (arith, h)))
-
-upto_in : (n u : ℕ) → Mem u (upto n) → (0 < u) × (u ≤ n)
-upto_in zero u h = absurd h
-upto_in (suc n) u h = go (mem_either u (upto n) (suc n ∷ []) h) (λ m. upto_in n u m)
-  where
-    go : Mem u (upto n) ⊎ Mem u (suc n ∷ []) → (Mem u (upto n) → (0 < u) × (u ≤ n)) → (0 < u) × (u ≤ suc n)
-    go (inl m) f = let k = f m in (k.0, omega (arith, k.1))
-    go (inr (inl e)) f = (omega arith, omega arith)
-    go (inr (inr e)) f = absurd e
 
 any_among : (x : Tree (Unit {0})) (l : List (Tree (Unit {0}))) → any_same x l ≡ true → Mem x l
 any_among x [] e = absurd (cc e)
@@ -234,13 +187,6 @@ distinct_joined g [] f d e h = tt
 distinct_joined g (x ∷ l) f d e h = distinct_append (f x) (joined l f) (e x (inl refl)) (distinct_joined g l f d.1 (λ z m. e z (inr m)) (λ z y m n. h z y (inr m) n))
     (λ y m n. let r = from_joined l f y n in d.0 (subst (λ z. Mem z l) (sym (h r.0 y (inr r.1) r.2) ∙ h x y (inl refl) m) r.1))
 
-pub distinct_times : (dec : Discrete (Tree ℕ)) (l : List (Tree ℕ)) → ((t : Tree ℕ) → times dec t l ≤ 1) → Distinct l
-distinct_times dec [] h = tt
-distinct_times dec (x ∷ l) h = (
-  λ m. let o = one_if-yes (dec x x) refl in let k = h x in let p = among_times dec x l m in absurd (omega (arith, o, k, p)),
-  distinct_times dec l (λ t. let k = h t in omega (arith, k)),
-)
-
 distinct_cond : {Y : Type 0} (b : Bool) (z : Y) → Distinct (cond b (z ∷ []) [])
 distinct_cond true z = (λ h. h, tt)
 distinct_cond false z = tt
@@ -258,7 +204,7 @@ module _ (a b : Tree ℕ) (na : IsNode a) (nb : IsNode b) (n : ℕ) where
       let ek : k ≡ i.0 = ap (λ (x : Tree ℕ × List ℕ × List ℕ). x.1) c.1 in
       let el : l ≡ j.0 = ap (λ (x : Tree ℕ × List ℕ × List ℕ). x.2) c.1 in
       subst (λ x. IsMultiple n a b x k l) (sym et) (subst (λ x. IsMultiple n a b t.0 x l) (sym ek) (subst (λ x. IsMultiple n a b t.0 i.0 x) (sym el)
-      (of_test t.0 i.0 j.0 ((all_numbered n f.0 tree_discrete).only t.0 (among_times tree_discrete t.0 (numberings f.0 (upto n)) t.1)).0 (listed_place a na t.0 i.0 i.1) (listed_place b nb t.0 j.0 j.1) c.0)))
+      (of_test t.0 i.0 j.0 ((all_numbered n f.0 tree_discrete).only t.0 (mem_times tree_discrete t.0 (numberings f.0 (upto n)) t.1)).0 (listed_place a na t.0 i.0 i.1) (listed_place b nb t.0 j.0 j.1) c.0)))
     where
       of_test : (t : Tree ℕ) (i j : List ℕ) → IsShuffle n t → IsCut t i a → IsCut t j b → test a b t i j ≡ true → IsMultiple n a b t i j
       of_test t i j v p q e =
@@ -275,12 +221,12 @@ module _ (a b : Tree ℕ) (na : IsNode a) (nb : IsNode b) (n : ℕ) where
       let o = m.overlap in
       let number = (all_numbered n (shape tree) tree_discrete).each tree o.valid refl in
       let e : test a b tree k l ≡ true = true_both (meet k l) (cond (cover (upto (vertices tree)) k l) (in_order a b k l) false) (shared_meet k l o.shared.0 o.shared.1 o.shared.2)
-      (true_both (cover (upto (vertices tree)) k l) (in_order a b k l) (is_cover (upto (vertices tree)) k l (λ v h. let r = upto_in (vertices tree) v h in o.covers v r.0 r.1))
+      (true_both (cover (upto (vertices tree)) k l) (in_order a b k l) (is_cover (upto (vertices tree)) k l (λ v h. let r = upto_mem (vertices tree) v h in o.covers v r.0 r.1))
       (of_ordered a b k l m.ordered)) in
       into_joined (different (shapes_of a b)) (λ form. joined (numberings form (upto n)) (λ t. joined (places a 1 t) (λ i. joined (places b 1 t) (λ j. cond (test a b t i j) ((t, i, j) ∷ []) [])))) (shape tree) (tree, k, l)
       (in_different (shape tree) (shapes_of a b) (multiple_shape n a b tree k l o))
       (into_joined (numberings (shape tree) (upto n)) (λ t. joined (places a 1 t) (λ i. joined (places b 1 t) (λ j. cond (test a b t i j) ((t, i, j) ∷ []) []))) tree (tree, k, l)
-      (times_among tree_discrete tree (numberings (shape tree) (upto n)) (omega (arith, number)))
+      (times_mem tree_discrete tree (numberings (shape tree) (upto n)) (omega (arith, number)))
       (into_joined (places a 1 tree) (λ i. joined (places b 1 tree) (λ j. cond (test a b tree i j) ((tree, i, j) ∷ []) [])) k (tree, k, l) (place_listed a na tree k o.first_at)
       (into_joined (places b 1 tree) (λ j. cond (test a b tree k j) ((tree, k, j) ∷ []) []) l (tree, k, l) (place_listed b nb tree l o.second_at)
       (into_cond (test a b tree k l) (tree, k, l) e))))
@@ -317,4 +263,4 @@ module _ (a b : Tree ℕ) (na : IsNode a) (nb : IsNode b) (n : ℕ) where
       (λ t x p h. tree_is x t h))
       (λ form x m h.
       let t = from_joined (numberings form (upto n)) (λ t. joined (places a 1 t) (λ i. joined (places b 1 t) (λ j. cond (test a b t i j) ((t, i, j) ∷ []) []))) x h in
-      ap shape (tree_is x t.0 t.2) ∙ ((all_numbered n form tree_discrete).only t.0 (among_times tree_discrete t.0 (numberings form (upto n)) t.1)).1)
+      ap shape (tree_is x t.0 t.2) ∙ ((all_numbered n form tree_discrete).only t.0 (mem_times tree_discrete t.0 (numberings form (upto n)) t.1)).1)

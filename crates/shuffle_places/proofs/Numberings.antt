@@ -14,10 +14,11 @@ use Rattle.labelled_trees.proofs.Leaves.{one_if-no, one_if-yes}
 use Rattle.shuffle_insertions.proofs.Rising.{least-occurs}
 use Rattle.modular_sums.proofs.Lists.{tail_same}
 use Rattle.labelled_trees.proofs.Contexts.{node-eq, more-eq}
-use Rattle.shuffle_insertions.proofs.Splits.{Split, count, split_count, mem_left_split, mem_right_split, left_rises, right_rises, mem_count, times-splits, sum_zero, sum_some, sum_one}
+use Rattle.shuffle_insertions.proofs.Splits.{Split, count, split_count, mem_left_split, mem_right_split, left_rises, right_rises, times-splits, sum_zero, sum_some, sum_one}
 use Rattle.shuffle_insertions.proofs.Listing.{first_of, pos_left, pos_right}
 use Rattle.shuffle_insertions.proofs.ListedRows.{times_each, none_each, times_node, leaf_node}
 use Rattle.shuffle_insertions.proofs.Upto.{upto_rises, upto_count}
+use Rattle.shuffle_insertions.proofs.Counted.{mem_times}
 
 -- a tree over the leaf numbers of a list
 pub record Plain (l : List ℕ) (t : Tree ℕ) : Type 0 where
@@ -40,7 +41,7 @@ lead_occurs a t e h i = go (ℕ_discrete a i)
 
 empty_list : (l : List ℕ) → ((i : ℕ) → 0 ≡ count i l) → l ≡ []
 empty_list [] h = refl
-empty_list (a ∷ l) h = absurd (let o = mem_count a (a ∷ l) (inl refl) in let e = h a in omega (arith, o, e))
+empty_list (a ∷ l) h = absurd (let o = mem_times ℕ_discrete a (a ∷ l) (inl refl) in let e = h a in omega (arith, o, e))
 
 join_plain : (a : ℕ) (l b c : List ℕ) (t : Tree ℕ) (r : Row ℕ) → Rises (a ∷ l) → Split l b c → Plain (a ∷ b) t → PlainRow c r → PlainRow (a ∷ l) (more t r)
 join_plain a l b c t r h s g gr =
