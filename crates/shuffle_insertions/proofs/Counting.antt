@@ -3,6 +3,7 @@ use Rattle.std.proofs.Common.{◌≡◌, ℕ, zero, suc, ◌+◌, ◌-◌, ◌*�
 use mathlib.Core.Path.{ap₂}
 use Rattle.labelled_trees.specs.Trees.{Tree, Row, node, more}
 use Rattle.shuffle_insertions.specs.Listing.{joined_below, joined_splits, each_with_each, rows, lone, shuffles, upto, all_trees}
+use Rattle.shuffle_insertions.specs.Labels.{AreLabels}
 use Rattle.shuffle_insertions.specs.Counting.{binomial, row_count, lone_count, tree_count, trees}
 use Rattle.labelled_trees.specs.RangeSums.{range_sum}
 
@@ -150,12 +151,12 @@ too_few f (suc k) (suc n) lt = sum_none (suc n) (λ j. binomial n j * (f (suc j)
     sum_none zero f h = refl
     sum_none (suc b) f h = omega (arith, sum_none b f h, h b)
 
-module _ (labels : ℕ) (arity : ℕ → ℕ) (wide : (g : ℕ) → g < labels → 2 ≤ arity g) where
+module _ (labels : ℕ) (arity : ℕ → ℕ) (are : AreLabels labels arity) where
   no_leaves : (d : ℕ) → tree_count labels arity d 0 ≡ 0
   no_leaves zero = refl
   no_leaves (suc d) =
       let e : range_sum labels (λ g. row_count (tree_count labels arity d) (arity g) 0) ≡ range_sum labels (λ g. 0)
-      = ext_below labels (λ g. row_count (tree_count labels arity d) (arity g) 0) (λ g. 0) (λ g lt. too_few (tree_count labels arity d) (arity g) 0 (omega (arith, wide g lt))) in
+      = ext_below labels (λ g. row_count (tree_count labels arity d) (arity g) 0) (λ g. 0) (λ g lt. too_few (tree_count labels arity d) (arity g) 0 (omega (arith, are.wide g lt))) in
       omega (arith, e, none_at_all labels)
     where
       none_at_all : (b : ℕ) → range_sum b (λ g. 0) ≡ 0
@@ -168,12 +169,12 @@ module _ (labels : ℕ) (arity : ℕ → ℕ) (wide : (g : ℕ) → g < labels �
   enough_levels (suc d) zero n a b = let z : n ≡ 0 = omega arith in rw z (no_leaves (suc d))
   enough_levels (suc d) (suc e) n a b = ap (λ m. lone_count n + m)
       (ext_below labels (λ g. row_count (tree_count labels arity d) (arity g) n) (λ g. row_count (tree_count labels arity e) (arity g) n)
-      (λ g lt. row_below (tree_count labels arity d) (tree_count labels arity e) (arity g) n (wide g lt) (λ m h. enough_levels d e m (omega arith) (omega arith))))
+      (λ g lt. row_below (tree_count labels arity d) (tree_count labels arity e) (arity g) n (are.wide g lt) (λ m h. enough_levels d e m (omega arith) (omega arith))))
 
   pub trees_one : trees labels arity 1 ≡ 1
   trees_one =
       let e : range_sum labels (λ g. row_count (tree_count labels arity 0) (arity g) 1) ≡ range_sum labels (λ g. 0)
-      = ext_below labels (λ g. row_count (tree_count labels arity 0) (arity g) 1) (λ g. 0) (λ g lt. too_few (tree_count labels arity 0) (arity g) 1 (omega (arith, wide g lt))) in
+      = ext_below labels (λ g. row_count (tree_count labels arity 0) (arity g) 1) (λ g. 0) (λ g lt. too_few (tree_count labels arity 0) (arity g) 1 (omega (arith, are.wide g lt))) in
       omega (arith, e, none_at_all labels)
     where
       none_at_all : (b : ℕ) → range_sum b (λ g. 0) ≡ 0
@@ -185,5 +186,5 @@ module _ (labels : ℕ) (arity : ℕ → ℕ) (wide : (g : ℕ) → g < labels �
   trees_more n =
       let e : range_sum labels (λ g. row_count (tree_count labels arity (suc n)) (arity g) (suc (suc n))) ≡ range_sum labels (λ g. row_count (trees labels arity) (arity g) (suc (suc n)))
       = ext_below labels (λ g. row_count (tree_count labels arity (suc n)) (arity g) (suc (suc n))) (λ g. row_count (trees labels arity) (arity g) (suc (suc n)))
-      (λ g lt. row_below (tree_count labels arity (suc n)) (trees labels arity) (arity g) (suc (suc n)) (wide g lt) (λ m h. enough_levels (suc n) m m (omega arith) (omega arith))) in
+      (λ g lt. row_below (tree_count labels arity (suc n)) (trees labels arity) (arity g) (suc (suc n)) (are.wide g lt) (λ m h. enough_levels (suc n) m m (omega arith) (omega arith))) in
       omega (arith, e)

@@ -1,10 +1,9 @@
 -- What fills a slot.
 use Rattle.std.proofs.Common.{◌≡◌, ℕ, ◌<◌, ◌≤◌, sym, ◌∙◌, ap, arith, subst}
-use native.Mathlib.Decide.{ℕ_discrete}
-use Rattle.std.proofs.Common.{◌≡◌, ℕ, ◌<◌, ◌≤◌, sym, ◌∙◌, ap, arith, subst}
 use native.Mathlib.Decide.{ℕ_discrete, dec_lt}
 use Rattle.labelled_trees.specs.Trees.{Tree, leaf, graft}
 use Rattle.shuffle_insertions.specs.ShuffleTrees.{least, IsRising, IsShuffle}
+use Rattle.labelled_trees.specs.Labelled.{Fits}
 use Rattle.labelled_trees.specs.Leaves.{AllLeaves, one_if, occurs}
 use Rattle.shuffle_insertions.specs.Slots.{Slot, fill_slot, PartsRise}
 use Rattle.labelled_trees.proofs.Grafts.{graft_leaf}
@@ -13,6 +12,7 @@ use Rattle.labelled_trees.proofs.GraftLeaves.{sum_leaves-graft}
 use Rattle.shuffle_insertions.proofs.Counts.{same_counts, same_sums}
 use Rattle.labelled_trees.proofs.ContextLeaves.{sum-fill}
 use Rattle.shuffle_insertions.proofs.Rising.{head, rising_change, rising-fill, least-occurs, least-le}
+use Rattle.labelled_trees.proofs.Fitting.{fits_parts, fits-graft, fits_of_fill, fits-fill, fits_of_graft}
 
 abbrev pub InRange : ℕ → ℕ → Type 0
 InRange k i = (0 < i) × (i ≤ k)
@@ -63,3 +63,14 @@ once_of n x h j = go (dec_lt 0 (occurs j x))
     go : Dec (0 < occurs j x) → occurs j x ≤ 1
     go (yes o) = let r = h.only j o in let e : occurs j x ≡ 1 = h.each j r.0 r.1 in omega arith
     go (no z) = omega arith
+
+-- and over labels
+pub fill_slot-fits : (arity : ℕ → ℕ) (k : ℕ) (f : Slot) (x y : Tree ℕ) → IsShuffle k x → IsShuffle k y → Fits arity (fill_slot f x) → Fits arity y → Fits arity (fill_slot f y)
+fill_slot-fits arity k f x y hx hy h b = fits-fill arity f.context (graft x f.parts) (graft y f.parts) h
+    (fits-graft arity y f.parts b (by_leaf y (λ i. Fits arity (f.parts i)) (λ i o.
+    let r = hy.only i o in let e = hx.each i r.0 r.1 in
+    at_leaf x (λ j. Fits arity (f.parts j)) i (fits_parts arity x f.parts (fits_of_fill arity f.context (graft x f.parts) h)) (omega (arith, e)))))
+
+-- what fills a slot over labels is over the labels
+pub fits_of_slot : (arity : ℕ → ℕ) (f : Slot) (x : Tree ℕ) → Fits arity (fill_slot f x) → Fits arity x
+fits_of_slot arity f x h = fits_of_graft arity x f.parts (fits_of_fill arity f.context (graft x f.parts) h)

@@ -7,6 +7,7 @@ pub mod Frames
 pub mod Insertions
 pub mod Into
 pub mod Keys
+pub mod Laws
 pub mod ListedRows
 pub mod Listing
 pub mod Named

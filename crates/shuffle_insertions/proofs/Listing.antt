@@ -3,7 +3,7 @@ use Rattle.std.proofs.Common.{◌≡◌, ◌≢◌, ℕ, zero, suc, ◌+◌, ◌
 use mathlib.Core.Path.{ap₂}
 use native.Mathlib.Decide.{ℕ_discrete, dec_lt}
 use Rattle.labelled_trees.specs.Trees.{Tree, Row, leaf, node, none, more, vertices, vertices_row, width}
-use Rattle.shuffle_insertions.specs.ShuffleTrees.{least, least_row, IsRising, IsRisingRow, IsBefore, HasInput, IsShuffle}
+use Rattle.shuffle_insertions.specs.ShuffleTrees.{IsShuffleTree, least, least_row, IsRising, IsRisingRow, IsBefore, HasInput, IsShuffle}
 use Rattle.labelled_trees.specs.Leaves.{one_if, occurs, occurs_row, sum_leaves, sum_row}
 use Rattle.labelled_trees.specs.Labelled.{Fits, FitsRow}
 use Rattle.modular_sums.specs.Lists.{Mem, Rises}
@@ -18,7 +18,7 @@ use Rattle.shuffle_insertions.proofs.Splits.{Split, count, split_count, mem_left
 use Rattle.shuffle_insertions.proofs.Insertions.{once_of}
 use Rattle.shuffle_insertions.proofs.ListedRows.{times_node, none_each, node_lone, leaf_node, times_each}
 use Rattle.shuffle_insertions.proofs.Upto.{upto_rises, upto_count}
-use Rattle.shuffle_insertions.proofs.Counted.{times-append, times_mem, mem_times}
+use Rattle.shuffle_insertions.proofs.Counted.{distinct_times, times-append, times_mem, mem_times}
 
 -- a tree over the leaf numbers of a list
 pub record Good (arity : ℕ → ℕ) (l : List ℕ) (t : Tree ℕ) : Type 0 where
@@ -306,8 +306,21 @@ module _ (labels : ℕ) (arity : ℕ → ℕ) (are : AreLabels labels arity) (de
       zero_out (no w) = omega (arith, w)
 
   -- every shuffle tree on 1 to n that belongs to the labels, each once
-  pub all_listed : (n : ℕ) → IsListing labels arity n dec (all_trees labels arity n)
+  -- the list has shuffle trees over the labels alone
+  listed_only : (n : ℕ) (t : Tree ℕ) → 0 < times dec t (all_trees labels arity n) → IsShuffleTree arity n t
+  listed_only n t p = let h = shuffle_of n t (only_good n (upto n) t (upto_rises n) p) in record { fits = h.1; shuffle = h.0 }
+
+  -- and each of them once
+  listed_once : (n : ℕ) (t : Tree ℕ) → IsShuffleTree arity n t → times dec t (all_trees labels arity n) ≡ 1
+  listed_once n t h = each_good n (upto n) t (upto_rises n) (good_of n t h.shuffle h.fits) (let v = few_vertices t h.fits in let k = leaves_few n t h.shuffle in omega (arith, v, k))
+
+  at_most_once : (n : ℕ) (t : Tree ℕ) → Dec (0 < times dec t (all_trees labels arity n)) → times dec t (all_trees labels arity n) ≤ 1
+  at_most_once n t (yes p) = let e = listed_once n t (listed_only n t p) in omega (arith, e)
+  at_most_once n t (no z) = omega (arith, z)
+
+  pub all_listed : (n : ℕ) → IsListing arity n (all_trees labels arity n)
   all_listed n = record {
-    only = λ t p. shuffle_of n t (only_good n (upto n) t (upto_rises n) p);
-    each = λ t h b. each_good n (upto n) t (upto_rises n) (good_of n t h b) (let v = few_vertices t b in let k = leaves_few n t h in omega (arith, v, k));
+    distinct = distinct_times dec (all_trees labels arity n) (λ t. at_most_once n t (dec_lt 0 (times dec t (all_trees labels arity n))));
+    only = λ t m. listed_only n t (mem_times dec t (all_trees labels arity n) m);
+    each = λ t h. times_mem dec t (all_trees labels arity n) (let e = listed_once n t h in omega (arith, e));
   }

@@ -1,10 +1,10 @@
--- The list of all shuffle trees over a list of labels.
-use Rattle.std.specs.Prelude.{ℕ, ◌+◌, ◌≡◌, ◌<◌, List, [], ◌∷◌, ◌++◌, map}
+-- The list of all shuffle trees over labels.
+use Rattle.std.specs.Prelude.{ℕ, ◌+◌, List, [], ◌∷◌, ◌++◌, map}
 use Rattle.std.proofs.Common.{zero, suc}
 use Rattle.labelled_trees.specs.Trees.{Tree, Row, leaf, node, none, more}
 use Rattle.labelled_trees.specs.Leaves.{one_if}
-use Rattle.labelled_trees.specs.Labelled.{Fits}
-use Rattle.shuffle_insertions.specs.ShuffleTrees.{IsShuffle}
+use Rattle.modular_sums.specs.Lists.{Mem, Distinct}
+use Rattle.shuffle_insertions.specs.ShuffleTrees.{IsShuffleTree}
 
 -- how often an item stands in a list
 abbrev pub times : {X : Type 0} → Discrete X → X → List X → ℕ
@@ -21,6 +21,7 @@ abbrev pub joined_splits : {X : Type 0} → List ℕ → (List ℕ → List ℕ 
 joined_splits [] f = f [] []
 joined_splits (x ∷ l) f = joined_splits l (λ b c. f (x ∷ b) c) ++ joined_splits l (λ b c. f b (x ∷ c))
 
+-- each row of the second list with each tree of the first before it
 abbrev pub each_with_each : List (Tree ℕ) → List (Row ℕ) → List (Row ℕ)
 each_with_each [] rs = []
 each_with_each (t ∷ ts) rs = map (λ r. more t r) rs ++ each_with_each ts rs
@@ -32,6 +33,7 @@ rows t zero (a ∷ l) = []
 rows t (suc k) [] = []
 rows t (suc k) (a ∷ l) = joined_splits l (λ b c. each_with_each (t (a ∷ b)) (rows t k c))
 
+-- the leaf alone, where there is one number
 abbrev pub lone : List ℕ → List (Tree ℕ)
 lone [] = []
 lone (a ∷ []) = leaf a ∷ []
@@ -39,19 +41,20 @@ lone (a ∷ (b ∷ l)) = []
 
 -- the shuffle trees of at most so many levels over the leaf numbers, which rise
 abbrev pub shuffles : ℕ → (ℕ → ℕ) → ℕ → List ℕ → List (Tree ℕ)
-shuffles count arity zero l = []
-shuffles count arity (suc levels) l = lone l ++ joined_below count (λ g. map (λ r. node g r) (rows (shuffles count arity levels) (arity g) l))
+shuffles labels arity zero l = []
+shuffles labels arity (suc levels) l = lone l ++ joined_below labels (λ g. map (λ r. node g r) (rows (shuffles labels arity levels) (arity g) l))
 
 -- 1 to n
 abbrev pub upto : ℕ → List ℕ
 upto zero = []
 upto (suc n) = upto n ++ (suc n ∷ [])
 
--- 04 section 6, where a label stands for each of the words of its generator
+-- all shuffle trees of arity n over so many labels
 abbrev pub all_trees : ℕ → (ℕ → ℕ) → ℕ → List (Tree ℕ)
-all_trees count arity n = shuffles count arity n (upto n)
+all_trees labels arity n = shuffles labels arity n (upto n)
 
--- the trees of the set, each once
-pub record IsListing (count : ℕ) (arity : ℕ → ℕ) (n : ℕ) (dec : Discrete (Tree ℕ)) (l : List (Tree ℕ)) : Type 0 where
-  pub only : (t : Tree ℕ) → 0 < times dec t l → IsShuffle n t × Fits arity t
-  pub each : (t : Tree ℕ) → IsShuffle n t → Fits arity t → times dec t l ≡ 1
+-- The list has each shuffle tree of arity n over the labels once, and nothing else.
+pub record IsListing (arity : ℕ → ℕ) (n : ℕ) (l : List (Tree ℕ)) : Type 0 where
+  pub distinct : Distinct l
+  pub only : (t : Tree ℕ) → Mem t l → IsShuffleTree arity n t
+  pub each : (t : Tree ℕ) → IsShuffleTree arity n t → Mem t l
