@@ -31,10 +31,10 @@ mem_map f x [] h = absurd h
 mem_map f x (y ∷ k) (inl e) = inl (ap f e)
 mem_map f x (y ∷ k) (inr h) = inr (mem_map f x k h)
 
-pub mem_of_map : {X Y : Type 0} (f : X → Y) (y : Y) (l : List X) → Mem y (map f l) → (x : X) × (y ≡ f x) × Mem x l
+pub mem_of_map : {X Y : Type 0} (f : X → Y) (y : Y) (l : List X) → Mem y (map f l) → (x : X) × Mem x l × (y ≡ f x)
 mem_of_map f y [] h = absurd h
-mem_of_map f y (x ∷ l) (inl e) = (x, e, inl refl)
-mem_of_map f y (x ∷ l) (inr h) = let k = mem_of_map f y l h in (k.0, k.1, inr k.2)
+mem_of_map f y (x ∷ l) (inl e) = (x, inl refl, e)
+mem_of_map f y (x ∷ l) (inr h) = let k = mem_of_map f y l h in (k.0, inr k.1, k.2)
 
 pub has_mem : (l : List ℕ) (v : ℕ) → has l v ≡ true → Mem v l
 has_mem [] v e = absurd (cc e)

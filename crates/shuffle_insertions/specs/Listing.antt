@@ -22,7 +22,7 @@ joined_splits [] f = f [] []
 joined_splits (x ∷ l) f = joined_splits l (λ b c. f (x ∷ b) c) ++ joined_splits l (λ b c. f b (x ∷ c))
 
 -- each row of the second list with each tree of the first before it
-abbrev pub each_with_each : List (Tree ℕ) → List (Row ℕ) → List (Row ℕ)
+abbrev pub each_with_each : {X : Type 0} → List (Tree X) → List (Row X) → List (Row X)
 each_with_each [] rs = []
 each_with_each (t ∷ ts) rs = map (λ r. more t r) rs ++ each_with_each ts rs
 

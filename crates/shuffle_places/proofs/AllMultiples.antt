@@ -9,18 +9,19 @@ use Rattle.std.specs.Cmp.Lexicographic.{slice_cmp}
 use Rattle.labelled_trees.specs.Trees.{Tree, IsNode, vertices}
 use Rattle.labelled_trees.specs.Equality.{tree_discrete}
 use Rattle.shuffle_insertions.specs.ShuffleTrees.{IsShuffle}
+use Rattle.shuffle_places.proofs.Places.{place_of_cut, cut_of_place}
 use Rattle.shuffle_places.specs.Cuts.{IsCut}
 use Rattle.modular_sums.specs.Lists.{Mem, Distinct, holds, has}
 use Rattle.shuffle_insertions.specs.Listing.{times, upto}
 use Rattle.shuffle_places.specs.Overlays.{shape_discrete, shape, shapes_of}
 use Rattle.shuffle_places.specs.Numberings.{numberings}
-use Rattle.shuffle_places.specs.Places.{places}
+use Rattle.shuffle_places.specs.AllPlaces.{places}
 use Rattle.shuffle_places.specs.Multiples.{IsMultiple}
 use Rattle.shuffle_places.specs.AllMultiples.{meet, cover, in_order, test, joined, any_same, different, multiples, only_where}
 use Rattle.modular_sums.proofs.Lists.{has_mem, mem_has, mem_either, mem_left, mem_right}
 use Rattle.shuffle_places.proofs.Overlays.{multiple_shape}
 use Rattle.shuffle_places.proofs.Numberings.{all_numbered}
-use Rattle.shuffle_places.proofs.PlacesOf.{listed_place, place_listed, places_distinct}
+use Rattle.shuffle_places.proofs.AllPlaces.{listed_place, place_listed, places_distinct}
 use Rattle.shuffle_insertions.proofs.Counted.{mem_times, times_mem, distinct_times}
 use Rattle.shuffle_insertions.proofs.Upto.{in_upto, upto_mem}
 
@@ -211,7 +212,7 @@ module _ (a b : Tree ℕ) (na : IsNode a) (nb : IsNode b) (n : ℕ) where
           let x = both_true (meet i j) (cond (cover (upto (vertices t)) i j) (in_order a b i j) false) e in
           let y = both_true (cover (upto (vertices t)) i j) (in_order a b i j) x.1 in
           record {
-            overlap = record { valid = v; first_at = p; second_at = q; shared = meet_shared i j x.0; covers = λ u pos le. covered (upto (vertices t)) i j y.0 u (in_upto (vertices t) u pos le) };
+            overlap = record { valid = v; first_at = place_of_cut t i a p; second_at = place_of_cut t j b q; shared = meet_shared i j x.0; covers = λ u pos le. covered (upto (vertices t)) i j y.0 u (in_upto (vertices t) u pos le) };
             ordered = ordered_of a b i j y.1;
           }
 
@@ -227,8 +228,8 @@ module _ (a b : Tree ℕ) (na : IsNode a) (nb : IsNode b) (n : ℕ) where
       (in_different (shape tree) (shapes_of a b) (multiple_shape n a b tree k l o))
       (into_joined (numberings (shape tree) (upto n)) (λ t. joined (places a 1 t) (λ i. joined (places b 1 t) (λ j. cond (test a b t i j) ((t, i, j) ∷ []) []))) tree (tree, k, l)
       (times_mem tree_discrete tree (numberings (shape tree) (upto n)) (omega (arith, number)))
-      (into_joined (places a 1 tree) (λ i. joined (places b 1 tree) (λ j. cond (test a b tree i j) ((tree, i, j) ∷ []) [])) k (tree, k, l) (place_listed a na tree k o.first_at)
-      (into_joined (places b 1 tree) (λ j. cond (test a b tree k j) ((tree, k, j) ∷ []) []) l (tree, k, l) (place_listed b nb tree l o.second_at)
+      (into_joined (places a 1 tree) (λ i. joined (places b 1 tree) (λ j. cond (test a b tree i j) ((tree, i, j) ∷ []) [])) k (tree, k, l) (place_listed a na tree k (cut_of_place tree k a o.first_at))
+      (into_joined (places b 1 tree) (λ j. cond (test a b tree k j) ((tree, k, j) ∷ []) []) l (tree, k, l) (place_listed b nb tree l (cut_of_place tree l b o.second_at))
       (into_cond (test a b tree k l) (tree, k, l) e))))
 
   at_most_once : (form : Tree (Unit {0})) (t : Tree ℕ) → times tree_discrete t (numberings form (upto n)) ≤ 1

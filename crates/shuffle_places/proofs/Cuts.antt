@@ -1,69 +1,19 @@
 -- Each connected set of vertices is the set of exactly one context and pattern.
-use Rattle.std.proofs.Common.{◌≡◌, ℕ, zero, suc, ◌+◌, ◌<◌, List, [], ◌∷◌, Bool, true, false, refl, sym, ◌∙◌, ap, arith, subst, inl, inr, ◌⊎◌}
+use Rattle.std.proofs.Common.{◌≡◌, ℕ, zero, suc, ◌+◌, ◌<◌, List, Bool, true, false, refl, sym, ◌∙◌, ap, arith, subst, inl, inr, ◌⊎◌}
 use mathlib.Core.List.{◌++◌}
 use mathlib.Core.Path.{ap₂}
-use native.Mathlib.Decide.{ℕ_discrete}
 use Rattle.labelled_trees.specs.Trees.{Tree, Row, leaf, node, none, more, graft, join, IsNode, vertices, vertices_row}
 use Rattle.labelled_trees.specs.Contexts.{Ctx, RowCtx, hole, inside, here, past, fill, fill_row}
 use Rattle.shuffle_insertions.specs.ShuffleTrees.{least}
 use Rattle.labelled_trees.specs.Ranks.{standard}
 use Rattle.shuffle_places.specs.Cuts.{cut, cut_row, numbers, numbers_row, start, start_row, IsCut}
-use Rattle.modular_sums.specs.Lists.{Mem, Rises}
+use Rattle.modular_sums.specs.Lists.{has, Mem}
 use Rattle.shuffle_places.specs.Connected.{Edge, EdgeRow, IsConnected}
 use Rattle.labelled_trees.proofs.Grafts.{graft_leaf}
 use Rattle.labelled_trees.proofs.Contexts.{node-eq, more-eq}
-use Rattle.modular_sums.proofs.Lists.{tail_same, mem_left, mem_right, mem_either}
+use Rattle.modular_sums.proofs.Lists.{same_rising, mem_has, has_mem, tail_same, mem_left, mem_right, mem_either}
 use Rattle.shuffle_places.proofs.Vertices.{In, numbers_in, numbers_row_in, join-cut, join-cut_row, cut-numbers}
 use Rattle.shuffle_places.proofs.Sets.{At, vertex_at, edge_in, edge_row_in, edge_inside, start_in, start_row_in, node_has, numbers_rise, numbers_connected}
-
-abbrev found : {C : Type 0} → Dec C → Bool → Bool
-found (yes _) b = true
-found (no _) b = b
-
--- the test of membership
-abbrev pub has : List ℕ → ℕ → Bool
-has [] v = false
-has (x ∷ l) v = found (ℕ_discrete v x) (has l v)
-
-pub has_mem : (l : List ℕ) (v : ℕ) → has l v ≡ true → Mem v l
-has_mem [] v e = absurd (cc e)
-has_mem (x ∷ l) v e = go (ℕ_discrete v x) (λ h. has_mem l v h) e
-  where
-    go : (d : Dec (v ≡ x)) → (has l v ≡ true → Mem v l) → found d (has l v) ≡ true → (v ≡ x) ⊎ Mem v l
-    go (yes h) ih e = inl h
-    go (no _) ih e = inr (ih e)
-
-pub mem_has : (l : List ℕ) (v : ℕ) → Mem v l → has l v ≡ true
-mem_has [] v h = absurd h
-mem_has (x ∷ l) v h = go (ℕ_discrete v x) (λ m. mem_has l v m) h
-  where
-    go : (d : Dec (v ≡ x)) → (Mem v l → has l v ≡ true) → (v ≡ x) ⊎ Mem v l → found d (has l v) ≡ true
-    go (yes _) ih h = refl
-    go (no f) ih (inl e) = absurd (f e)
-    go (no f) ih (inr m) = ih m
-
--- rising lists with the same members
-pub same_rising : (k l : List ℕ) → Rises k → Rises l → ((u : ℕ) → Mem u k → Mem u l) → ((u : ℕ) → Mem u l → Mem u k) → k ≡ l
-same_rising [] [] a b f g = refl
-same_rising [] (y ∷ l) a b f g = absurd (g y (inl refl))
-same_rising (x ∷ k) [] a b f g = absurd (f x (inl refl))
-same_rising (x ∷ k) (y ∷ l) a b f g = ap₂ (λ v m. v ∷ m) one (same_rising k l a.1 b.1 (λ u m. drop_first u m (f u (inr m))) (λ u m. drop_second u m (g u (inr m))))
-  where
-    one_of : (x ≡ y) ⊎ Mem x l → (y ≡ x) ⊎ Mem y k → x ≡ y
-    one_of (inl e) q = e
-    one_of (inr m) (inl e) = sym e
-    one_of (inr m) (inr n) = absurd (omega (arith, b.0 x m, a.0 y n))
-
-    one : x ≡ y
-    one = one_of (f x (inl refl)) (g y (inl refl))
-
-    drop_first : (u : ℕ) → Mem u k → (u ≡ y) ⊎ Mem u l → Mem u l
-    drop_first u m (inl e) = absurd (omega (arith, a.0 u m, e, one))
-    drop_first u m (inr n) = n
-
-    drop_second : (u : ℕ) → Mem u l → (u ≡ x) ⊎ Mem u k → Mem u k
-    drop_second u m (inl e) = absurd (omega (arith, b.0 u m, e, one))
-    drop_second u m (inr n) = n
 
 both_members : (P : Type 0) (u : ℕ) (k l : List ℕ) → (Mem u k → P) → (Mem u l → P) → Mem u k ⊎ Mem u l → P
 both_members P u k l f g (inl m) = f m
@@ -262,12 +212,12 @@ top_of c d (node l r) (leaf y) np nq e = absurd nq
 top_of c d (node l r) (node m s) np nq e =
     (tail_same (start 1 c) (start 1 d) (numbers_row (λ v. v) (suc (start 1 c)) r) (numbers_row (λ v. v) (suc (start 1 d)) s) e).0
 
-join_node : {A : Type 0} (p : Tree (Tree A)) → IsNode p → IsNode (join p)
+pub join_node : {A : Type 0} (p : Tree (Tree A)) → IsNode p → IsNode (join p)
 join_node (leaf x) n = absurd n
 join_node (node l r) n = tt
 
 -- a set's own numbers cut its pattern out
-cut_again : {A : Type 0} (k : ℕ) (p : Tree (Tree A)) (l : List ℕ) → l ≡ numbers (λ v. v) k p → cut (has l) k (join p) ≡ p
+pub cut_again : {A : Type 0} (k : ℕ) (p : Tree (Tree A)) (l : List ℕ) → l ≡ numbers (λ v. v) k p → cut (has l) k (join p) ≡ p
 cut_again k p l e =
     cut-numbers (λ v. v) (has l) k p (λ v i. (λ h. subst (Mem v) e (has_mem l v h), λ m. mem_has l v (subst (Mem v) (sym e) m))) ∙ graft_leaf p
 
@@ -279,13 +229,13 @@ one_cut host set a b =
     (h.0, sym (cut_again (start 1 a.context) a.pattern_at set a.set_is) ∙ ap₂ (cut (has set)) s h.1 ∙ cut_again (start 1 b.context) b.pattern_at set b.set_is)
 
 -- the place of a connected set, and its one divisor
-pub place_of : (host : Tree ℕ) (set : List ℕ) → IsConnected host set → (divisor : Tree ℕ) × IsCut host set divisor
-place_of host set h =
+pub cut_of_connected : (host : Tree ℕ) (set : List ℕ) → IsConnected host set → (divisor : Tree ℕ) × IsCut host set divisor
+cut_of_connected host set h =
     let c = cut_of ℕ host set h in
     (standard (graft c.pattern_at (λ v. leaf (least v))), record { context = c.context; pattern_at = c.pattern_at; is_node = c.is_node; host_is = c.host_is; set_is = c.set_is; divisor_is = refl })
 
-pub connected_place : (host : Tree ℕ) (set : List ℕ) (divisor : Tree ℕ) → IsCut host set divisor → IsConnected host set
-connected_place host set divisor p = connected_of host set record { context = p.context; pattern_at = p.pattern_at; is_node = p.is_node; host_is = p.host_is; set_is = p.set_is }
+pub connected_of_cut : (host : Tree ℕ) (set : List ℕ) (divisor : Tree ℕ) → IsCut host set divisor → IsConnected host set
+connected_of_cut host set divisor p = connected_of host set record { context = p.context; pattern_at = p.pattern_at; is_node = p.is_node; host_is = p.host_is; set_is = p.set_is }
 
 pub one_divisor : (host : Tree ℕ) (set : List ℕ) (d e : Tree ℕ) → IsCut host set d → IsCut host set e → d ≡ e
 one_divisor host set d e p q =

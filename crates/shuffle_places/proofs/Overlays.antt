@@ -1,5 +1,5 @@
 -- Each small common multiple has one of the candidate shapes.
-use Rattle.std.proofs.Common.{◌≡◌, ℕ, suc, ◌+◌, ◌<◌, ◌≤◌, List, [], ◌∷◌, map, refl, sym, ◌∙◌, ap, arith, subst, inl, inr, ◌⊎◌}
+use Rattle.std.proofs.Common.{◌≡◌, ℕ, suc, ◌+◌, ◌<◌, ◌≤◌, List, ◌∷◌, map, refl, sym, ◌∙◌, ap, arith, subst, inl, inr, ◌⊎◌}
 use mathlib.Core.List.{◌++◌}
 use mathlib.Core.Path.{ap₂}
 use Rattle.labelled_trees.specs.Trees.{Tree, Row, leaf, node, none, more, graft, graft_row, join, IsNode, IsLeaf, vertices, vertices_row}
@@ -8,6 +8,7 @@ use Rattle.labelled_trees.specs.Unions.{union, union_row}
 use Rattle.shuffle_insertions.specs.ShuffleTrees.{least}
 use Rattle.labelled_trees.specs.Ranks.{below, standard}
 use Rattle.labelled_trees.specs.Leaves.{AllLeaves, AllRow}
+use Rattle.shuffle_places.proofs.Places.{cut_of_place}
 use Rattle.shuffle_places.specs.Cuts.{numbers, numbers_row, start, start_row, IsCut}
 use Rattle.modular_sums.specs.Lists.{Mem}
 use Rattle.shuffle_places.specs.Multiples.{IsOverlap}
@@ -15,35 +16,21 @@ use Rattle.shuffle_places.specs.Overlays.{shape, shape_row, overlays, overlays_r
 use Rattle.labelled_trees.proofs.Grafts.{graft_assoc}
 use Rattle.labelled_trees.proofs.Contexts.{node-eq, more-eq, graft-fill, graft_row-fill, compose-hole}
 use Rattle.labelled_trees.proofs.Unions.{Within, within}
-use Rattle.modular_sums.proofs.Lists.{mem_either}
+use Rattle.modular_sums.proofs.Lists.{mem_right, mem_map, mem_left, mem_either}
 use Rattle.shuffle_places.proofs.Vertices.{In, numbers_in, numbers_row_in}
 use Rattle.shuffle_places.proofs.Sets.{start_in, start_row_in, start_row_from, start-compose}
-
-pub among_left : {X : Type 0} (x : X) (k l : List X) → Mem x k → Mem x (k ++ l)
-among_left x [] l h = absurd h
-among_left x (y ∷ k) l (inl e) = inl e
-among_left x (y ∷ k) l (inr h) = inr (among_left x k l h)
-
-pub among_right : {X : Type 0} (x : X) (k l : List X) → Mem x l → Mem x (k ++ l)
-among_right x [] l h = h
-among_right x (y ∷ k) l h = inr (among_right x k l h)
-
-among_map : {X Y : Type 0} (f : X → Y) (x : X) (k : List X) → Mem x k → Mem (f x) (map f k)
-among_map f x [] h = absurd h
-among_map f x (y ∷ k) (inl e) = inl (ap f e)
-among_map f x (y ∷ k) (inr h) = inr (among_map f x k h)
 
 mutual
   at_vertex : {X : Type 0} (c : Ctx X) (x b : Tree X) → IsNode x → Mem (fill c (union x b)) (overlays (fill c x) b)
   at_vertex hole (leaf y) b n = absurd n
   at_vertex hole (node l r) b n = inl refl
-  at_vertex (inside l c) x b n = inr (among_map (node l) (fill_row c (union x b)) (overlays_row (fill_row c x) b) (at_vertex_row c x b n))
+  at_vertex (inside l c) x b n = inr (mem_map (node l) (fill_row c (union x b)) (overlays_row (fill_row c x) b) (at_vertex_row c x b n))
 
   at_vertex_row : {X : Type 0} (c : RowCtx X) (x b : Tree X) → IsNode x → Mem (fill_row c (union x b)) (overlays_row (fill_row c x) b)
-  at_vertex_row (here c r) x b n = among_left (more (fill c (union x b)) r) (map (λ y. more y r) (overlays (fill c x) b)) (map (more (fill c x)) (overlays_row r b))
-      (among_map (λ y. more y r) (fill c (union x b)) (overlays (fill c x) b) (at_vertex c x b n))
-  at_vertex_row (past t c) x b n = among_right (more t (fill_row c (union x b))) (map (λ y. more y (fill_row c x)) (overlays t b)) (map (more t) (overlays_row (fill_row c x) b))
-      (among_map (more t) (fill_row c (union x b)) (overlays_row (fill_row c x) b) (at_vertex_row c x b n))
+  at_vertex_row (here c r) x b n = mem_left (more (fill c (union x b)) r) (map (λ y. more y r) (overlays (fill c x) b)) (map (more (fill c x)) (overlays_row r b))
+      (mem_map (λ y. more y r) (fill c (union x b)) (overlays (fill c x) b) (at_vertex c x b n))
+  at_vertex_row (past t c) x b n = mem_right (more t (fill_row c (union x b))) (map (λ y. more y (fill_row c x)) (overlays t b)) (map (more t) (overlays_row (fill_row c x) b))
+      (mem_map (more t) (fill_row c (union x b)) (overlays_row (fill_row c x) b) (at_vertex_row c x b n))
 
 mutual
   shape_union : {X : Type 0} (p q : Tree X) → shape (union p q) ≡ union (shape p) (shape q)
@@ -324,8 +311,14 @@ module _ (tree : Tree ℕ) (first second : List ℕ) (a b : Tree ℕ) (p : IsCut
 
 -- each small common multiple has one of the candidate shapes
 pub multiple_shape : (n : ℕ) (a b tree : Tree ℕ) (first second : List ℕ) → IsOverlap n a b tree first second → Mem (shape tree) (shapes_of a b)
-multiple_shape n a b tree first second o = go (o.covers 1 (omega arith) (some_vertex o.shared.0 o.first_at o.shared.1))
+multiple_shape n a b tree first second o = go (o.covers 1 (omega arith) (some_vertex o.shared.0 first_cut o.shared.1))
   where
+    first_cut : IsCut tree first a
+    first_cut = cut_of_place tree first a o.first_at
+
+    second_cut : IsCut tree second b
+    second_cut = cut_of_place tree second b o.second_at
+
     some_vertex : (v : ℕ) (p : IsCut tree first a) → Mem v first → 1 ≤ vertices tree
     some_vertex v p m =
         let i = numbers_in self (start 1 p.context) p.pattern_at v (subst (Mem v) p.set_is m) in
@@ -341,7 +334,7 @@ multiple_shape n a b tree first second o = go (o.covers 1 (omega arith) (some_ve
     swap (inr q) = inl q
 
     go : Mem 1 first ⊎ Mem 1 second → Mem (shape tree) (shapes_of a b)
-    go (inl m) = among_left (shape tree) (overlays (shape a) (shape b)) (overlays (shape b) (shape a))
-        (rooted_shape tree first second a b o.first_at o.second_at o.covers o.shared.0 o.shared.1 o.shared.2 (rooted first a o.first_at m))
-    go (inr m) = among_right (shape tree) (overlays (shape a) (shape b)) (overlays (shape b) (shape a))
-        (rooted_shape tree second first b a o.second_at o.first_at (λ v p l. swap (o.covers v p l)) o.shared.0 o.shared.2 o.shared.1 (rooted second b o.second_at m))
+    go (inl m) = mem_left (shape tree) (overlays (shape a) (shape b)) (overlays (shape b) (shape a))
+        (rooted_shape tree first second a b first_cut second_cut o.covers o.shared.0 o.shared.1 o.shared.2 (rooted first a first_cut m))
+    go (inr m) = mem_right (shape tree) (overlays (shape a) (shape b)) (overlays (shape b) (shape a))
+        (rooted_shape tree second first b a second_cut first_cut (λ v p l. swap (o.covers v p l)) o.shared.0 o.shared.2 o.shared.1 (rooted second b second_cut m))

@@ -9,7 +9,7 @@ use Rattle.labelled_trees.specs.Equality.{tree_discrete}
 use Rattle.shuffle_insertions.specs.Listing.{upto}
 use Rattle.shuffle_places.specs.Overlays.{shape_discrete, shapes_of}
 use Rattle.shuffle_places.specs.Numberings.{numberings}
-use Rattle.shuffle_places.specs.Places.{places}
+use Rattle.shuffle_places.specs.AllPlaces.{places}
 
 abbrev pub holds : {A : Type 0} → Dec A → Bool → Bool
 holds (yes _) b = true

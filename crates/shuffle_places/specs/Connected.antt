@@ -1,13 +1,8 @@
--- Places as lists of vertex numbers: the vertices of a tree are numbered from 1 in preorder.
-use Rattle.std.specs.Prelude.{ℕ, ◌+◌, ◌≡◌, ◌<◌, ◌≤◌, List, [], ◌∷◌}
+-- Connected sets of vertices; the vertices of a tree are numbered from 1 in preorder.
+use Rattle.std.specs.Prelude.{ℕ, ◌+◌, ◌≡◌, ◌<◌, ◌≤◌, List, ◌∷◌}
 use Rattle.std.proofs.Common.{suc, ◌⊎◌}
-use Rattle.modular_sums.specs.Lists.{Mem}
+use Rattle.modular_sums.specs.Lists.{Mem, Rises}
 use Rattle.labelled_trees.specs.Trees.{Tree, Row, leaf, node, none, more, IsNode, vertices}
-
--- each number is below those after it
-abbrev pub Rises : List ℕ → Type 0
-Rises [] = Unit {0}
-Rises (v ∷ l) = ((u : ℕ) → Mem u l → v < u) × Rises l
 
 -- vertex u stands directly below vertex p, where the root of the tree has number k
 abbrev mutual
@@ -20,7 +15,8 @@ abbrev mutual
   EdgeRow up k none p u = ⊥
   EdgeRow up k (more t r) p u = (IsNode t × (p ≡ up) × (u ≡ k)) ⊎ (Edge k t p u ⊎ EdgeRow up (k + vertices t) r p u)
 
--- a rising list of vertices of the tree that isn't empty, in which each but the first stands directly below another
+-- A connected set of vertices: a rising list of numbers of vertices that isn't empty, in which each but the first
+-- stands directly below another (Dotsenko and Khoroshkin 2010, subtrees).
 pub record IsConnected {A : Type 0} (t : Tree A) (l : List ℕ) : Type 0 where
   pub top : ℕ
   pub rest : List ℕ

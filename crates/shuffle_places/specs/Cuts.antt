@@ -36,7 +36,7 @@ abbrev mutual
   start_row k (here c r) = start k c
   start_row k (past t c) = start_row (k + vertices t) c
 
--- a connected set of vertices that isn't empty, its divisor, and how it lies in the host
+-- a place as a context and a pattern whose vertices are the set, with its divisor: a form that serves the proofs
 pub record IsCut (host : Tree ℕ) (set : List ℕ) (divisor : Tree ℕ) : Type 0 where
   pub context : Ctx ℕ
   pub pattern_at : Tree (Tree ℕ)

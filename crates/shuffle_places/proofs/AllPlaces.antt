@@ -9,10 +9,12 @@ use Rattle.labelled_trees.specs.Equality.{tree_discrete}
 use Rattle.shuffle_places.specs.Cuts.{numbers, start, start_row, IsCut}
 use Rattle.modular_sums.specs.Lists.{Mem, Rises, Distinct}
 use Rattle.shuffle_places.specs.Overlays.{shape, shape_row}
-use Rattle.shuffle_places.specs.Places.{where_so, pairs, lay, lay_row, divisor_of, with_divisor, places, places_row}
+use Rattle.shuffle_places.specs.AllPlaces.{where_so, lay, lay_row, with_divisor, places, places_row}
+use Rattle.shuffle_places.specs.Places.{divisor_of}
+use Rattle.shuffle_insertions.specs.Listing.{each_with_each}
 use Rattle.labelled_trees.proofs.Contexts.{node-eq, more-eq}
 use Rattle.shuffle_places.proofs.Vertices.{In}
-use Rattle.modular_sums.proofs.Lists.{mem_either, Rises-append, mem_left, mem_right}
+use Rattle.modular_sums.proofs.Lists.{mem_of_map, mem_either, Rises-append, mem_left, mem_right}
 use Rattle.shuffle_places.proofs.Overlays.{standard_shape}
 
 abbrev self : Tree ℕ → Tree ℕ
@@ -38,29 +40,15 @@ mutual
   lay_own_row (more t r) none e = absurd (cc e)
   lay_own_row (more t r) (more u s) e =
       let d = more-eq (shape u) (shape t) (shape_row s) (shape_row r) e in
-      ap₂ pairs (lay_own t u d.0) (lay_own_row r s d.1)
+      ap₂ each_with_each (lay_own t u d.0) (lay_own_row r s d.1)
 
-pub among_split : {X : Type 0} (x : X) (k l : List X) → Mem x (k ++ l) → Mem x k ⊎ Mem x l
-among_split x [] l h = inr h
-among_split x (y ∷ k) l (inl e) = inl (inl e)
-among_split x (y ∷ k) l (inr h) = widen (among_split x k l h)
-  where
-    widen : Mem x k ⊎ Mem x l → Mem x (y ∷ k) ⊎ Mem x l
-    widen (inl m) = inl (inr m)
-    widen (inr m) = inr m
-
-from_map : {X Y : Type 0} (f : X → Y) (y : Y) (l : List X) → Mem y (map f l) → (x : X) × Mem x l × (y ≡ f x)
-from_map f y [] h = absurd h
-from_map f y (x ∷ l) (inl e) = (x, inl refl, e)
-from_map f y (x ∷ l) (inr h) = let r = from_map f y l h in (r.0, inr r.1, r.2)
-
-from_pairs : {X : Type 0} (y : Row X) (ts : List (Tree X)) (rs : List (Row X)) → Mem y (pairs ts rs) → (t : Tree X) × (r : Row X) × Mem t ts × Mem r rs × (y ≡ more t r)
+from_pairs : {X : Type 0} (y : Row X) (ts : List (Tree X)) (rs : List (Row X)) → Mem y (each_with_each ts rs) → (t : Tree X) × (r : Row X) × Mem t ts × Mem r rs × (y ≡ more t r)
 from_pairs y [] rs h = absurd h
-from_pairs {X = X} y (t ∷ ts) rs h = go (among_split y (map (λ r. more t r) rs) (pairs ts rs) h) (λ m. from_pairs y ts rs m)
+from_pairs {X = X} y (t ∷ ts) rs h = go (mem_either y (map (λ r. more t r) rs) (each_with_each ts rs) h) (λ m. from_pairs y ts rs m)
   where
-    go : Mem y (map (λ r. more t r) rs) ⊎ Mem y (pairs ts rs) → (Mem y (pairs ts rs) → (t' : Tree X) × (r : Row X) × Mem t' ts × Mem r rs × (y ≡ more t' r))
+    go : Mem y (map (λ r. more t r) rs) ⊎ Mem y (each_with_each ts rs) → (Mem y (each_with_each ts rs) → (t' : Tree X) × (r : Row X) × Mem t' ts × Mem r rs × (y ≡ more t' r))
         → (t' : Tree X) × (r : Row X) × Mem t' (t ∷ ts) × Mem r rs × (y ≡ more t' r)
-    go (inl m) f = let k = from_map (λ r. more t r) y rs m in (t, k.0, inl refl, k.1, k.2)
+    go (inl m) f = let k = mem_of_map (λ r. more t r) y rs m in (t, k.0, inl refl, k.1, k.2)
     go (inr m) f = let k = f m in (k.0, k.1, inr k.2, k.3, k.4)
 
 from_where : {A X : Type 0} (d : Dec A) (x : X) (l : List X) → Mem x (where_so d l) → A × Mem x l
@@ -75,7 +63,7 @@ mutual
   lay_joins (node l r) (leaf n) q h = absurd h
   lay_joins (node l r) (node m s) q h =
       let w = from_where (ℕ_discrete l m) q (map (λ q. node m q) (lay_row r s)) h in
-      let k = from_map (λ q. node m q) q (lay_row r s) w.1 in
+      let k = mem_of_map (λ q. node m q) q (lay_row r s) w.1 in
       (ap join k.2 ∙ ap (node m) (lay_joins_row r s k.0 k.1), λ n. subst IsNode (sym k.2) tt)
 
   lay_joins_row : {X : Type 0} (r : Row X) (s : Row ℕ) (q : Row (Tree ℕ)) → Mem q (lay_row r s) → graft_row q self ≡ s
@@ -106,7 +94,7 @@ pub record AtRow (a : Tree ℕ) (k : ℕ) (r : Row ℕ) (set : List ℕ) : Type 
 
 from_divisor : (a : Tree ℕ) (k : ℕ) (l : List (Tree (Tree ℕ))) (set : List ℕ) → Mem set (with_divisor a k l) → (q : Tree (Tree ℕ)) × Mem q l × (divisor_of q ≡ a) × (set ≡ numbers self k q)
 from_divisor a k [] set h = absurd h
-from_divisor a k (q ∷ l) set h = go (among_split set (where_so (tree_discrete (divisor_of q) a) (numbers self k q ∷ [])) (with_divisor a k l) h) (λ m. from_divisor a k l set m)
+from_divisor a k (q ∷ l) set h = go (mem_either set (where_so (tree_discrete (divisor_of q) a) (numbers self k q ∷ [])) (with_divisor a k l) h) (λ m. from_divisor a k l set m)
   where
     one : Mem set (numbers self k q ∷ []) → set ≡ numbers self k q
     one (inl e) = e
@@ -134,7 +122,7 @@ module _ (a : Tree ℕ) (a_node : IsNode a) where
   in_rest k t r set h = record { context = past t h.context; pattern_at = h.pattern_at; is_node = h.is_node; is = ap (more t) h.is; set_is = h.set_is; divisor_is = h.divisor_is }
 
   either_of : (P : Type 0) (set : List ℕ) (k l : List (List ℕ)) → (Mem set k → P) → (Mem set l → P) → Mem set (k ++ l) → P
-  either_of P set k l f g h = go (among_split set k l h)
+  either_of P set k l f g h = go (mem_either set k l h)
     where
       go : Mem set k ⊎ Mem set l → P
       go (inl m) = f m
@@ -220,7 +208,7 @@ one_map f [] h = tt
 one_map f (x ∷ []) h = tt
 one_map f (x ∷ (y ∷ l)) h = absurd h
 
-one_pairs : {X : Type 0} (ts : List (Tree X)) (rs : List (Row X)) → AtMostOne ts → AtMostOne rs → AtMostOne (pairs ts rs)
+one_pairs : {X : Type 0} (ts : List (Tree X)) (rs : List (Row X)) → AtMostOne ts → AtMostOne rs → AtMostOne (each_with_each ts rs)
 one_pairs [] rs h g = tt
 one_pairs (t ∷ []) [] h g = tt
 one_pairs (t ∷ []) (r ∷ []) h g = tt
