@@ -1,8 +1,8 @@
 -- The leaves of a graft.
-use Rattle.std.proofs.Common.{◌≡◌, ℕ, ◌+◌, refl, ap}
 use mathlib.Core.Path.{ap₂}
-use Rattle.std.proofs.Common.{◌≡◌, ℕ, ◌+◌, refl, ap}
-use Rattle.labelled_trees.specs.Trees.{Tree, Row, leaf, node, none, more, graft, graft_row}
+use Rattle.std.proofs.Common.{List, [], ◌∷◌, map, ◌≡◌, ℕ, ◌+◌, refl, sym, ◌∙◌, ap}
+use mathlib.Core.List.{◌++◌}
+use Rattle.labelled_trees.specs.Trees.{leaves, leaves_row, Tree, Row, leaf, node, none, more, graft, graft_row}
 use Rattle.labelled_trees.specs.Leaves.{sum_leaves, sum_row, AllLeaves, AllRow}
 use Rattle.labelled_trees.proofs.Contexts.{node-eq, more-eq}
 
@@ -68,3 +68,17 @@ mutual
   agree_graft_row (more t r) s u h =
       let e = more-eq (graft t s) (graft t u) (graft_row r s) (graft_row r u) h in
       (agree_graft t s u e.0, agree_graft_row r s u e.1)
+
+map-append : {A B : Type 0} (f : A → B) (k l : List A) → map f (k ++ l) ≡ map f k ++ map f l
+map-append f [] l = refl
+map-append f (x ∷ k) l = ap (λ m. f x ∷ m) (map-append f k l)
+
+mutual
+  -- the leaves of a tree whose leaves are changed
+  pub leaves-changed : {A B : Type 0} (t : Tree A) (f : A → B) → leaves (graft t (λ a. leaf (f a))) ≡ map f (leaves t)
+  leaves-changed (leaf a) f = refl
+  leaves-changed (node l r) f = leaves_row-changed r f
+
+  leaves_row-changed : {A B : Type 0} (r : Row A) (f : A → B) → leaves_row (graft_row r (λ a. leaf (f a))) ≡ map f (leaves_row r)
+  leaves_row-changed none f = refl
+  leaves_row-changed (more t r) f = ap₂ (λ k l. k ++ l) (leaves-changed t f) (leaves_row-changed r f) ∙ sym (map-append f (leaves t) (leaves_row r))

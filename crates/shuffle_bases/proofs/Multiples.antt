@@ -9,7 +9,7 @@ use Rattle.std.specs.Cmp.Lexicographic.{slice_cmp}
 use Rattle.labelled_trees.specs.Trees.{Tree, Row, leaf, node, none, more, graft, graft_row, join, IsNode, IsLeaf, vertices, vertices_row}
 use Rattle.labelled_trees.specs.Contexts.{Ctx, RowCtx, hole, inside, here, past, fill, fill_row, graft_ctx, graft_row_ctx}
 use Rattle.labelled_trees.specs.Unions.{union, union_row}
-use Rattle.labelled_trees.specs.Leaves.{AllLeaves, AllRow, one_if, occurs, occurs_row}
+use Rattle.labelled_trees.specs.Leaves.{times, AllLeaves, AllRow, one_if, occurs, occurs_row}
 use Rattle.shuffle_insertions.specs.ShuffleTrees.{IsShuffle}
 use Rattle.shuffle_insertions.specs.Slots.{fill_slot}
 use Rattle.shuffle_places.specs.Cuts.{numbers, numbers_row, start, start_row, IsCut}
@@ -21,7 +21,7 @@ use Rattle.shuffle_bases.specs.Rows.{set_of, RowReduces, RowsReduce}
 use Rattle.modular_sums.specs.Residues.{Alike}
 use Rattle.modular_sums.specs.Sums.{Same, coef, scale, expand, moved}
 use Rattle.modular_sums.proofs.Residues.{alike_add, alike_mul, alike_drop}
-use Rattle.modular_sums.proofs.Sums.{times, coef-append, coef-scale, coef-expand_times}
+use Rattle.modular_sums.proofs.Sums.{coef-append, coef-scale, coef-expand_times}
 use Rattle.modular_sums.proofs.Images.{moved_eq}
 use Rattle.labelled_trees.proofs.Grafts.{graft_assoc}
 use Rattle.labelled_trees.proofs.Contexts.{node-eq, more-eq, graft-fill}

@@ -8,10 +8,10 @@ use Rattle.shuffle_insertions.specs.Slots.{Slot, fill_slot, PartsRise}
 use Rattle.shuffle_bases.specs.Bases.{Instance, host, value, IsKept, HostsLess, Meets}
 use Rattle.shuffle_bases.proofs.Basis.{IsBasis}
 use Rattle.modular_sums.specs.Sums.{Same, scale, expand, moved, AllTerms}
-use Rattle.modular_sums.proofs.Sums.{times}
 use Rattle.modular_sums.proofs.Replacements.{pair_adds_up}
 use Rattle.modular_sums.proofs.Images.{AllTerms-imp, proved, moved-proved, moved-moved, moved_ext, moved_eq}
 use Rattle.shuffle_insertions.proofs.Insertions.{fill_slot-valid}
+use Rattle.labelled_trees.specs.Leaves.{times}
 
 module _ (G : Type 0) (arity : G → ℕ) (lead : G → Tree ℕ) (tail : G → List (ℕ × Tree ℕ)) (Fits : Tree ℕ → Type 0)
     (Less : Tree ℕ → Tree ℕ → Type 0) (dec : Discrete (Tree ℕ)) (q : ℕ)

@@ -5,11 +5,11 @@ use Rattle.std.specs.declared.cmp.Ordering.TheVariants.{Less, Equal, Greater}
 use Rattle.std.proofs.Common.{◌≡◌, ℕ, ◌+◌, ◌<◌, ◌≤◌, List, [], ◌∷◌, refl, sym, ◌∙◌, ap, arith}
 use Rattle.std.specs.Ordering.{ordering_reverse}
 use Rattle.labelled_trees.specs.Trees.{Tree}
-use Rattle.labelled_trees.specs.Leaves.{one_if}
+use Rattle.labelled_trees.specs.Leaves.{times, one_if}
 use Rattle.labelled_trees.specs.Labelled.{Fits}
 use Rattle.shuffle_insertions.specs.ShuffleTrees.{IsShuffle}
 use Rattle.shuffle_insertions.specs.Orders.{IsTreeOrder}
-use Rattle.shuffle_insertions.specs.Listing.{times, IsListing}
+use Rattle.shuffle_insertions.specs.Listing.{IsListing}
 
 abbrev pub one_if_less : Ordering → ℕ
 one_if_less Less = 1

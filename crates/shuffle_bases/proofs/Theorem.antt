@@ -3,7 +3,7 @@ use Rattle.std.proofs.Common.{◌≡◌, ◌≢◌, ℕ, ◌+◌, ◌*◌, ◌<�
 use mathlib.Core.Path.{ap₂}
 use Rattle.labelled_trees.specs.Trees.{Tree, leaf, graft, IsNode}
 use Rattle.labelled_trees.specs.Contexts.{Ctx, hole, inside, fill, compose, graft_ctx}
-use Rattle.labelled_trees.specs.Leaves.{AllLeaves, occurs}
+use Rattle.labelled_trees.specs.Leaves.{times, AllLeaves, occurs}
 use Rattle.shuffle_insertions.specs.ShuffleTrees.{IsShuffle}
 use Rattle.shuffle_insertions.specs.Slots.{fill_slot}
 use Rattle.shuffle_bases.specs.Bases.{Instance, host, value, IsKept, HostsLess, Meets, SElementsReduce}
@@ -11,7 +11,7 @@ use Rattle.shuffle_bases.proofs.Basis.{IsBasis}
 use Rattle.modular_sums.specs.Residues.{Alike}
 use Rattle.modular_sums.specs.Sums.{hit, coef, Same, scale, expand, moved, AllTerms}
 use Rattle.modular_sums.proofs.Residues.{alike_add, alike_mul, alike_drop}
-use Rattle.modular_sums.proofs.Sums.{times, coef-append, coef-scale, coef-expand_times}
+use Rattle.modular_sums.proofs.Sums.{coef-append, coef-scale, coef-expand_times}
 use Rattle.modular_sums.proofs.Images.{moved_eq}
 use Rattle.modular_sums.proofs.Diamond.{AreMonic, HostsBelow, Led, diamond}
 use Rattle.labelled_trees.proofs.Meetings.{Above, Apart, meeting}

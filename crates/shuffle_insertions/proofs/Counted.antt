@@ -1,14 +1,8 @@
 -- How often a thing stands in a list.
 use Rattle.std.proofs.Common.{◌≡◌, ◌+◌, ◌<◌, ◌≤◌, List, [], ◌∷◌, refl, sym, arith, inl, inr, ◌⊎◌}
-use mathlib.Core.List.{◌++◌}
 use Rattle.modular_sums.specs.Lists.{Mem, Distinct}
-use Rattle.labelled_trees.specs.Leaves.{one_if}
+use Rattle.labelled_trees.specs.Leaves.{times, one_if}
 use Rattle.labelled_trees.proofs.Leaves.{one_if-yes}
-use Rattle.shuffle_insertions.specs.Listing.{times}
-
-pub times-append : {X : Type 0} (dec : Discrete X) (x : X) (k l : List X) → times dec x (k ++ l) ≡ times dec x k + times dec x l
-times-append dec x [] l = omega arith
-times-append dec x (y ∷ k) l = omega (arith, times-append dec x k l)
 
 pub mem_times : {X : Type 0} (dec : Discrete X) (x : X) (l : List X) → Mem x l → 0 < times dec x l
 mem_times dec x [] h = absurd h

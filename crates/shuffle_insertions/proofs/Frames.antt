@@ -1,5 +1,5 @@
 -- Frames and slots.
-use Rattle.std.proofs.Common.{◌≡◌, ℕ, zero, suc, ◌+◌, ◌<◌, ◌≤◌, List, [], ◌∷◌, length, refl, ◌∙◌, ap, arith, subst}
+use Rattle.std.proofs.Common.{sym, ap₂, ◌≡◌, ℕ, zero, suc, ◌+◌, ◌<◌, ◌≤◌, List, [], ◌∷◌, length, refl, ◌∙◌, ap, arith, subst}
 use native.Mathlib.Decide.{ℕ_discrete, dec_lt}
 use Rattle.labelled_trees.specs.Trees.{Tree, leaf, graft, row}
 use Rattle.labelled_trees.specs.Contexts.{Ctx, RowCtx, hole, inside, here, past, fill, fill_row}
@@ -37,13 +37,27 @@ in_order (t ∷ l) h (suc zero) (suc (suc j)) p lt le = first_low t l h.1 h.2 (s
 in_order (t ∷ l) h (suc (suc i)) (suc zero) p lt le = absurd (omega (arith, lt))
 in_order (t ∷ l) h (suc (suc i)) (suc (suc j)) p lt le = in_order l h.2 (suc i) (suc j) (omega arith) (omega (arith, lt)) (omega (arith, le))
 
+unfoldable pub frame_of : ℕ → Slot → Frame
+frame_of k s = record { hole = fill s.context (leaf 0); inputs = listed s.parts 0 k }
+
 -- the slot of a frame
 pub record SlotOf (k : ℕ) (f : Frame) : Type 0 where
   pub slot : Slot
   pub rises : PartsRise k slot.parts
+  pub back : frame_of k slot ≡ f
   pub inserts : (x : Tree ℕ) → insert f x ≡ fill_slot slot x
 
+later_items : (t : Tree ℕ) (l : List (Tree ℕ)) (a k : ℕ) → listed (item (t ∷ l)) (suc a) k ≡ listed (item l) a k
+later_items t l a zero = refl
+later_items t l a (suc k) = ap (λ m. item l (suc a) ∷ m) (later_items t l (suc a) k)
+
+-- the items of a list are the list
+listed-item : (l : List (Tree ℕ)) → listed (item l) 0 (length l) ≡ l
+listed-item [] = refl
+listed-item (t ∷ l) = ap (λ m. t ∷ m) (later_items t l 0 (length l) ∙ listed-item l)
+
 pub slot_of : (k : ℕ) (f : Frame) → IsFrame k f → SlotOf k f
+unfolding frame_of
 slot_of k f h =
     let a = hole_at 0 f.hole (let o = h.context in omega (arith, o)) in
     let n = h.as_many in
@@ -53,15 +67,13 @@ slot_of k f h =
         each = λ i p le. each_rises f.inputs h.rising i p (omega (arith, le, n));
         order = λ i j p lt le. in_order f.inputs h.rising i j p lt (omega (arith, le, n));
       };
+      back = ap₂ (λ c l. record { hole = c; inputs = l }) (sym a.is) (ap (listed (item f.inputs) 0) (sym n) ∙ listed-item f.inputs);
       inserts = λ x.
           ap (λ c. put c (graft x (item f.inputs))) a.is
           ∙ put-fill a.around (graft x (item f.inputs)) (let o = subst (λ c. IsContext c) a.is h.context in omega (arith, o));
     }
 
 -- ---- a slot as a frame
-
-pub frame_of : ℕ → Slot → Frame
-frame_of k s = record { hole = fill s.context (leaf 0); inputs = listed s.parts 0 k }
 
 mutual
   -- how often leaf 0 stands in a context whose hole has a tree without it

@@ -3,10 +3,10 @@ use Rattle.std.proofs.Common.{◌≡◌, ℕ, ◌+◌, ◌*◌, List, [], ◌∷
 use mathlib.Core.Path.{ap₂}
 use native.Mathlib.Decide.{ℕ_discrete}
 use Rattle.labelled_trees.specs.Trees.{Tree, Row, leaf, node, none, more}
-use Rattle.labelled_trees.specs.Leaves.{one_if}
-use Rattle.shuffle_insertions.specs.Listing.{times, each_with_each, lone}
+use Rattle.labelled_trees.specs.Leaves.{times, one_if}
+use Rattle.shuffle_insertions.specs.Listing.{each_with_each, lone}
 use Rattle.labelled_trees.proofs.Leaves.{one_if-no}
-use Rattle.shuffle_insertions.proofs.Counted.{times-append}
+use Rattle.labelled_trees.proofs.Permutations.{times-append}
 
 one_if_and : (P Q R : Type 0) (d : Dec P) (e : Dec Q) (f : Dec R) → (P → Q × R) → (Q → R → P) → one_if d ≡ one_if e * one_if f
 one_if_and P Q R (yes p) (yes q) (yes r) f g = omega arith

@@ -4,11 +4,11 @@ use mathlib.Core.Path.{ap₂}
 use native.Mathlib.Decide.{ℕ_discrete, dec_lt}
 use Rattle.labelled_trees.specs.Trees.{Tree, Row, leaf, node, none, more, vertices, vertices_row, width}
 use Rattle.shuffle_insertions.specs.ShuffleTrees.{IsShuffleTree, least, least_row, IsRising, IsRisingRow, IsBefore, HasInput, IsShuffle}
-use Rattle.labelled_trees.specs.Leaves.{one_if, occurs, occurs_row, sum_leaves, sum_row}
+use Rattle.labelled_trees.specs.Leaves.{times, one_if, occurs, occurs_row, sum_leaves, sum_row}
 use Rattle.labelled_trees.specs.Labelled.{Fits, FitsRow}
 use Rattle.modular_sums.specs.Lists.{Mem, Rises}
 use Rattle.shuffle_insertions.specs.Labels.{AreLabels}
-use Rattle.shuffle_insertions.specs.Listing.{times, joined_below, each_with_each, rows, lone, shuffles, upto, all_trees, IsListing}
+use Rattle.shuffle_insertions.specs.Listing.{joined_below, each_with_each, rows, lone, shuffles, upto, all_trees, IsListing}
 use Rattle.labelled_trees.proofs.Leaves.{by_leaf, at_row, one_if-no, one_if-yes}
 use Rattle.labelled_trees.specs.RangeSums.{range_sum}
 use Rattle.labelled_trees.proofs.RangeSums.{range_sum-one, range_sum-past, range_sum_ext, by_counts}
@@ -18,7 +18,8 @@ use Rattle.shuffle_insertions.proofs.Splits.{Split, count, split_count, mem_left
 use Rattle.shuffle_insertions.proofs.Insertions.{once_of}
 use Rattle.shuffle_insertions.proofs.ListedRows.{times_node, none_each, node_lone, leaf_node, times_each}
 use Rattle.shuffle_insertions.proofs.Upto.{upto_rises, upto_count}
-use Rattle.shuffle_insertions.proofs.Counted.{distinct_times, times-append, times_mem, mem_times}
+use Rattle.shuffle_insertions.proofs.Counted.{distinct_times, times_mem, mem_times}
+use Rattle.labelled_trees.proofs.Permutations.{times-append}
 
 -- a tree over the leaf numbers of a list
 pub record Good (arity : ℕ → ℕ) (l : List ℕ) (t : Tree ℕ) : Type 0 where

@@ -2,12 +2,13 @@
 use Rattle.std.proofs.Common.{◌≡◌, ◌≢◌, ℕ, zero, suc, ◌+◌, ◌-◌, ◌<◌, ◌≤◌, List, [], ◌∷◌, length, refl, ◌∙◌, ap, arith, subst, inl, inr}
 use mathlib.Core.Path.{ap₂}
 use native.Mathlib.Decide.{ℕ_discrete, dec_lt}
-use Rattle.labelled_trees.specs.Leaves.{one_if}
+use Rattle.labelled_trees.specs.Leaves.{times, one_if}
 use Rattle.modular_sums.specs.Lists.{Mem, Rises}
-use Rattle.shuffle_insertions.specs.Listing.{times, joined_below, joined_splits}
+use Rattle.shuffle_insertions.specs.Listing.{joined_below, joined_splits}
 use Rattle.labelled_trees.proofs.Leaves.{one_if-yes}
 use Rattle.labelled_trees.specs.RangeSums.{range_sum}
-use Rattle.shuffle_insertions.proofs.Counted.{times-append, times_mem}
+use Rattle.shuffle_insertions.proofs.Counted.{times_mem}
+use Rattle.labelled_trees.proofs.Permutations.{times-append}
 
 -- b and c divide l
 pub data Split : List ℕ → List ℕ → List ℕ → Type 0 where

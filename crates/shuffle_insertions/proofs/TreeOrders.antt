@@ -71,7 +71,7 @@ module _ (R : List ℕ → List ℕ → Ordering) (total : IsTotalOrder R) (only
 
 -- the leaf row
 mutual
-  length_leaves : (t : Tree ℕ) → length (leaves t) ≡ sum_leaves t (λ i. 1)
+  pub length_leaves : (t : Tree ℕ) → length (leaves t) ≡ sum_leaves t (λ i. 1)
   length_leaves (leaf n) = refl
   length_leaves (node l r) = length_leaves_row r
 

@@ -1,15 +1,9 @@
 -- The list of all shuffle trees over labels.
-use Rattle.std.specs.Prelude.{ℕ, ◌+◌, List, [], ◌∷◌, ◌++◌, map}
+use Rattle.std.specs.Prelude.{ℕ, List, [], ◌∷◌, ◌++◌, map}
 use Rattle.std.proofs.Common.{zero, suc}
 use Rattle.labelled_trees.specs.Trees.{Tree, Row, leaf, node, none, more}
-use Rattle.labelled_trees.specs.Leaves.{one_if}
 use Rattle.modular_sums.specs.Lists.{Mem, Distinct}
 use Rattle.shuffle_insertions.specs.ShuffleTrees.{IsShuffleTree}
-
--- how often an item stands in a list
-abbrev pub times : {X : Type 0} → Discrete X → X → List X → ℕ
-times dec x [] = 0
-times dec x (y ∷ l) = one_if (dec y x) + times dec x l
 
 -- f 0, f 1 and so on below b, joined
 abbrev pub joined_below : {X : Type 0} → ℕ → (ℕ → List X) → List X

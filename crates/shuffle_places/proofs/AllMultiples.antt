@@ -12,7 +12,7 @@ use Rattle.shuffle_insertions.specs.ShuffleTrees.{IsShuffle}
 use Rattle.shuffle_places.proofs.Places.{place_of_cut, cut_of_place}
 use Rattle.shuffle_places.specs.Cuts.{IsCut}
 use Rattle.modular_sums.specs.Lists.{Mem, Distinct, holds, has}
-use Rattle.shuffle_insertions.specs.Listing.{times, upto}
+use Rattle.shuffle_insertions.specs.Listing.{upto}
 use Rattle.shuffle_places.specs.Overlays.{shape_discrete, shape, shapes_of}
 use Rattle.shuffle_places.specs.Numberings.{numberings}
 use Rattle.shuffle_places.specs.AllPlaces.{places}
@@ -24,6 +24,7 @@ use Rattle.shuffle_places.proofs.Numberings.{all_numbered}
 use Rattle.shuffle_places.proofs.AllPlaces.{listed_place, place_listed, places_distinct}
 use Rattle.shuffle_insertions.proofs.Counted.{mem_times, times_mem, distinct_times}
 use Rattle.shuffle_insertions.proofs.Upto.{in_upto, upto_mem}
+use Rattle.labelled_trees.specs.Leaves.{times}
 
 when_true : (b c : Bool) → b ≡ true → cond b true c ≡ true
 when_true true c e = refl

@@ -1,4 +1,4 @@
-use Rattle.std.proofs.Common.{◌≡◌, ℕ, zero, suc, ◌+◌, ◌<◌, ◌≤◌, List, ◌∷◌, refl, sym, ◌∙◌, ap, arith, subst}
+use Rattle.std.proofs.Common.{[], map, inl, inr, ◌⊎◌, ◌≡◌, ℕ, zero, suc, ◌+◌, ◌<◌, ◌≤◌, List, ◌∷◌, refl, sym, ◌∙◌, ap, arith, subst}
 use mathlib.Core.List.{◌++◌}
 use mathlib.Core.Path.{ap₂}
 use native.Mathlib.Decide.{ℕ_discrete, dec_lt}
@@ -8,6 +8,17 @@ use Rattle.shuffle_insertions.specs.ShuffleTrees.{least, IsRising, IsShuffle}
 use Rattle.labelled_trees.specs.Leaves.{AllLeaves, one_if, occurs}
 use Rattle.shuffle_insertions.specs.Slots.{Slot, fill_slot, PartsRise}
 use Rattle.labelled_trees.specs.Ranks.{below, standard}
+use Rattle.labelled_trees.specs.Trees.{leaves}
+use Rattle.labelled_trees.specs.Insertions.{listed}
+use Rattle.labelled_trees.proofs.GraftLeaves.{leaves-changed}
+use Rattle.labelled_trees.proofs.Insertions.{listed_ext}
+use Rattle.labelled_trees.proofs.Permutations.{times-leaves}
+use Rattle.modular_sums.specs.Lists.{Mem}
+use Rattle.shuffle_insertions.proofs.Counted.{times_mem, mem_times}
+use Rattle.shuffle_insertions.proofs.TreeOrders.{length_leaves, leaves_count}
+use Rattle.shuffle_insertions.proofs.Frames.{frame_of}
+use Rattle.shuffle_places.specs.Places.{choose, of_rank, inputs_of, frame_at}
+use Rattle.shuffle_places.proofs.Places.{of_pattern}
 use Rattle.shuffle_places.specs.Cuts.{numbers, numbers_row, start, IsCut}
 use Rattle.labelled_trees.proofs.Grafts.{graft_assoc, graft_leaf}
 use Rattle.labelled_trees.proofs.GraftLeaves.{graft_ext, agree, AllLeaves_of_graft, sum_leaves-graft}
@@ -80,6 +91,46 @@ module _ (m : ℕ) (f : Slot) (d : Tree ℕ) (hd : IsShuffle m d) (rise : PartsR
       still_node : (d : Tree ℕ) → IsNode d → IsNode (graft d (λ i. leaf (f.parts i)))
       still_node (leaf a) n = absurd n
       still_node (node l r) n = tt
+
+  -- the rank of each part among the parts
+  find : (l : List ℕ) (i : ℕ) → ((j : ℕ) → Mem j l → InRange m j) → Mem i l → of_rank (graft d (λ j. leaf (least (f.parts j)))) (map f.parts l) i ≡ f.parts i
+  find [] i h mem = absurd mem
+  find (j ∷ l) i h mem = go (ℕ_discrete (suc (below (least (f.parts j)) (graft d (λ j. leaf (least (f.parts j)))))) i) (λ g q. find l i g q) mem
+    where
+      go : (e : Dec (suc (below (least (f.parts j)) (graft d (λ j. leaf (least (f.parts j))))) ≡ i)) → (((k : ℕ) → Mem k l → InRange m k) → Mem i l → of_rank (graft d (λ j. leaf (least (f.parts j)))) (map f.parts l) i ≡ f.parts i) → (i ≡ j) ⊎ Mem i l
+          → choose e (f.parts j) (of_rank (graft d (λ j. leaf (least (f.parts j)))) (map f.parts l) i) ≡ f.parts i
+      go (yes e) ih q = ap f.parts (sym (rank_back j (h j (inl refl))) ∙ e)
+      go (no n) ih (inl e) = absurd (n (rank_back j (h j (inl refl)) ∙ sym e))
+      go (no n) ih (inr q) = ih (λ k r. h k (inr r)) q
+
+  in_leaves : (i : ℕ) → InRange m i → Mem i (leaves d)
+  in_leaves i a = times_mem ℕ_discrete i (leaves d) (let e = hd.each i a.0 a.1 in let k = times-leaves i d in omega (arith, e, k))
+
+  of_leaves : (j : ℕ) → Mem j (leaves d) → InRange m j
+  of_leaves j h = hd.only j (let k = mem_times ℕ_discrete j (leaves d) h in let e = times-leaves j d in omega (arith, k, e))
+
+  -- the inputs at the place of a slot
+  inputs_are : inputs_of (graft d (λ i. leaf (f.parts i))) ≡ listed f.parts 0 m
+  inputs_are =
+      ap (λ c. listed (of_rank (graft (graft d (λ i. leaf (f.parts i))) (λ v. leaf (least v))) (leaves (graft d (λ i. leaf (f.parts i))))) 0 c)
+      (sum_leaves-graft d (λ i. leaf (f.parts i)) (λ v. 1) ∙ sym (length_leaves d) ∙ leaves_count m d hd)
+      ∙ ap₂ (λ q l. listed (of_rank q l) 0 m) (graft_assoc d (λ i. leaf (f.parts i)) (λ v. leaf (least v))) (leaves-changed d f.parts)
+      ∙ listed_ext (of_rank (graft d (λ j. leaf (least (f.parts j)))) (map f.parts (leaves d))) f.parts 0 m
+      (λ i a b. let r : InRange m i = (a, omega (arith, b)) in find (leaves d) i of_leaves (in_leaves i r))
+
+  -- the frame at the place of a slot is the slot's
+  pub frame_at-slot : IsNode d → frame_at (numbers f.parts (start 1 f.context) d) (fill_slot f d) ≡ frame_of m f
+  unfolding frame_of
+  frame_at-slot n =
+      let c = cut_of_slot n in
+      let o = of_pattern f.context (graft d (λ i. leaf (f.parts i))) (node_again d n) in
+      let host : fill_slot f d ≡ fill f.context (join (graft d (λ i. leaf (f.parts i)))) = ap (fill f.context) (sym (graft_assoc d (λ i. leaf (f.parts i)) (λ v. v))) in
+      let set : numbers f.parts (start 1 f.context) d ≡ numbers (λ v. v) (start 1 f.context) (graft d (λ i. leaf (f.parts i))) = sym (numbers-graft d f.parts (λ v. v) (start 1 f.context)) in
+      ap₂ frame_at set host ∙ ap₂ (λ h l. record { hole = h; inputs = l }) o.1 (ap inputs_of o.0 ∙ inputs_are)
+    where
+      node_again : (d : Tree ℕ) → IsNode d → IsNode (graft d (λ i. leaf (f.parts i)))
+      node_again (leaf a) n = absurd n
+      node_again (node l r) n = tt
 
 -- the frame at a place
 pub record SlotAt (host : Tree ℕ) (set : List ℕ) (divisor : Tree ℕ) : Type 0 where

@@ -4,10 +4,10 @@ use mathlib.Core.Path.{ap₂}
 use native.Mathlib.Decide.{ℕ_discrete, dec_lt}
 use Rattle.labelled_trees.specs.Trees.{Tree, Row, leaf, node, none, more}
 use Rattle.shuffle_insertions.specs.ShuffleTrees.{least, least_row, IsRising, IsRisingRow, IsBefore, HasInput, IsShuffle}
-use Rattle.labelled_trees.specs.Leaves.{one_if, occurs, occurs_row}
+use Rattle.labelled_trees.specs.Leaves.{times, one_if, occurs, occurs_row}
 use Rattle.labelled_trees.specs.Equality.{row_discrete}
 use Rattle.modular_sums.specs.Lists.{Mem, Rises}
-use Rattle.shuffle_insertions.specs.Listing.{times, each_with_each, lone, upto}
+use Rattle.shuffle_insertions.specs.Listing.{each_with_each, lone, upto}
 use Rattle.shuffle_places.specs.Overlays.{shape, shape_row}
 use Rattle.shuffle_places.specs.Numberings.{numberings, numberings_row, IsNumbering}
 use Rattle.labelled_trees.proofs.Leaves.{one_if-no, one_if-yes}

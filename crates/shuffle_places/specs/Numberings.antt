@@ -2,8 +2,9 @@
 use Rattle.std.specs.Prelude.{ℕ, ◌≡◌, ◌<◌, List, [], ◌∷◌, map}
 use Rattle.labelled_trees.specs.Trees.{Tree, Row, leaf, node, none, more}
 use Rattle.shuffle_insertions.specs.ShuffleTrees.{IsShuffle}
-use Rattle.shuffle_insertions.specs.Listing.{times, joined_splits, each_with_each, lone}
+use Rattle.shuffle_insertions.specs.Listing.{joined_splits, each_with_each, lone}
 use Rattle.shuffle_places.specs.Overlays.{shape}
+use Rattle.labelled_trees.specs.Leaves.{times}
 
 -- the shuffle trees of the shape over the leaf numbers, which rise
 abbrev mutual
