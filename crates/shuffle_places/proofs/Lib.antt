@@ -1,7 +1,9 @@
 pub mod AllMultiples
 pub mod AllPlaces
 pub mod Cuts
+pub mod Fitting
 pub mod Frames
+pub mod Laws
 pub mod Numberings
 pub mod Overlaps
 pub mod Overlays
