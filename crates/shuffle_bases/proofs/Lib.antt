@@ -1,9 +1,1 @@
-pub mod Basis
-pub mod Cases
-pub mod Multiples
-pub mod Reduce
-pub mod Separate
-pub mod Smaller
-pub mod Standing
-pub mod Theorem
-pub mod Whole
+pub mod Placed

@@ -9,4 +9,5 @@ pub mod Overlaps
 pub mod Overlays
 pub mod Places
 pub mod Sets
+pub mod Sizes
 pub mod Vertices
