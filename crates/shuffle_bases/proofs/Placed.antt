@@ -22,6 +22,7 @@ use Rattle.shuffle_places.proofs.Places.{place_of_cut, cut_of_place}
 use Rattle.shuffle_places.proofs.Frames.{SlotAt, slot_at, cut_of_slot, frame_at-slot}
 use Rattle.shuffle_places.proofs.Sizes.{one_size}
 use Rattle.shuffle_bases.specs.Elements.{Element, terms, Setting, IsLess, AreMonic, Insertion, value_of, inserted}
+use Rattle.modular_sums.proofs.Sums.{Same-expand_scale, Same-turned, AllTerms-scale}
 
 -- an element of the list in a slot, where its leading tree gives a shuffle tree of arity n over the labels
 pub record Placed (s : Setting) (n : ℕ) : Type 0 where
@@ -95,6 +96,14 @@ less_kept s order k n f x y r hx hy v e =
     subst (λ t. IsLess s t (fill_slot f y)) (insert-frame_of k n f r x hx vx x hx)
     (subst (IsLess s (insert (frame_of k f) x)) (insert-frame_of k n f r x hx vx y hy)
     (order.kept k n (frame_of k f) x y (frame_of-is_frame k n f r x hx vx) hx hy (subst (IsShuffle n) (sym (insert-frame_of k n f r x hx vx x hx)) vx) ∙ e))
+
+-- the difference the other way round
+pub turned : (s : Setting) (n : ℕ) (i j : Placed s n) → host i ≡ host j → Meets s n j i → Meets s n i j
+turned s n i j one m = record {
+  uses = scale s.q m.uses;
+  lower = AllTerms-scale s.q m.uses (λ k. IsLess s (host k) (host i)) (subst (λ w. HostsLess s n w m.uses) (sym one) m.lower);
+  adds_up = λ t. Same-turned tree_discrete s.q (value j) (value i) (expand value m.uses) m.adds_up t ∙ Same-expand_scale tree_discrete s.q s.q value m.uses t;
+}
 
 -- ---- insertions and placed elements
 
