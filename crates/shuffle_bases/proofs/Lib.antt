@@ -1,6 +1,8 @@
 pub mod Cases
+pub mod Laws
 pub mod Multiples
 pub mod Placed
+pub mod Ranking
 pub mod Reduce
 pub mod Separate
 pub mod Theorem

@@ -114,7 +114,7 @@ module _ (s : Setting) (monic : AreMonic s) (n : ℕ) where
       (λ x h. ap (λ f. insert f x) (frame_at-slot i.of.arity i.at i.of.lead (lead_valid s monic i.of i.member) i.rises (lead_node s monic i.of i.member))
       ∙ insert-frame_of i.of.arity n i.at i.rises i.of.lead (lead_valid s monic i.of i.member) i.valid x h))
 
-  pub insertion : Placed s n → Insertion s n
+  unfoldable pub insertion : Placed s n → Insertion s n
   insertion i = record {
     of = i.of;
     member = i.member;
