@@ -20,6 +20,7 @@ use Rattle.shuffle_places.specs.Cuts.{numbers, start}
 use Rattle.shuffle_places.specs.Places.{frame_at}
 use Rattle.shuffle_places.proofs.Places.{place_of_cut, cut_of_place}
 use Rattle.shuffle_places.proofs.Frames.{SlotAt, slot_at, cut_of_slot, frame_at-slot}
+use Rattle.shuffle_places.proofs.Independent.{Laid}
 use Rattle.shuffle_places.proofs.Sizes.{one_size}
 use Rattle.shuffle_bases.specs.Elements.{Element, terms, Setting, IsLess, AreMonic, Insertion, value_of, inserted}
 use Rattle.modular_sums.proofs.Sums.{Same-expand_scale, Same-turned, AllTerms-scale}
@@ -87,6 +88,10 @@ module _ (s : Setting) (monic : AreMonic s) (g : Element) (m : Mem g s.elements)
 
   pub terms_valid : AllTerms (terms g) (IsShuffle g.arity)
   terms_valid = (lead_valid, AllTerms-imp (λ x. IsShuffle g.arity x × IsLess s x g.lead) (IsShuffle g.arity) g.tail (λ x h. h.0) tail_valid)
+
+-- the leading tree in its slot
+abbrev pub laid : (s : Setting) → AreMonic s → (n : ℕ) → Placed s n → Laid
+laid s monic n i = record { size = i.of.arity; tree = i.of.lead; at = i.at; valid = lead_valid s monic i.of i.member; rises = i.rises }
 
 -- the order is kept by slots
 pub less_kept : (s : Setting) (order : IsTreeOrder s.arity s.compare) (k n : ℕ) (f : Slot) (x y : Tree ℕ) → PartsRise k f.parts → IsShuffle k x → IsShuffle k y

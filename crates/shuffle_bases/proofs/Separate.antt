@@ -7,27 +7,16 @@ use Rattle.labelled_trees.specs.Equality.{tree_discrete}
 use Rattle.shuffle_insertions.specs.Orders.{IsTreeOrder}
 use Rattle.shuffle_insertions.proofs.Insertions.{fill_slot-fits}
 use Rattle.shuffle_bases.specs.Elements.{terms, Setting, IsLess, AreMonic}
-use Rattle.shuffle_bases.proofs.Placed.{Placed, host, value, HostsLess, Meets, lead_valid, lead_fits, tail_fits, tail_valid, terms_valid, less_kept}
+use Rattle.shuffle_places.proofs.Independent.{Separate}
+use Rattle.shuffle_bases.proofs.Placed.{laid, Placed, host, value, HostsLess, Meets, lead_valid, lead_fits, tail_fits, tail_valid, terms_valid, less_kept}
 use Rattle.labelled_trees.specs.Trees.{Tree}
 use Rattle.shuffle_insertions.specs.ShuffleTrees.{IsShuffle}
-use Rattle.shuffle_insertions.specs.Slots.{Slot, fill_slot, PartsRise}
+use Rattle.shuffle_insertions.specs.Slots.{fill_slot}
 use Rattle.modular_sums.specs.Sums.{Same, scale, expand, moved, AllTerms}
 use Rattle.modular_sums.proofs.Replacements.{pair_adds_up}
 use Rattle.modular_sums.proofs.Images.{proved, moved-proved, moved-moved, moved_ext, moved_eq}
 use Rattle.shuffle_insertions.proofs.Insertions.{fill_slot-valid}
 use Rattle.modular_sums.proofs.Sums.{AllTerms-scale, AllTerms-append}
-
--- a tree for each choice of what stands at the two places
-pub record Separate (base : Setting) (n : ℕ) (i j : Placed base n) : Type 0 where
-  pub both : Tree ℕ → Tree ℕ → Tree ℕ
-  pub first_at : Tree ℕ → Slot
-  pub second_at : Tree ℕ → Slot
-  pub first_rise : (y : Tree ℕ) → IsShuffle j.of.arity y → PartsRise i.of.arity (first_at y).parts
-  pub second_rise : (x : Tree ℕ) → IsShuffle i.of.arity x → PartsRise j.of.arity (second_at x).parts
-  pub first_is : (x y : Tree ℕ) → IsShuffle i.of.arity x → IsShuffle j.of.arity y → fill_slot (first_at y) x ≡ both x y
-  pub second_is : (x y : Tree ℕ) → IsShuffle i.of.arity x → IsShuffle j.of.arity y → fill_slot (second_at x) y ≡ both x y
-  pub at_second_lead : (x : Tree ℕ) → IsShuffle i.of.arity x → both x j.of.lead ≡ fill_slot i.at x
-  pub at_first_lead : (y : Tree ℕ) → IsShuffle j.of.arity y → both i.of.lead y ≡ fill_slot j.at y
 
 both_hold : (l : List (ℕ × Tree ℕ)) (P Q : Tree ℕ → Type 0) → AllTerms l P → AllTerms l Q → AllTerms l (λ x. P x × Q x)
 both_hold [] P Q h k = tt
@@ -37,7 +26,7 @@ module _ (base : Setting) (basis : AreMonic base) (order : IsTreeOrder base.arit
   abbrev Of : ℕ → Tree ℕ → Type 0
   Of k x = IsShuffle k x × (Fits base.arity) x
 
-  module _ (n : ℕ) (i j : Placed base n) (one : host i ≡ host j) (s : Separate base n i j) where
+  module _ (n : ℕ) (i j : Placed base n) (one : host i ≡ host j) (s : Separate (laid base basis n i) (laid base basis n j)) where
     abbrev X : Type 0
     X = (x : Tree ℕ) × (IsShuffle i.of.arity x × IsLess base x i.of.lead)
 

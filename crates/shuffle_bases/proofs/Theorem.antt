@@ -26,7 +26,8 @@ use Rattle.shuffle_insertions.proofs.Insertions.{fill_slot-valid}
 use Rattle.labelled_trees.proofs.Contexts.{compose-hole}
 use Rattle.shuffle_bases.proofs.Reduce.{meets_over}
 use Rattle.shuffle_bases.proofs.Separate.{meets_apart}
-use Rattle.shuffle_bases.proofs.Cases.{branches, nested}
+use Rattle.shuffle_places.proofs.Independent.{branches, nested}
+use Rattle.shuffle_bases.proofs.Placed.{laid}
 
 module _ (base : Setting) (basis : AreMonic base) (order : IsTreeOrder base.arity base.compare)
     (most : ℕ) (reduce : SmallMeet base most) (n : ℕ) (n_le : n ≤ most) where
@@ -82,7 +83,7 @@ module _ (base : Setting) (basis : AreMonic base) (order : IsTreeOrder base.arit
       (is ∙ ap (compose i.at.context) (w.hole_is ∙ ap (compose (graft_ctx w.front i.at.parts)) h.0 ∙ compose-hole (graft_ctx w.front i.at.parts)))
       (w.inner ∙ ap (λ c. fill c (graft j.of.lead j.at.parts)) h.0) (dec_hole w.front) (tree_discrete i.of.lead j.of.lead)
   below_case i j one rest is w (inr h) = meets_apart base basis order n i j one
-      (nested base basis order n i j w.front w.rest h.0 (w.is ∙ ap (fill w.front) h.1)
+      (nested (laid base basis n i) (laid base basis n j) w.front w.rest h.0 (w.is ∙ ap (fill w.front) h.1)
       (is ∙ ap (compose i.at.context) w.hole_is) (ap (λ x. graft x i.at.parts) (sym h.1) ∙ w.inner))
 
   under : (i j : Placed base n) → host i ≡ host j
@@ -100,7 +101,7 @@ module _ (base : Setting) (basis : AreMonic base) (order : IsTreeOrder base.arit
           ⊎ Apart ℕ i.at.context j.at.context (graft i.of.lead i.at.parts) (graft j.of.lead j.at.parts)) → Meets base n i j
       go (inl a) = under i j one a
       go (inr (inl a)) = turned base n i j one (under j i (sym one) a)
-      go (inr (inr a)) = meets_apart base basis order n i j one (branches base basis order n i j a)
+      go (inr (inr a)) = meets_apart base basis order n i j one (branches (laid base basis n i) (laid base basis n j) a)
 
   module _ (rank : Tree ℕ → ℕ) (rank_less : (x y : Tree ℕ) → IsShuffle n x → IsShuffle n y → (Fits base.arity) x → (Fits base.arity) y → IsLess base x y → rank x < rank y)
       (rank_one : (x y : Tree ℕ) → IsShuffle n x → IsShuffle n y → (Fits base.arity) x → (Fits base.arity) y → rank x ≡ rank y → x ≡ y) where

@@ -1,8 +1,11 @@
 pub mod AllMultiples
 pub mod AllPlaces
+pub mod Commuting
+pub mod Covers
 pub mod Cuts
 pub mod Fitting
 pub mod Frames
+pub mod Independent
 pub mod Laws
 pub mod Numberings
 pub mod Overlaps

@@ -8,6 +8,7 @@ use Rattle.shuffle_insertions.specs.Frames.{Frame, insert, IsFrame}
 use Rattle.shuffle_places.specs.Connected.{IsConnected}
 use Rattle.shuffle_places.specs.Cuts.{IsCut}
 use Rattle.shuffle_places.specs.Places.{frame_at, IsPlace}
+use Rattle.shuffle_places.specs.Independent.{Commute}
 use Rattle.shuffle_places.specs.AllPlaces.{places}
 use Rattle.shuffle_places.specs.Multiples.{IsMultiple}
 use Rattle.shuffle_places.specs.AllMultiples.{multiples}
@@ -48,3 +49,8 @@ MultiplesListed = (a b : Tree ℕ) (n : ℕ) → IsNode a → IsNode b
 abbrev pub MultiplesFit : Type 0
 MultiplesFit = (arity : ℕ → ℕ) (k l n : ℕ) (a b tree : Tree ℕ) (first second : List ℕ)
     → IsShuffleTree arity k a → IsShuffleTree arity l b → IsMultiple n a b tree first second → IsShuffleTree arity n tree
+
+-- Two insertions at places of a shuffle tree without a common vertex commute.
+abbrev pub InsertionsCommute : Type 0
+InsertionsCommute = (n k l : ℕ) (t : Tree ℕ) (first second : List ℕ) (d e : Tree ℕ) → IsShuffle n t → IsPlace t first d → IsPlace t second e
+    → ((v : ℕ) → Mem v first → Mem v second → ⊥) → IsShuffle k d → IsShuffle l e → Commute k l d e (frame_at first t) (frame_at second t)

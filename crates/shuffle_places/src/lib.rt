@@ -1,7 +1,7 @@
 //! Places in shuffle trees: connected sets of vertices, divisors, frames, small common multiples. Definitions and laws, without code.
 #![tactic(auto)]
 
-ghost use Rattle.shuffle_places.specs.Laws.{MultiplesFit, MultiplesListed, PlaceFrames, PlaceSets, PlacesListed};
+ghost use Rattle.shuffle_places.specs.Laws.{InsertionsCommute, MultiplesFit, MultiplesListed, PlaceFrames, PlaceSets, PlacesListed};
 
 /// Law: a connected set of vertices is the set of exactly one place.
 pub fn place_sets()
@@ -26,4 +26,9 @@ pub fn multiples_listed()
 /// Law: small common multiples of shuffle trees over labels are over the labels.
 pub fn multiples_fit()
     ensures law { MultiplesFit }
+{}
+
+/// Law: two insertions at places without a common vertex commute.
+pub fn insertions_commute()
+    ensures law { InsertionsCommute }
 {}
