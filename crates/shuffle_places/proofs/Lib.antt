@@ -3,6 +3,7 @@ pub mod AllPlaces
 pub mod Commuting
 pub mod Covers
 pub mod Cuts
+pub mod Examples
 pub mod Fitting
 pub mod Frames
 pub mod Independent
