@@ -1,0 +1,17 @@
+pub mod AllMultiples
+pub mod AllPlaces
+pub mod Commuting
+pub mod Covers
+pub mod Cuts
+pub mod Examples
+pub mod Fitting
+pub mod Frames
+pub mod Independent
+pub mod Laws
+pub mod Numberings
+pub mod Overlaps
+pub mod Overlays
+pub mod Places
+pub mod Sets
+pub mod Sizes
+pub mod Vertices
