@@ -8,10 +8,6 @@ use Rattle.operad_run.specs.Runs.{Outside, Came, CameTooMany, Says, Told, Wrote,
 use Rattle.operad_run.specs.declared.status.Status.{Status}
 use Rattle.operad_run.specs.declared.status.Status.TheVariants.{Done, Refused, Usage, Document, Limit, Budget, ReadFault, WriteFault, NoMemory}
 
-pub takes_nothing : (taken : Option (List ℕ)) → Takes taken taken []
-takes_nothing None = tt
-takes_nothing (Some bytes) = sym (append-nil bytes)
-
 written : (meant : Status) (words : List (List ℕ)) (o : Outside) (text : List ℕ) → Says meant words o text → Wrote o text → Ends meant words o
 written Done words o text says wrote = (text, says, wrote)
 written Refused words o text says wrote = absurd says
