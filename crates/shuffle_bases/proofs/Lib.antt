@@ -1,3 +1,4 @@
+pub mod Examples
 pub mod Laws
 pub mod Multiples
 pub mod Placed

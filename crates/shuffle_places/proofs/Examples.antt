@@ -49,6 +49,6 @@ unfolding ℕ_discrete
 insertion_below = refl
 
 -- t1 has one small common multiple of arity 4 with itself
-multiples_of_t1 : multiples t1 t1 4 ≡ (comb, top_two, lower_two) ∷ []
+pub multiples_of_t1 : multiples t1 t1 4 ≡ (comb, top_two, lower_two) ∷ []
 unfolding ℕ_discrete tree_discrete tree_discrete_by row_discrete_by same_leaf same_node same_more shape_discrete one_unit
 multiples_of_t1 = refl
