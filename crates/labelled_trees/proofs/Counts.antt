@@ -4,7 +4,7 @@ use native.Mathlib.Decide.{ℕ_discrete, dec_lt}
 use Rattle.labelled_trees.specs.Trees.{Tree, Row, leaf, node, none, more}
 use Rattle.labelled_trees.specs.Leaves.{sum_leaves, sum_row, one_if, occurs, leaf_count}
 use Rattle.labelled_trees.specs.Labelled.{IsLabelled}
-use Rattle.labelled_trees.proofs.Leaves.{one_if-yes, one_if-no, sum_leaves-add, sum_leaves-≤, sum_leaves-same, by_leaf}
+use Rattle.labelled_trees.proofs.Leaves.{one_if-yes, one_if-no, sum_leaves-add, sum_leaves-≤, sum_leaves-same, by_leaf, AllLeaves-each, sum_leaves-zero}
 
 -- 1 where x is from 1 to n, else 0
 abbrev pub is_label : ℕ → ℕ → ℕ
@@ -40,17 +40,8 @@ bounded_by n x (no a) d = let none : x ≡ 0 = omega (arith, a) in subst (λ y. 
 is_label-≤ : (n x : ℕ) → is_label n x ≤ 1
 is_label-≤ n x = bounded_by n x (dec_lt 0 x) (dec_lt x (suc n))
 
-mutual
-  no_labels : (t : Tree ℕ) → sum_leaves t (λ x. 0) ≡ 0
-  no_labels (leaf a) = refl
-  no_labels (node l r) = no_labels_row r
-
-  no_labels_row : (r : Row ℕ) → sum_row r (λ x. 0) ≡ 0
-  no_labels_row none = refl
-  no_labels_row (more t r) = omega (arith, no_labels t, no_labels_row r)
-
 pub sum_leaves-is_label : (n : ℕ) (t : Tree ℕ) → sum_leaves t (is_label n) ≡ labels_upto n t
-sum_leaves-is_label zero t = no_labels t
+sum_leaves-is_label zero t = sum_leaves-zero t
 sum_leaves-is_label (suc n) t = sum_leaves-add t (is_label n) (λ x. one_if (ℕ_discrete x (suc n))) ∙ ap (λ m. m + occurs (suc n) t) (sum_leaves-is_label n t)
 
 pub labels_upto-each : (n : ℕ) (t : Tree ℕ) → ((i : ℕ) → 0 < i → i ≤ n → occurs i t ≡ 1) → labels_upto n t ≡ n
@@ -72,7 +63,7 @@ apart n j x out (no f) = let other = one_if-no (ℕ_discrete x j) f in omega (ar
 pub only_labels : (n : ℕ) (t : Tree ℕ) → leaf_count t ≡ n → ((i : ℕ) → 0 < i → i ≤ n → occurs i t ≡ 1) → (j : ℕ) → (0 < j → j ≤ n → ⊥) → occurs j t ≡ 0
 only_labels n t all each j out =
     let both = sum_leaves-add t (is_label n) (λ x. one_if (ℕ_discrete x j)) in
-    let few = sum_leaves-≤ t (λ x. is_label n x + one_if (ℕ_discrete x j)) (λ x. 1) (λ x. apart n j x out (ℕ_discrete x j)) in
+    let few = sum_leaves-≤ t (λ x. is_label n x + one_if (ℕ_discrete x j)) (λ x. 1) (AllLeaves-each t (λ x. is_label n x + one_if (ℕ_discrete x j) ≤ 1) (λ x. apart n j x out (ℕ_discrete x j))) in
     omega (arith, both, few, all, sum_leaves-is_label n t, labels_upto-each n t each)
 
 -- a tree labelled by 1 to n has n leaves

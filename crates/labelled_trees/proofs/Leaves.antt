@@ -27,13 +27,13 @@ mutual
   sum_row-add (more t r) f g = omega (arith, sum_leaves-add t f g, sum_row-add r f g)
 
 mutual
-  pub sum_leaves-≤ : {A : Type 0} (t : Tree A) (f g : A → ℕ) → ((a : A) → f a ≤ g a) → sum_leaves t f ≤ sum_leaves t g
-  sum_leaves-≤ (leaf a) f g h = h a
+  pub sum_leaves-≤ : {A : Type 0} (t : Tree A) (f g : A → ℕ) → AllLeaves t (λ a. f a ≤ g a) → sum_leaves t f ≤ sum_leaves t g
+  sum_leaves-≤ (leaf a) f g h = h
   sum_leaves-≤ (node l r) f g h = sum_row-≤ r f g h
 
-  pub sum_row-≤ : {A : Type 0} (r : Row A) (f g : A → ℕ) → ((a : A) → f a ≤ g a) → sum_row r f ≤ sum_row r g
+  pub sum_row-≤ : {A : Type 0} (r : Row A) (f g : A → ℕ) → AllRow r (λ a. f a ≤ g a) → sum_row r f ≤ sum_row r g
   sum_row-≤ none f g h = omega arith
-  sum_row-≤ (more t r) f g h = omega (arith, sum_leaves-≤ t f g h, sum_row-≤ r f g h)
+  sum_row-≤ (more t r) f g h = omega (arith, sum_leaves-≤ t f g h.0, sum_row-≤ r f g h.1)
 
 mutual
   pub sum_leaves-same : {A : Type 0} (t : Tree A) (f g : A → ℕ) → AllLeaves t (λ a. f a ≡ g a) → sum_leaves t f ≡ sum_leaves t g
@@ -43,6 +43,15 @@ mutual
   pub sum_row-same : {A : Type 0} (r : Row A) (f g : A → ℕ) → AllRow r (λ a. f a ≡ g a) → sum_row r f ≡ sum_row r g
   sum_row-same none f g h = refl
   sum_row-same (more t r) f g h = ap₂ (λ m n. m + n) (sum_leaves-same t f g h.0) (sum_row-same r f g h.1)
+
+mutual
+  pub sum_leaves-zero : {A : Type 0} (t : Tree A) → sum_leaves t (λ x. 0) ≡ 0
+  sum_leaves-zero (leaf a) = refl
+  sum_leaves-zero (node l r) = sum_row-zero r
+
+  pub sum_row-zero : {A : Type 0} (r : Row A) → sum_row r (λ x. 0) ≡ 0
+  sum_row-zero none = refl
+  sum_row-zero (more t r) = omega (arith, sum_leaves-zero t, sum_row-zero r)
 
 either_part : (a b : ℕ) (Q : Type 0) → Dec (0 < a) → (0 < a → Q) → (0 < b → Q) → 0 < a + b → Q
 either_part a b Q (yes k) f g h = f k
@@ -70,3 +79,31 @@ mutual
   pub by_row : (r : Row ℕ) (P : ℕ → Type 0) → ((i : ℕ) → 0 < occurs_row i r → P i) → AllRow r P
   by_row none P f = tt
   by_row (more t r) P f = (by_leaf t P (λ i h. f i (omega (arith, h))), by_row r P (λ i h. f i (omega (arith, h))))
+
+mutual
+  -- what holds of each value holds at each leaf
+  pub AllLeaves-each : {A : Type 0} (t : Tree A) (P : A → Type 0) → ((a : A) → P a) → AllLeaves t P
+  AllLeaves-each (leaf a) P h = h a
+  AllLeaves-each (node l r) P h = AllRow-each r P h
+
+  pub AllRow-each : {A : Type 0} (r : Row A) (P : A → Type 0) → ((a : A) → P a) → AllRow r P
+  AllRow-each none P h = tt
+  AllRow-each (more t r) P h = (AllLeaves-each t P h, AllRow-each r P h)
+
+mutual
+  pub AllLeaves-imp : {A : Type 0} (t : Tree A) (P Q : A → Type 0) → ((a : A) → P a → Q a) → AllLeaves t P → AllLeaves t Q
+  AllLeaves-imp (leaf a) P Q f h = f a h
+  AllLeaves-imp (node l r) P Q f h = AllRow-imp r P Q f h
+
+  pub AllRow-imp : {A : Type 0} (r : Row A) (P Q : A → Type 0) → ((a : A) → P a → Q a) → AllRow r P → AllRow r Q
+  AllRow-imp none P Q f h = tt
+  AllRow-imp (more t r) P Q f h = (AllLeaves-imp t P Q f h.0, AllRow-imp r P Q f h.1)
+
+mutual
+  pub AllLeaves-and : {A : Type 0} (t : Tree A) (P Q : A → Type 0) → AllLeaves t P → AllLeaves t Q → AllLeaves t (λ a. P a × Q a)
+  AllLeaves-and (leaf a) P Q h k = (h, k)
+  AllLeaves-and (node l r) P Q h k = AllRow-and r P Q h k
+
+  pub AllRow-and : {A : Type 0} (r : Row A) (P Q : A → Type 0) → AllRow r P → AllRow r Q → AllRow r (λ a. P a × Q a)
+  AllRow-and none P Q h k = tt
+  AllRow-and (more t r) P Q h k = (AllLeaves-and t P Q h.0 k.0, AllRow-and r P Q h.1 k.1)

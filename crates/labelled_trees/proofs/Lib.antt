@@ -1,4 +1,17 @@
+pub mod ContextLeaves
+pub mod Contexts
 pub mod Counts
+pub mod Factors
+pub mod Fitting
+pub mod GraftLeaves
+pub mod Grafts
+pub mod Holes
+pub mod Insertions
 pub mod Leaves
+pub mod Meetings
+pub mod Permutations
 pub mod ProgramTrees
+pub mod RangeSums
+pub mod Ranks
 pub mod Rows
+pub mod Unions

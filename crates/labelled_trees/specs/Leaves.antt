@@ -1,5 +1,5 @@
 -- Sums and facts over the leaves of a tree.
-use Rattle.std.specs.Prelude.{ℕ, ◌+◌}
+use Rattle.std.specs.Prelude.{ℕ, ◌+◌, List, [], ◌∷◌}
 use native.Mathlib.Decide.{ℕ_discrete}
 use Rattle.labelled_trees.specs.Trees.{Tree, Row, leaf, node, none, more}
 
@@ -27,6 +27,11 @@ abbrev mutual
 abbrev pub one_if : {A : Type 0} → Dec A → ℕ
 one_if (yes _) = 1
 one_if (no _) = 0
+
+-- how often a thing stands in a list
+abbrev pub times : {X : Type 0} → Discrete X → X → List X → ℕ
+times dec x [] = 0
+times dec x (y ∷ l) = one_if (dec y x) + times dec x l
 
 -- how often a number stands at a leaf
 abbrev pub occurs : ℕ → Tree ℕ → ℕ

@@ -1,4 +1,11 @@
-pub mod Trees
-pub mod Leaves
+pub mod Contexts
+pub mod Equality
+pub mod Insertions
 pub mod Labelled
+pub mod Laws
+pub mod Leaves
 pub mod Meaning
+pub mod RangeSums
+pub mod Ranks
+pub mod Trees
+pub mod Unions

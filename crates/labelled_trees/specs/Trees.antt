@@ -1,5 +1,5 @@
 -- Planar rooted trees.
-use Rattle.std.specs.Prelude.{ℕ, List, [], ◌∷◌, ◌++◌}
+use Rattle.std.specs.Prelude.{ℕ, ◌+◌, List, [], ◌∷◌, ◌++◌}
 use Rattle.std.proofs.Common.{suc}
 
 -- A tree is a leaf with a value, or a vertex with a number (a generator or a label) and its inputs from left to right
@@ -48,3 +48,31 @@ abbrev mutual
   pub graft_row : {A B : Type 0} → Row A → (A → Tree B) → Row B
   graft_row none s = none
   graft_row (more t r) s = more (graft t s) (graft_row r s)
+
+-- a tree whose leaves carry trees, with these trees in place of the leaves
+abbrev pub join : {A : Type 0} → Tree (Tree A) → Tree A
+join t = graft t (λ s. s)
+
+-- the same tree with f of each leaf's value
+abbrev pub map_tree : {A B : Type 0} → (A → B) → Tree A → Tree B
+map_tree f t = graft t (λ a. leaf (f a))
+
+-- the tree is a vertex with its inputs, and no leaf alone
+abbrev pub IsNode : {A : Type 0} → Tree A → Type 0
+IsNode (leaf a) = ⊥
+IsNode (node l r) = Unit {0}
+
+-- the tree is a leaf alone
+abbrev pub IsLeaf : {A : Type 0} → Tree A → Type 0
+IsLeaf (leaf a) = Unit {0}
+IsLeaf (node l r) = ⊥
+
+-- how many vertices there are
+abbrev mutual
+  pub vertices : {A : Type 0} → Tree A → ℕ
+  vertices (leaf a) = 0
+  vertices (node l r) = suc (vertices_row r)
+
+  pub vertices_row : {A : Type 0} → Row A → ℕ
+  vertices_row none = 0
+  vertices_row (more t r) = vertices t + vertices_row r

@@ -2,6 +2,7 @@
 #![tactic(auto)]
 
 ghost use Rattle.std.specs.Prelude.{◌≡◌, IfOk};
+ghost use Rattle.labelled_trees.specs.Laws.{ContextsAreTrees, GraftingIsAssociative, LeavesArePermutations};
 ghost use Rattle.labelled_trees.specs.Meaning.{OneToOne};
 
 use sqlite_items::Items;
@@ -37,4 +38,19 @@ impl Tree {
 /// Law: values of the program that stand for one tree are equal.
 pub fn meanings_are_apart()
     ensures law { OneToOne }
+{}
+
+/// Law: grafting is associative, and a leaf for each leaf changes nothing.
+pub fn grafting_is_associative<A, B, C>()
+    ensures law { GraftingIsAssociative A B C }
+{}
+
+/// Law: a tree is labelled by 1 to n exactly where its leaves are a permutation of 1 to n.
+pub fn leaves_are_permutations()
+    ensures law { LeavesArePermutations }
+{}
+
+/// Law: a tree in which leaf 0 stands once is a context with a hole, and putting a tree there fills the hole.
+pub fn contexts_are_trees()
+    ensures law { ContextsAreTrees }
 {}

@@ -1,0 +1,30 @@
+-- Contexts and insertion, with plain trees and lists.
+use Rattle.std.specs.Prelude.{ℕ, ◌≡◌, List, [], ◌∷◌}
+use Rattle.std.proofs.Common.{zero, suc}
+use Rattle.labelled_trees.specs.Trees.{Tree, leaf, graft}
+use Rattle.labelled_trees.specs.Leaves.{occurs}
+
+-- A context is a tree in which leaf 0 stands exactly once.
+abbrev pub IsContext : Tree ℕ → Type 0
+IsContext c = occurs 0 c ≡ 1
+
+-- x for 0, and for another number the leaf with that number
+abbrev pub at_zero : Tree ℕ → ℕ → Tree ℕ
+at_zero x zero = x
+at_zero x (suc i) = leaf (suc i)
+
+-- the context with x in place of leaf 0
+abbrev pub put : Tree ℕ → Tree ℕ → Tree ℕ
+put context x = graft context (at_zero x)
+
+-- the i-th tree of a list, counted from 1; leaf 0 where there is none
+abbrev pub item : List (Tree ℕ) → ℕ → Tree ℕ
+item [] i = leaf 0
+item (t ∷ ts) zero = leaf 0
+item (t ∷ ts) (suc zero) = t
+item (t ∷ ts) (suc (suc i)) = item ts (suc i)
+
+-- the list of s (a + 1) to s (a + k)
+abbrev pub listed : (ℕ → Tree ℕ) → ℕ → ℕ → List (Tree ℕ)
+listed s a zero = []
+listed s a (suc k) = s (suc a) ∷ listed s (suc a) k

@@ -1,0 +1,9 @@
+pub mod Basis
+pub mod Cases
+pub mod Multiples
+pub mod Reduce
+pub mod Separate
+pub mod Smaller
+pub mod Standing
+pub mod Theorem
+pub mod Whole

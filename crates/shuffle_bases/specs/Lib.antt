@@ -1,0 +1,4 @@
+pub mod Bases
+pub mod Law
+pub mod Laws
+pub mod Rows

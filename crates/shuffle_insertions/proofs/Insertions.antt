@@ -1,0 +1,76 @@
+-- What fills a slot.
+use Rattle.std.proofs.Common.{◌≡◌, ℕ, ◌<◌, ◌≤◌, sym, ◌∙◌, ap, arith, subst}
+use native.Mathlib.Decide.{ℕ_discrete, dec_lt}
+use Rattle.labelled_trees.specs.Trees.{Tree, leaf, graft}
+use Rattle.shuffle_insertions.specs.ShuffleTrees.{least, IsRising, IsShuffle}
+use Rattle.labelled_trees.specs.Labelled.{Fits}
+use Rattle.labelled_trees.specs.Leaves.{AllLeaves, one_if, occurs}
+use Rattle.shuffle_insertions.specs.Slots.{Slot, fill_slot, PartsRise}
+use Rattle.labelled_trees.proofs.Grafts.{graft_leaf}
+use Rattle.labelled_trees.proofs.Leaves.{by_leaf, at_leaf}
+use Rattle.labelled_trees.proofs.GraftLeaves.{sum_leaves-graft}
+use Rattle.shuffle_insertions.proofs.Counts.{same_counts, same_sums}
+use Rattle.labelled_trees.proofs.ContextLeaves.{sum-fill}
+use Rattle.shuffle_insertions.proofs.Rising.{head, rising_change, rising-fill, least-occurs, least-le}
+use Rattle.labelled_trees.proofs.Fitting.{fits_parts, fits-graft, fits_of_fill, fits-fill, fits_of_graft}
+
+abbrev pub InRange : ℕ → ℕ → Type 0
+InRange k i = (0 < i) × (i ≤ k)
+
+pub all_among : (k : ℕ) (x : Tree ℕ) → IsShuffle k x → AllLeaves x (InRange k)
+all_among k x h = by_leaf x (InRange k) h.only
+
+-- shuffle trees with the same labels have the same least leaf
+pub same_least : (k : ℕ) (x y : Tree ℕ) → IsShuffle k x → IsShuffle k y → least x ≡ least y
+same_least k x y hx hy =
+    let a : least y ≤ least x = at_leaf y (λ i. least y ≤ i) (least x) (least-le y hy.rising) (subst (λ n. 0 < n) (same_counts k x y hx hy (least x)) (least-occurs x hx.rising)) in
+    let b : least x ≤ least y = at_leaf x (λ i. least x ≤ i) (least y) (least-le x hx.rising) (subst (λ n. 0 < n) (sym (same_counts k x y hx hy (least y))) (least-occurs y hy.rising)) in
+    omega arith
+
+module _ (k : ℕ) (s : ℕ → Tree ℕ) (h : PartsRise k s) (x : Tree ℕ) (hx : IsShuffle k x) where
+  order_kept : (i j : ℕ) → InRange k i → InRange k j → i < j → least (s i) < least (s j)
+  order_kept i j a b lt = h.order i j a.0 lt b.1
+
+  pub least-graft : least (graft x s) ≡ least (s (least x))
+  least-graft =
+      let y = head ℕ (InRange k) leaf s (λ i a. h.each i a.0 a.1) order_kept x (rw graft_leaf hx.rising) (all_among k x hx) in
+      y.3 ∙ ap (λ n. least (s n)) (sym y.2 ∙ ap least (graft_leaf x))
+
+  pub rising-graft : IsRising (graft x s)
+  rising-graft = rising_change ℕ (InRange k) leaf s (λ i a. h.each i a.0 a.1) order_kept x (rw graft_leaf hx.rising) (all_among k x hx)
+
+pub occurs-graft : (k : ℕ) (s : ℕ → Tree ℕ) (x y : Tree ℕ) → IsShuffle k x → IsShuffle k y → (i : ℕ) → occurs i (graft x s) ≡ occurs i (graft y s)
+occurs-graft k s x y hx hy i =
+    sum_leaves-graft x s (λ n. one_if (ℕ_discrete n i)) ∙ same_sums k x y hx hy (λ a. occurs i (s a)) ∙ sym (sum_leaves-graft y s (λ n. one_if (ℕ_discrete n i)))
+
+-- where one shuffle tree may be inserted, each with the same labels may
+pub fill_slot-valid : (k n : ℕ) (f : Slot) (x y : Tree ℕ) → PartsRise k f.parts → IsShuffle k x → IsShuffle k y → IsShuffle n (fill_slot f x) → IsShuffle n (fill_slot f y)
+fill_slot-valid k n f x y h hx hy w = record {
+  rising = rising-fill f.context (graft x f.parts) (graft y f.parts) same (rising-graft k f.parts h y hy) w.rising;
+  each = λ i a b. sym (counts i) ∙ w.each i a b;
+  only = λ i o. w.only i (subst (λ m. 0 < m) (sym (counts i)) o);
+}
+  where
+    same : least (graft x f.parts) ≡ least (graft y f.parts)
+    same = least-graft k f.parts h x hx ∙ ap (λ m. least (f.parts m)) (same_least k x y hx hy) ∙ sym (least-graft k f.parts h y hy)
+
+    counts : (i : ℕ) → occurs i (fill_slot f x) ≡ occurs i (fill_slot f y)
+    counts i = sum-fill f.context (graft x f.parts) (graft y f.parts) (λ n. one_if (ℕ_discrete n i)) (occurs-graft k f.parts x y hx hy i)
+
+pub once_of : (n : ℕ) (x : Tree ℕ) → IsShuffle n x → (j : ℕ) → occurs j x ≤ 1
+once_of n x h j = go (dec_lt 0 (occurs j x))
+  where
+    go : Dec (0 < occurs j x) → occurs j x ≤ 1
+    go (yes o) = let r = h.only j o in let e : occurs j x ≡ 1 = h.each j r.0 r.1 in omega arith
+    go (no z) = omega arith
+
+-- and over labels
+pub fill_slot-fits : (arity : ℕ → ℕ) (k : ℕ) (f : Slot) (x y : Tree ℕ) → IsShuffle k x → IsShuffle k y → Fits arity (fill_slot f x) → Fits arity y → Fits arity (fill_slot f y)
+fill_slot-fits arity k f x y hx hy h b = fits-fill arity f.context (graft x f.parts) (graft y f.parts) h
+    (fits-graft arity y f.parts b (by_leaf y (λ i. Fits arity (f.parts i)) (λ i o.
+    let r = hy.only i o in let e = hx.each i r.0 r.1 in
+    at_leaf x (λ j. Fits arity (f.parts j)) i (fits_parts arity x f.parts (fits_of_fill arity f.context (graft x f.parts) h)) (omega (arith, e)))))
+
+-- what fills a slot over labels is over the labels
+pub fits_of_slot : (arity : ℕ → ℕ) (f : Slot) (x : Tree ℕ) → Fits arity (fill_slot f x) → Fits arity x
+fits_of_slot arity f x h = fits_of_graft arity x f.parts (fits_of_fill arity f.context (graft x f.parts) h)

@@ -1,0 +1,9 @@
+pub mod Counting
+pub mod Frames
+pub mod Keys
+pub mod Labels
+pub mod Laws
+pub mod Listing
+pub mod Orders
+pub mod ShuffleTrees
+pub mod Slots

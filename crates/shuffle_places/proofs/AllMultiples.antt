@@ -1,0 +1,268 @@
+-- The list of multiples has exactly the small common multiples.
+use Rattle.std.proofs.Common.{◌≡◌, ℕ, ◌<◌, ◌≤◌, List, [], ◌∷◌, Bool, true, false, cond, refl, sym, ◌∙◌, ap, arith, subst, inl, inr, ◌⊎◌}
+use mathlib.Core.List.{◌++◌}
+use native.Mathlib.Decide.{dec_lt}
+use Rattle.std.specs.declared.cmp.Ordering.{Ordering}
+use Rattle.std.specs.declared.cmp.Ordering.TheVariants.{Less, Equal, Greater}
+use Rattle.std.specs.Ordering.{nat_cmp, is_lt}
+use Rattle.std.specs.Cmp.Lexicographic.{slice_cmp}
+use Rattle.labelled_trees.specs.Trees.{Tree, IsNode, vertices}
+use Rattle.labelled_trees.specs.Equality.{tree_discrete}
+use Rattle.shuffle_insertions.specs.ShuffleTrees.{IsShuffle}
+use Rattle.shuffle_places.proofs.Places.{place_of_cut, cut_of_place}
+use Rattle.shuffle_places.specs.Cuts.{IsCut}
+use Rattle.modular_sums.specs.Lists.{Mem, Distinct, holds, has}
+use Rattle.shuffle_insertions.specs.Listing.{upto}
+use Rattle.shuffle_places.specs.Overlays.{shape_discrete, shape, shapes_of}
+use Rattle.shuffle_places.specs.Numberings.{numberings}
+use Rattle.shuffle_places.specs.AllPlaces.{places}
+use Rattle.shuffle_places.specs.Multiples.{IsMultiple}
+use Rattle.shuffle_places.specs.AllMultiples.{meet, cover, in_order, test, joined, any_same, different, multiples, only_where}
+use Rattle.modular_sums.proofs.Lists.{has_mem, mem_has, mem_either, mem_left, mem_right}
+use Rattle.shuffle_places.proofs.Overlays.{multiple_shape}
+use Rattle.shuffle_places.proofs.Numberings.{all_numbered}
+use Rattle.shuffle_places.proofs.AllPlaces.{listed_place, place_listed, places_distinct}
+use Rattle.shuffle_insertions.proofs.Counted.{mem_times, times_mem, distinct_times}
+use Rattle.shuffle_insertions.proofs.Upto.{in_upto, upto_mem}
+use Rattle.labelled_trees.specs.Leaves.{times}
+
+when_true : (b c : Bool) → b ≡ true → cond b true c ≡ true
+when_true true c e = refl
+when_true false c e = absurd (cc e)
+
+when_second : (b c : Bool) → c ≡ true → cond b true c ≡ true
+when_second true c e = refl
+when_second false c e = e
+
+one_true : (b c : Bool) → cond b true c ≡ true → (b ≡ true) ⊎ (c ≡ true)
+one_true true c e = inl refl
+one_true false c e = inr e
+
+both_true : (b c : Bool) → cond b c false ≡ true → (b ≡ true) × (c ≡ true)
+both_true true c e = (refl, e)
+both_true false c e = absurd (cc e)
+
+true_both : (b c : Bool) → b ≡ true → c ≡ true → cond b c false ≡ true
+true_both true c d e = e
+true_both false c d e = absurd (cc d)
+
+meet_shared : (k l : List ℕ) → meet k l ≡ true → (v : ℕ) × Mem v k × Mem v l
+meet_shared [] l e = absurd (cc e)
+meet_shared (v ∷ k) l e = go (one_true (has l v) (meet k l) e) (λ h. meet_shared k l h)
+  where
+    go : (has l v ≡ true) ⊎ (meet k l ≡ true) → (meet k l ≡ true → (u : ℕ) × Mem u k × Mem u l) → (u : ℕ) × Mem u (v ∷ k) × Mem u l
+    go (inl h) f = (v, inl refl, has_mem l v h)
+    go (inr h) f = let r = f h in (r.0, inr r.1, r.2)
+
+shared_meet : (k l : List ℕ) (v : ℕ) → Mem v k → Mem v l → meet k l ≡ true
+shared_meet [] l v h m = absurd h
+shared_meet (x ∷ k) l v (inl e) m = when_true (has l x) (meet k l) (mem_has l x (subst (λ u. Mem u l) e m))
+shared_meet (x ∷ k) l v (inr h) m = when_second (has l x) (meet k l) (shared_meet k l v h m)
+
+cover_step : (b c d : Bool) → cond b d (cond c d false) ≡ true → ((b ≡ true) ⊎ (c ≡ true)) × (d ≡ true)
+cover_step true c d e = (inl refl, e)
+cover_step false true d e = (inr refl, e)
+cover_step false false d e = absurd (cc e)
+
+step_cover : (b c d : Bool) → (b ≡ true) ⊎ (c ≡ true) → d ≡ true → cond b d (cond c d false) ≡ true
+step_cover true c d h e = e
+step_cover false true d h e = e
+step_cover false false d (inl h) e = absurd (cc h)
+step_cover false false d (inr h) e = absurd (cc h)
+
+covered : (m k l : List ℕ) → cover m k l ≡ true → (v : ℕ) → Mem v m → Mem v k ⊎ Mem v l
+covered [] k l e v h = absurd h
+covered (x ∷ m) k l e v (inr h) = covered m k l (cover_step (has k x) (has l x) (cover m k l) e).1 v h
+covered (x ∷ m) k l e v (inl h) = go (cover_step (has k x) (has l x) (cover m k l) e).0
+  where
+    go : (has k x ≡ true) ⊎ (has l x ≡ true) → Mem v k ⊎ Mem v l
+    go (inl a) = inl (subst (λ u. Mem u k) (sym h) (has_mem k x a))
+    go (inr a) = inr (subst (λ u. Mem u l) (sym h) (has_mem l x a))
+
+is_cover : (m k l : List ℕ) → ((v : ℕ) → Mem v m → Mem v k ⊎ Mem v l) → cover m k l ≡ true
+is_cover [] k l h = refl
+is_cover (x ∷ m) k l h = step_cover (has k x) (has l x) (cover m k l) (go (h x (inl refl))) (is_cover m k l (λ v p. h v (inr p)))
+  where
+    go : Mem x k ⊎ Mem x l → (has k x ≡ true) ⊎ (has l x ≡ true)
+    go (inl p) = inl (mem_has k x p)
+    go (inr p) = inr (mem_has l x p)
+
+less_is : (o : Ordering) → is_lt o ≡ true → o ≡ Less
+less_is Less e = refl
+less_is Equal e = absurd (cc e)
+less_is Greater e = absurd (cc e)
+
+ordered_of : (a b : Tree ℕ) (k l : List ℕ) → in_order a b k l ≡ true → a ≡ b → slice_cmp nat_cmp k l ≡ Less
+ordered_of a b k l e q = go (tree_discrete a b) e
+  where
+    go : (d : Dec (a ≡ b)) → only_where d (is_lt (slice_cmp nat_cmp k l)) ≡ true → slice_cmp nat_cmp k l ≡ Less
+    go (yes _) e = less_is (slice_cmp nat_cmp k l) e
+    go (no f) e = absurd (f q)
+
+of_ordered : (a b : Tree ℕ) (k l : List ℕ) → (a ≡ b → slice_cmp nat_cmp k l ≡ Less) → in_order a b k l ≡ true
+of_ordered a b k l h = go (tree_discrete a b)
+  where
+    go : (d : Dec (a ≡ b)) → only_where d (is_lt (slice_cmp nat_cmp k l)) ≡ true
+    go (yes q) = ap is_lt (h q)
+    go (no f) = refl
+
+from_joined : {X Y : Type 0} (l : List X) (f : X → List Y) (y : Y) → Mem y (joined l f) → (x : X) × Mem x l × Mem y (f x)
+from_joined [] f y h = absurd h
+from_joined {X = X} (x ∷ l) f y h = go (mem_either y (f x) (joined l f) h) (λ m. from_joined l f y m)
+  where
+    go : Mem y (f x) ⊎ Mem y (joined l f) → (Mem y (joined l f) → (z : X) × Mem z l × Mem y (f z)) → (z : X) × Mem z (x ∷ l) × Mem y (f z)
+    go (inl m) g = (x, inl refl, m)
+    go (inr m) g = let r = g m in (r.0, inr r.1, r.2)
+
+into_joined : {X Y : Type 0} (l : List X) (f : X → List Y) (x : X) (y : Y) → Mem x l → Mem y (f x) → Mem y (joined l f)
+into_joined [] f x y h m = absurd h
+into_joined (z ∷ l) f x y (inl e) m = mem_left y (f z) (joined l f) (subst (λ w. Mem y (f w)) e m)
+into_joined (z ∷ l) f x y (inr h) m = mem_right y (f z) (joined l f) (into_joined l f x y h m)
+
+from_cond : {Y : Type 0} (b : Bool) (y z : Y) → Mem y (cond b (z ∷ []) []) → (b ≡ true) × (y ≡ z)
+from_cond true y z (inl e) = (refl, e)
+from_cond true y z (inr h) = absurd h
+from_cond false y z h = absurd h
+
+into_cond : {Y : Type 0} (b : Bool) (z : Y) → b ≡ true → Mem z (cond b (z ∷ []) [])
+into_cond true z e = inl refl
+into_cond false z e = absurd (cc e)
+
+any_among : (x : Tree (Unit {0})) (l : List (Tree (Unit {0}))) → any_same x l ≡ true → Mem x l
+any_among x [] e = absurd (cc e)
+any_among x (y ∷ l) e = go (shape_discrete x y) (λ h. any_among x l h) e
+  where
+    go : (d : Dec (x ≡ y)) → (any_same x l ≡ true → Mem x l) → holds d (any_same x l) ≡ true → (x ≡ y) ⊎ Mem x l
+    go (yes h) ih e = inl h
+    go (no _) ih e = inr (ih e)
+
+among_any : (x : Tree (Unit {0})) (l : List (Tree (Unit {0}))) → Mem x l → any_same x l ≡ true
+among_any x [] h = absurd h
+among_any x (y ∷ l) h = go (shape_discrete x y) (λ m. among_any x l m) h
+  where
+    go : (d : Dec (x ≡ y)) → (Mem x l → any_same x l ≡ true) → (x ≡ y) ⊎ Mem x l → holds d (any_same x l) ≡ true
+    go (yes _) ih h = refl
+    go (no f) ih (inl e) = absurd (f e)
+    go (no f) ih (inr m) = ih m
+
+in_different : (x : Tree (Unit {0})) (l : List (Tree (Unit {0}))) → Mem x l → Mem x (different l)
+in_different x [] h = absurd h
+in_different x (y ∷ l) h = go (any_same y l) refl (λ m. in_different x l m) h
+  where
+    go : (b : Bool) → any_same y l ≡ b → (Mem x l → Mem x (different l)) → (x ≡ y) ⊎ Mem x l → Mem x (cond b (different l) (y ∷ different l))
+    go true e ih (inl q) = ih (subst (λ z. Mem z l) (sym q) (any_among y l e))
+    go true e ih (inr m) = ih m
+    go false e ih (inl q) = inl q
+    go false e ih (inr m) = inr (ih m)
+
+of_different : (x : Tree (Unit {0})) (l : List (Tree (Unit {0}))) → Mem x (different l) → Mem x l
+of_different x [] h = h
+of_different x (y ∷ l) h = go (any_same y l) (λ m. of_different x l m) h
+  where
+    go : (b : Bool) → (Mem x (different l) → Mem x l) → Mem x (cond b (different l) (y ∷ different l)) → (x ≡ y) ⊎ Mem x l
+    go true ih m = inr (ih m)
+    go false ih (inl q) = inl q
+    go false ih (inr m) = inr (ih m)
+
+different_distinct : (l : List (Tree (Unit {0}))) → Distinct (different l)
+different_distinct [] = tt
+different_distinct (y ∷ l) = go (any_same y l) refl (different_distinct l)
+  where
+    go : (b : Bool) → any_same y l ≡ b → Distinct (different l) → Distinct (cond b (different l) (y ∷ different l))
+    go true e ih = ih
+    go false e ih = (λ m. no_false (among_any y l (of_different y l m)) e, ih)
+      where
+        no_false : any_same y l ≡ true → any_same y l ≡ false → ⊥
+        no_false p q = cc (p, q)
+
+distinct_append : {Y : Type 0} (k l : List Y) → Distinct k → Distinct l → ((y : Y) → Mem y k → Mem y l → ⊥) → Distinct (k ++ l)
+distinct_append [] l a b h = b
+distinct_append {Y = Y} (y ∷ k) l a b h = (λ m. go (mem_either y k l m), distinct_append k l a.1 b (λ z m n. h z (inr m) n))
+  where
+    go : Mem y k ⊎ Mem y l → ⊥
+    go (inl m) = a.0 m
+    go (inr m) = h y (inl refl) m
+
+-- where each item of a joined list tells from which item it comes
+distinct_joined : {X Y : Type 0} (g : Y → X) (l : List X) (f : X → List Y) → Distinct l → ((x : X) → Mem x l → Distinct (f x)) → ((x : X) (y : Y) → Mem x l → Mem y (f x) → g y ≡ x) → Distinct (joined l f)
+distinct_joined g [] f d e h = tt
+distinct_joined g (x ∷ l) f d e h = distinct_append (f x) (joined l f) (e x (inl refl)) (distinct_joined g l f d.1 (λ z m. e z (inr m)) (λ z y m n. h z y (inr m) n))
+    (λ y m n. let r = from_joined l f y n in d.0 (subst (λ z. Mem z l) (sym (h r.0 y (inr r.1) r.2) ∙ h x y (inl refl) m) r.1))
+
+distinct_cond : {Y : Type 0} (b : Bool) (z : Y) → Distinct (cond b (z ∷ []) [])
+distinct_cond true z = (λ h. h, tt)
+distinct_cond false z = tt
+
+module _ (a b : Tree ℕ) (na : IsNode a) (nb : IsNode b) (n : ℕ) where
+  -- each listed triple is a small common multiple
+  pub listed_multiple : (tree : Tree ℕ) (k l : List ℕ) → Mem (tree, k, l) (multiples a b n) → IsMultiple n a b tree k l
+  listed_multiple tree k l h =
+      let f = from_joined (different (shapes_of a b)) (λ form. joined (numberings form (upto n)) (λ t. joined (places a 1 t) (λ i. joined (places b 1 t) (λ j. cond (test a b t i j) ((t, i, j) ∷ []) [])))) (tree, k, l) h in
+      let t = from_joined (numberings f.0 (upto n)) (λ t. joined (places a 1 t) (λ i. joined (places b 1 t) (λ j. cond (test a b t i j) ((t, i, j) ∷ []) []))) (tree, k, l) f.2 in
+      let i = from_joined (places a 1 t.0) (λ i. joined (places b 1 t.0) (λ j. cond (test a b t.0 i j) ((t.0, i, j) ∷ []) [])) (tree, k, l) t.2 in
+      let j = from_joined (places b 1 t.0) (λ j. cond (test a b t.0 i.0 j) ((t.0, i.0, j) ∷ []) []) (tree, k, l) i.2 in
+      let c = from_cond (test a b t.0 i.0 j.0) (tree, k, l) (t.0, i.0, j.0) j.2 in
+      let et : tree ≡ t.0 = ap (λ (x : Tree ℕ × List ℕ × List ℕ). x.0) c.1 in
+      let ek : k ≡ i.0 = ap (λ (x : Tree ℕ × List ℕ × List ℕ). x.1) c.1 in
+      let el : l ≡ j.0 = ap (λ (x : Tree ℕ × List ℕ × List ℕ). x.2) c.1 in
+      subst (λ x. IsMultiple n a b x k l) (sym et) (subst (λ x. IsMultiple n a b t.0 x l) (sym ek) (subst (λ x. IsMultiple n a b t.0 i.0 x) (sym el)
+      (of_test t.0 i.0 j.0 ((all_numbered n f.0 tree_discrete).only t.0 (mem_times tree_discrete t.0 (numberings f.0 (upto n)) t.1)).0 (listed_place a na t.0 i.0 i.1) (listed_place b nb t.0 j.0 j.1) c.0)))
+    where
+      of_test : (t : Tree ℕ) (i j : List ℕ) → IsShuffle n t → IsCut t i a → IsCut t j b → test a b t i j ≡ true → IsMultiple n a b t i j
+      of_test t i j v p q e =
+          let x = both_true (meet i j) (cond (cover (upto (vertices t)) i j) (in_order a b i j) false) e in
+          let y = both_true (cover (upto (vertices t)) i j) (in_order a b i j) x.1 in
+          record {
+            overlap = record { valid = v; first_at = place_of_cut t i a p; second_at = place_of_cut t j b q; shared = meet_shared i j x.0; covers = λ u pos le. covered (upto (vertices t)) i j y.0 u (in_upto (vertices t) u pos le) };
+            ordered = ordered_of a b i j y.1;
+          }
+
+  -- and each of them is listed
+  pub multiple_listed : (tree : Tree ℕ) (k l : List ℕ) → IsMultiple n a b tree k l → Mem (tree, k, l) (multiples a b n)
+  multiple_listed tree k l m =
+      let o = m.overlap in
+      let number = (all_numbered n (shape tree) tree_discrete).each tree o.valid refl in
+      let e : test a b tree k l ≡ true = true_both (meet k l) (cond (cover (upto (vertices tree)) k l) (in_order a b k l) false) (shared_meet k l o.shared.0 o.shared.1 o.shared.2)
+      (true_both (cover (upto (vertices tree)) k l) (in_order a b k l) (is_cover (upto (vertices tree)) k l (λ v h. let r = upto_mem (vertices tree) v h in o.covers v r.0 r.1))
+      (of_ordered a b k l m.ordered)) in
+      into_joined (different (shapes_of a b)) (λ form. joined (numberings form (upto n)) (λ t. joined (places a 1 t) (λ i. joined (places b 1 t) (λ j. cond (test a b t i j) ((t, i, j) ∷ []) [])))) (shape tree) (tree, k, l)
+      (in_different (shape tree) (shapes_of a b) (multiple_shape n a b tree k l o))
+      (into_joined (numberings (shape tree) (upto n)) (λ t. joined (places a 1 t) (λ i. joined (places b 1 t) (λ j. cond (test a b t i j) ((t, i, j) ∷ []) []))) tree (tree, k, l)
+      (times_mem tree_discrete tree (numberings (shape tree) (upto n)) (omega (arith, number)))
+      (into_joined (places a 1 tree) (λ i. joined (places b 1 tree) (λ j. cond (test a b tree i j) ((tree, i, j) ∷ []) [])) k (tree, k, l) (place_listed a na tree k (cut_of_place tree k a o.first_at))
+      (into_joined (places b 1 tree) (λ j. cond (test a b tree k j) ((tree, k, j) ∷ []) []) l (tree, k, l) (place_listed b nb tree l (cut_of_place tree l b o.second_at))
+      (into_cond (test a b tree k l) (tree, k, l) e))))
+
+  at_most_once : (form : Tree (Unit {0})) (t : Tree ℕ) → times tree_discrete t (numberings form (upto n)) ≤ 1
+  at_most_once form t = go (dec_lt 0 (times tree_discrete t (numberings form (upto n))))
+    where
+      go : Dec (0 < times tree_discrete t (numberings form (upto n))) → times tree_discrete t (numberings form (upto n)) ≤ 1
+      go (yes p) = let o = (all_numbered n form tree_discrete).only t p in let e = (all_numbered n form tree_discrete).each t o.0 o.1 in omega (arith, e)
+      go (no z) = omega (arith, z)
+
+  tree_is : (x : Tree ℕ × List ℕ × List ℕ) (t : Tree ℕ) → Mem x (joined (places a 1 t) (λ i. joined (places b 1 t) (λ j. cond (test a b t i j) ((t, i, j) ∷ []) []))) → x.0 ≡ t
+  tree_is x t h =
+      let i = from_joined (places a 1 t) (λ i. joined (places b 1 t) (λ j. cond (test a b t i j) ((t, i, j) ∷ []) [])) x h in
+      let j = from_joined (places b 1 t) (λ j. cond (test a b t i.0 j) ((t, i.0, j) ∷ []) []) x i.2 in
+      ap (λ (x : Tree ℕ × List ℕ × List ℕ). x.0) (from_cond (test a b t i.0 j.0) x (t, i.0, j.0) j.2).1
+
+  first_is : (x : Tree ℕ × List ℕ × List ℕ) (t : Tree ℕ) (i : List ℕ) → Mem x (joined (places b 1 t) (λ j. cond (test a b t i j) ((t, i, j) ∷ []) [])) → x.1 ≡ i
+  first_is x t i h =
+      let j = from_joined (places b 1 t) (λ j. cond (test a b t i j) ((t, i, j) ∷ []) []) x h in
+      ap (λ (x : Tree ℕ × List ℕ × List ℕ). x.1) (from_cond (test a b t i j.0) x (t, i, j.0) j.2).1
+
+  -- each once
+  pub multiples_once : Distinct (multiples a b n)
+  multiples_once = distinct_joined (λ (x : Tree ℕ × List ℕ × List ℕ). shape x.0) (different (shapes_of a b)) (λ form. joined (numberings form (upto n)) (λ t. joined (places a 1 t) (λ i. joined (places b 1 t) (λ j. cond (test a b t i j) ((t, i, j) ∷ []) []))))
+      (different_distinct (shapes_of a b))
+      (λ form m. distinct_joined (λ (x : Tree ℕ × List ℕ × List ℕ). x.0) (numberings form (upto n)) (λ t. joined (places a 1 t) (λ i. joined (places b 1 t) (λ j. cond (test a b t i j) ((t, i, j) ∷ []) [])))
+      (distinct_times tree_discrete (numberings form (upto n)) (at_most_once form))
+      (λ t p. distinct_joined (λ (x : Tree ℕ × List ℕ × List ℕ). x.1) (places a 1 t) (λ i. joined (places b 1 t) (λ j. cond (test a b t i j) ((t, i, j) ∷ []) []))
+      (places_distinct a na 1 t)
+      (λ i q. distinct_joined (λ (x : Tree ℕ × List ℕ × List ℕ). x.2) (places b 1 t) (λ j. cond (test a b t i j) ((t, i, j) ∷ []) []) (places_distinct b nb 1 t)
+      (λ j r. distinct_cond (test a b t i j) (t, i, j)) (λ j x r h. ap (λ (x : Tree ℕ × List ℕ × List ℕ). x.2) (from_cond (test a b t i j) x (t, i, j) h).1))
+      (λ i x q h. first_is x t i h))
+      (λ t x p h. tree_is x t h))
+      (λ form x m h.
+      let t = from_joined (numberings form (upto n)) (λ t. joined (places a 1 t) (λ i. joined (places b 1 t) (λ j. cond (test a b t i j) ((t, i, j) ∷ []) []))) x h in
+      ap shape (tree_is x t.0 t.2) ∙ ((all_numbered n form tree_discrete).only t.0 (mem_times tree_discrete t.0 (numberings form (upto n)) t.1)).1)

@@ -1,0 +1,10 @@
+pub mod AllMultiples
+pub mod AllPlaces
+pub mod Cuts
+pub mod Frames
+pub mod Numberings
+pub mod Overlaps
+pub mod Overlays
+pub mod Places
+pub mod Sets
+pub mod Vertices

@@ -1,0 +1,61 @@
+-- The list of all small common multiples of two trees.
+use Rattle.std.specs.Prelude.{ℕ, List, [], ◌∷◌, ◌++◌}
+use Rattle.std.proofs.Common.{Bool, true, false, cond}
+use native.Mathlib.Decide.{ℕ_discrete}
+use Rattle.std.specs.Ordering.{nat_cmp, is_lt}
+use Rattle.std.specs.Cmp.Lexicographic.{slice_cmp}
+use Rattle.labelled_trees.specs.Trees.{Tree, vertices}
+use Rattle.labelled_trees.specs.Equality.{tree_discrete}
+use Rattle.shuffle_insertions.specs.Listing.{upto}
+use Rattle.shuffle_places.specs.Overlays.{shape_discrete, shapes_of}
+use Rattle.shuffle_places.specs.Numberings.{numberings}
+use Rattle.shuffle_places.specs.AllPlaces.{places}
+
+abbrev pub holds : {A : Type 0} → Dec A → Bool → Bool
+holds (yes _) b = true
+holds (no _) b = b
+
+-- the test of membership
+abbrev pub has : List ℕ → ℕ → Bool
+has [] v = false
+has (x ∷ l) v = holds (ℕ_discrete v x) (has l v)
+
+-- a member of the first stands in the second
+abbrev pub meet : List ℕ → List ℕ → Bool
+meet [] l = false
+meet (v ∷ k) l = cond (has l v) true (meet k l)
+
+-- each of the list stands in one of the two
+abbrev pub cover : List ℕ → List ℕ → List ℕ → Bool
+cover [] k l = true
+cover (v ∷ m) k l = cond (has k v) (cover m k l) (cond (has l v) (cover m k l) false)
+
+abbrev pub only_where : {A : Type 0} → Dec A → Bool → Bool
+only_where (yes _) t = t
+only_where (no _) t = true
+
+-- where a and b are one tree, the first set is less
+abbrev pub in_order : Tree ℕ → Tree ℕ → List ℕ → List ℕ → Bool
+in_order a b k l = only_where (tree_discrete a b) (is_lt (slice_cmp nat_cmp k l))
+
+abbrev pub test : Tree ℕ → Tree ℕ → Tree ℕ → List ℕ → List ℕ → Bool
+test a b tree k l = cond (meet k l) (cond (cover (upto (vertices tree)) k l) (in_order a b k l) false) false
+
+-- for each item, what f gives
+abbrev pub joined : {X Y : Type 0} → List X → (X → List Y) → List Y
+joined [] f = []
+joined (x ∷ l) f = f x ++ joined l f
+
+abbrev pub any_same : Tree (Unit {0}) → List (Tree (Unit {0})) → Bool
+any_same x [] = false
+any_same x (y ∷ l) = holds (shape_discrete x y) (any_same x l)
+
+-- the last of equal shapes alone
+abbrev pub different : List (Tree (Unit {0})) → List (Tree (Unit {0}))
+different [] = []
+different (x ∷ l) = cond (any_same x l) (different l) (x ∷ different l)
+
+abbrev pub multiples : Tree ℕ → Tree ℕ → ℕ → List (Tree ℕ × List ℕ × List ℕ)
+multiples a b n =
+    joined (different (shapes_of a b)) (λ form. joined (numberings form (upto n)) (λ tree. joined (places a 1 tree) (λ k. joined (places b 1 tree) (λ l.
+    cond (test a b tree k l) ((tree, k, l) ∷ []) []))))
