@@ -1,11 +1,12 @@
 -- The laws of a field of residues, proved.
 use Rattle.std.proofs.Common.{◌≡◌, ℕ, suc, ◌+◌, ◌-◌, ◌*◌, ◌%◌, ◌<◌, ◌⊎◌, inl, inr, arith, sym, ◌∙◌, refl, ap}
+use Rattle.std.specs.Prelude.{ℤ, pos, negsuc}
 use Rattle.std.proofs.Math.Nat.{eq-zero-or-pos, mod-eq_of_lt, mod-mod}
 use Rattle.std.proofs.lemmas.Nat.{mod_below}
 use Rattle.modular_sums.proofs.Laws.{residue_law}
 use Rattle.prime_field.specs.Laws.{FieldLaw, Fields}
 use Rattle.prime_field.specs.Primes.{IsPrime}
-use Rattle.prime_field.specs.Residues.{Congruent}
+use Rattle.prime_field.specs.Residues.{Congruent, CongruentSigned}
 use Rattle.prime_field.proofs.Inverses.{has_inverse}
 use Rattle.prime_field.proofs.Primes.{field_prime}
 
@@ -19,6 +20,10 @@ one_residue : (p a b : ℕ) → a < p → b < p → Congruent p a b → a ≡ b
 one_residue p a b below_a below_b h =
     let whole : suc (p - 1) ≡ p = omega arith in
     sym (mod-eq_of_lt below_a) ∙ (rw whole at h) ∙ mod-eq_of_lt below_b
+
+one_integer : (p : ℕ) (z : ℤ) (a b : ℕ) → CongruentSigned p z a → CongruentSigned p z b → Congruent p a b
+one_integer p (pos n) a b h k = sym h ∙ k
+one_integer p (negsuc n) a b h k = (residue_law (p - 1)).cancelled a b (suc n) (h ∙ sym k)
 
 -- what is alike 1 is not alike 0
 one_is_not_zero : (p : ℕ) → 1 < p → Congruent p 0 1 → ⊥
@@ -34,7 +39,7 @@ one_inverse p a b c h k =
     let e₃ : 1 * c ≡ c = omega arith in
     sym (rw (e₁, e₂) at left) ∙ (rw e₃ at right)
 
--- a factor of a product 0, of which the other is a residue with an inverse
+-- where the product of a and b is 0 and a has an inverse, b is 0
 other_factor : (p a b c : ℕ) → Congruent p (a * b) 0 → Congruent p (a * c) 1 → Congruent p b 0
 other_factor p a b c h k =
     let law = residue_law (p - 1) in
@@ -92,6 +97,7 @@ field_law : (p : ℕ) → IsPrime p → FieldLaw p
 field_law p prime = record {
   prime = prime;
   residues = one_residue p;
+  integers = one_integer p;
   inverse = λ a. residue_inverse p a prime;
   one_inverse = one_inverse p;
   product = λ a b. zero_factor p a b prime;
