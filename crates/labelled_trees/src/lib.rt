@@ -8,16 +8,17 @@ ghost use Rattle.labelled_trees.specs.Meaning.{OneToOne};
 use sqlite_items::Items;
 use std::alloc::{AllocError, Global};
 
-/// A tree: a leaf with its number, or a vertex with the index of its generator (or label) and its inputs
-/// from left to right. Contracts see it through `tree_of`.
+/// A planar tree with numbered leaves, of any shape and with any numbers. Contracts see it through `tree_of`.
 #[derive(Drop)]
 pub enum Tree {
+    /// A leaf with its number.
     Leaf(u8),
+    /// A vertex: the index of its generator (or label), and its inputs from left to right.
     Node(u16, Items<Tree>),
 }
 
 impl Tree {
-    /// An equal tree. `AllocError` comes for want of memory alone.
+    /// An equal tree: the same shape, indices and numbers. `AllocError` comes for want of memory alone.
     pub fn copy(&self, alloc: Global) -> Result<Tree, AllocError>
         ensures same { IfOk result (λ tree. tree ≡ self.now) }
     {

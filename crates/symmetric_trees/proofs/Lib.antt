@@ -1,1 +1,4 @@
+pub mod Branches
+pub mod LeastOf
+pub mod SpellingSteps
 pub mod Tables

@@ -1,6 +1,6 @@
 -- Facts of tables of generators.
 use Rattle.std.proofs.Common.{◌≡◌, ℕ, zero, suc, map, refl, ◌+◌, ◌<◌, ◌≤◌, List, [], ◌∷◌, ◌++◌, length, get_or, Some, slice_get, ◌⊎◌, ⊎_elim, ap, ◌∙◌, sym, subst, arith, length-append}
-use Rattle.std.specs.List.{All, AllPairs, Any, HoldsAt, sum_by}
+use Rattle.std.specs.List.{Any, HoldsAt, sum_by}
 use Rattle.std.proofs.lemmas.List.Sums.{sum_by-cons}
 use Rattle.operad_ideals.specs.Parts.{total}
 use Rattle.operad_ideals.specs.Laws.{arity}
@@ -67,3 +67,14 @@ pub arity-past : (generators : List Generator) (i : ℕ) → length generators �
 arity-past [] i l = refl
 arity-past (x ∷ xs) zero l = absurd (omega arith)
 arity-past (x ∷ xs) (suc i) l = arity-past xs i (omega arith)
+
+-- the sizes of a generator of a table add up to its inputs
+pub sizes-held : (generators : List Generator) (i : ℕ) (g : Generator) → slice_get generators i ≡ Some g → arity (parts_at generators) i ≡ sum_by (λ (part : Part). part.size) g.parts
+sizes-held generators i g e = ap total (parts_at-held generators i g e) ∙ total-parts g.parts
+
+not_past : (n i a : ℕ) → 2 ≤ a → (n ≤ i → a ≡ 0) → i < n
+not_past n i a l past = grind arith
+
+-- what has inputs is in the table
+pub held_if_wide : (generators : List Generator) (i : ℕ) → 2 ≤ arity (parts_at generators) i → i < length generators
+held_if_wide generators i l = not_past (length generators) i (arity (parts_at generators) i) l (λ p. arity-past generators i p)

@@ -2,7 +2,6 @@
 use Rattle.std.specs.Prelude.{ℕ, List}
 use Rattle.labelled_trees.specs.Labelled as labelled
 use Rattle.labelled_trees.specs.Trees.{Tree}
-use Rattle.operad_ideals.specs.Parts as inputs
 use Rattle.operad_ideals.specs.Laws.{arity}
 use Rattle.symmetric_trees.specs.Generators.{parts_at}
 use Rattle.symmetric_trees.specs.declared.generators.Generator.{Generator}

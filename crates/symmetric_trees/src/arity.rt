@@ -64,8 +64,9 @@ fn fits(tree: &Tree, table: &GenTable) -> bool
     }
 }
 
-/// The arity of a tree over a table: the number `n` of its leaves, where each vertex names a generator of the table
-/// and has as many inputs as its arity, and the leaves carry 1 to `n`, each once. `None` exactly where one of these fails.
+/// The arity of a tree over a table: the number `n` of its leaves, from 1 to 255, where each vertex names a generator
+/// of the table and has as many inputs as its arity, and the leaves carry 1 to `n`, each once.
+/// `None` exactly where one of these fails.
 pub fn arity_of(tree: &Tree, table: &GenTable) -> Option<u8>
     ensures labelled { IfSome result (λ n. spec.IsLabelled table.now n (tree_of tree.now)) }
     ensures none { IfNone result ((n : ℕ) → spec.IsLabelled table.now n (tree_of tree.now) → ⊥) }

@@ -1,4 +1,4 @@
-ghost use Rattle.std.specs.Prelude.{◌≡◌};
+ghost use Rattle.std.specs.Prelude.{◌≡◌, ◌≤◌};
 ghost use Rattle.labelled_trees.specs.Meaning.{tree_of};
 ghost use Rattle.operad_ideals.specs.Spelling.{least_leaf};
 
@@ -9,5 +9,6 @@ use labelled_trees::Tree;
 pub struct Branch {
     pub least: u8,
     pub tree: Tree,
+    ghost small: { least ≤ 255 },
     ghost least_is: { least ≡ least_leaf (tree_of tree) },
 }

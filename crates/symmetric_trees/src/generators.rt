@@ -7,7 +7,7 @@ use std::alloc::{AllocError, Global};
 use std::marker::Model;
 use thiserror::Error;
 
-/// The name of a generator, which contracts see as its bytes.
+/// The name of a generator: any text, which contracts see as its bytes.
 #[derive(Debug, Drop)]
 pub struct Name {
     text: String,
@@ -22,7 +22,7 @@ impl Model for Name {
 }
 
 impl Name {
-    /// A copy of the text. `AllocError` comes for want of memory alone.
+    /// The name that this text is. `AllocError` comes for want of memory alone.
     pub fn new(alloc: Global, text: &str) -> Result<Name, AllocError>
         ensures bytes { IfOk result (λ name. name ≡ text.now) }
     {
@@ -46,23 +46,27 @@ impl Name {
     }
 }
 
-/// What becomes of a tree when two inputs in a part change places: nothing, its sign turns, or they can't.
+/// What becomes of a tree when two inputs of a part change places.
 #[derive(Clone, Copy, Debug, PartialEq, Eq)]
 pub enum PartKind {
+    /// Symmetric: the tree stays the same.
     Sym,
+    /// Skew: the tree changes its sign.
     Alt,
+    /// The inputs can't change places.
     Free,
 }
 
-/// Consecutive inputs of a generator.
+/// A part: `size` consecutive inputs of a generator, all of one kind.
 #[derive(Clone, Copy, Debug, PartialEq, Eq)]
 pub struct Part {
     pub kind: PartKind,
     pub size: u8,
 }
 
-/// A generator: its name, how many inputs it has, and the parts into which they fall, in order.
-/// In a table the arity is from 2 to 6, each size is one or more, and the sizes add up to the arity.
+/// A generator: its name, how many inputs it has, and the parts into which they fall, from left to right.
+/// The fields are free here; in a `GenTable` the arity is from 2 to 6, each size is one or more,
+/// and the sizes add up to the arity.
 #[derive(Debug, Drop)]
 pub struct Generator {
     pub name: Name,
@@ -103,22 +107,28 @@ impl Generator {
     }
 }
 
-/// Why a generator isn't added to a table: the first of these that applies, in the order of `GenTable::add`.
-#[derive(Debug, Drop, Error)]
+/// Why a generator isn't added to a table. Where several hold, `GenTable::add` says which one is answered.
+#[derive(Clone, Copy, Debug, PartialEq, Eq, Error)]
 pub enum GenFail {
+    /// A generator of the table has this name.
     #[error("the table holds the name")]
     NameTaken,
+    /// The arity is below 2 or above 6.
     #[error("the arity isn't from 2 to 6")]
     ArityOut,
+    /// The table holds twelve generators, as many as it may.
     #[error("the table holds twelve generators")]
     TooManyGens,
-    #[error("the sizes of the parts aren't those of the arity")]
+    /// A part has the size 0, or the sizes don't add up to the arity.
+    #[error("the sizes of the parts don't fit the arity")]
     PartsOut,
+    /// Nothing stands against the generator, but memory has run out.
     #[error("out of memory")]
     NoMemory,
 }
 
-/// At most twelve generators with different names, which contracts see as their list.
+/// At most twelve generators with different names, each with an arity from 2 to 6 and parts that fit it.
+/// A generator's index is how many were added before it. Contracts see the list of the generators.
 #[derive(Debug, Drop)]
 pub struct GenTable {
     generators: Items<Generator>,
@@ -156,7 +166,7 @@ impl GenTable {
         self.generators.len() as u16
     }
 
-    /// The generator with this index, counted from 0.
+    /// The generator with this index, from 0 to below `len()`.
     pub fn get(&self, index: u16) -> &Generator
         requires held { index < length self.now }
         ensures found { slice_get self.now index ≡ Some result.now }
@@ -165,7 +175,7 @@ impl GenTable {
         &self.generators.as_slice()[index as usize]
     }
 
-    /// The index of the generator with this name; `None` exactly where there is none.
+    /// The index of the generator with this name, below `len()`; `None` exactly where no generator has it.
     pub fn find(&self, name: &str) -> Option<u16>
         ensures found { IfSome result (λ index. (index < length self.now) × HoldsAt (spec.IsNamed name.now) self.now index) }
         ensures absent { IfNone result (spec.IsTaken name.now self.now → ⊥) }
@@ -178,10 +188,10 @@ impl GenTable {
         None
     }
 
-    /// Puts a generator behind the others. In this order: `TooManyGens` exactly where 12 generators are held,
-    /// `NameTaken` exactly where the name is held, `ArityOut` exactly where the arity isn't from 2 to 6,
-    /// `PartsOut` exactly where a size is 0 or the sizes don't add up to the arity; `NoMemory` is free.
-    /// After a refusal the table is as before.
+    /// Puts a generator behind the others. The first of these that holds is answered: `TooManyGens` where 12 generators
+    /// are held, `NameTaken` where the name is held, `ArityOut` where the arity isn't from 2 to 6, `PartsOut` where
+    /// a size is 0 or the sizes don't add up to the arity. Where none holds, the generator is added, or `NoMemory`
+    /// comes for want of memory. After an error the table is as before.
     pub fn add(&mut self, _alloc: Global, generator: Generator) -> Result<(), GenFail>
         ensures answer { spec.Added self.old generator result self.new }
     {
@@ -222,7 +232,7 @@ impl GenTable {
         }
     }
 
-    /// An equal table. `AllocError` comes for want of memory alone.
+    /// An equal table, in the same order. `AllocError` comes for want of memory alone.
     pub fn copy(&self, alloc: Global) -> Result<GenTable, AllocError>
         ensures same { IfOk result (λ table. table ≡ self.now) }
     {

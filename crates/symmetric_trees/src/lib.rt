@@ -8,4 +8,8 @@ mod spelling;
 
 pub use arity::arity_of;
 pub use generators::{GenFail, GenTable, Generator, Name, Part, PartKind};
+pub use labelled_trees::Tree;
 pub use spelling::{Sign, spelled};
+
+#[cfg(test)]
+mod tests;

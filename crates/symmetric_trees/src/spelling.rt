@@ -17,12 +17,14 @@ use std::alloc::{AllocError, Global};
 /// The sign with which a tree agrees with its sorted spelling.
 #[derive(Clone, Copy, Debug, PartialEq, Eq)]
 pub enum Sign {
+    /// The tree equals its sorted spelling.
     Plus,
+    /// The tree equals the negative of its sorted spelling.
     Minus,
 }
 
 impl Sign {
-    /// The product of two signs.
+    /// The product of two signs: `Minus` where they differ.
     pub fn times(self, other: Sign) -> Sign
         ensures product { spec.meaning_of result ≡ math.times (spec.meaning_of self) (spec.meaning_of other) }
     {
@@ -152,7 +154,7 @@ fn spell(alloc: Global, table: &GenTable, tree: &Tree) -> Result<(Sign, Branch),
 
 /// The sorted spelling of a tree and its sign: at each vertex the inputs of each symmetric or skew part stand in
 /// ascending order of their least leaves, in the places of that part; each skew part whose inputs were moved by an odd
-/// permutation turns the sign round. The tree carries 1 to `n`, each once, over the table (`arity_of` isn't `None`).
+/// permutation turns the sign round. The tree fits the table and carries 1 to `n`, each once: `arity_of` isn't `None`.
 /// `AllocError` comes for want of memory alone.
 pub fn spelled(alloc: Global, table: &GenTable, tree: &Tree) -> Result<(Sign, Tree), AllocError>
     requires labelled { (n : ℕ) × trees.IsLabelled table.now n (tree_of tree.now) }

@@ -1,11 +1,9 @@
-use Rattle.std.proofs.Common.{◌≡◌, ◌∙◌, ℕ, ◌+◌, ◌-◌, ◌^◌, sym, arith, ap, subst, min, take, List}
+use Rattle.std.proofs.Common.{◌≡◌, ◌∙◌, ℕ, ◌+◌, ◌-◌, ◌^◌, sym, ap, subst, min, take}
 use Rattle.std.specs.Prelude.{slice_index}
 use Rattle.std.proofs.lemmas.List.{take_all}
 use Rattle.std.specs.List.{sum_by, AllByRecursion}
-use Rattle.labelled_trees.specs.declared.Tree as program
-use Rattle.labelled_trees.specs.declared.Tree.TheVariants.{Node}
 use Rattle.labelled_trees.specs.Meaning.{tree_of}
-use Rattle.labelled_trees.specs.Leaves.{AllLeaves, occurs, leaf_count, sum_leaves}
+use Rattle.labelled_trees.specs.Leaves.{AllLeaves, sum_leaves}
 use Rattle.labelled_trees.proofs.ProgramTrees.{sum_leaves-node, all_leaves-node}
 use Rattle.symmetric_trees.proofs.arity.LeafCounts.+add.Goals as goal
 

@@ -1,4 +1,4 @@
-use Rattle.std.proofs.Common.{◌≡◌, ◌∙◌, ◌++◌, ap, sym, subst}
+use Rattle.std.proofs.Common.{sym, subst}
 use Rattle.symmetric_trees.specs.Generators.{IsTable, IsWelcome}
 use Rattle.symmetric_trees.proofs.Tables.{table-push}
 use Rattle.symmetric_trees.proofs.generators.GenTable.add.Goals as goal

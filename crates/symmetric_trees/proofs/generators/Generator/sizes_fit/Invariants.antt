@@ -1,4 +1,4 @@
-use Rattle.std.proofs.Common.{◌≡◌, ◌+◌, ◌<◌, drop, take}
+use Rattle.std.proofs.Common.{◌≡◌, ◌+◌, ◌<◌, take}
 use Rattle.std.specs.List.{All, sum_by}
 use Rattle.symmetric_trees.proofs.generators.Generator.sizes_fit.Given as goal
 

@@ -1,0 +1,8 @@
+pub mod Commands
+pub mod OneGenerator
+pub mod Answers
+pub mod Documents
+pub mod OpeningLines
+pub mod Queries
+pub mod Laws
+pub mod Runs

@@ -1,0 +1,6 @@
+pub mod Calls
+pub mod Causes
+pub mod MemorySink
+pub mod MemorySource
+pub mod Real
+pub mod Taken

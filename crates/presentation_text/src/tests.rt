@@ -1,0 +1,68 @@
+use super::*;
+use sqlite_items::Items;
+use std::alloc::{AllocError, Global};
+use std::test::*;
+use symmetric_trees::{GenTable, Generator, Name, Part, PartKind};
+
+// A table with one generator `l`, of arity 2, whose inputs change the sign when they change places.
+fn table(alloc: Global) -> Result<GenTable, AllocError> {
+    let mut table = GenTable::new(alloc);
+    let part = Part {
+        kind: PartKind::Alt,
+        size: 2,
+    };
+    let generator = Generator {
+        name: Name::new(alloc, "l")?,
+        arity: 2,
+        parts: Items::from_slice(alloc, &[part])?,
+    };
+    let _ = table.add(alloc, generator);
+    Ok(table)
+}
+
+#[test]
+fn lines_of_a_text(rt: HostRuntime) -> Result<(), Fail> {
+    let mut rest: &[u8] = b"a\n\nb";
+    for wanted in ["a", "", "b"] {
+        let (line, behind) = next_line(rest).ok_or("no line")?;
+        assert_eq!(rt; line, wanted.as_bytes());
+        rest = behind;
+    }
+    assert!(rt; next_line(rest).is_none());
+    assert!(rt; !counts(b"  # c"));
+    assert!(rt; !counts(b" \t\r"));
+    assert!(rt; counts(b"a"));
+    Ok(())
+}
+
+#[test]
+fn tokens_of_a_line(rt: HostRuntime) -> Result<(), Fail> {
+    let alloc = rt.alloc();
+    assert_eq!(rt; tokens(alloc, b"l(1,2) + l(l(1,2),3)")?.len(), 18);
+    let long = tokens(alloc, b"1234567890123456789")?;
+    assert!(rt; matches!(long.as_slice(), [Token::Long]));
+    let stray = tokens(alloc, b"_x")?;
+    assert!(rt; matches!(stray.as_slice(), [Token::Bad, Token::Word(_)]));
+    Ok(())
+}
+
+#[test]
+fn a_tree_is_read_and_printed(rt: HostRuntime) -> Result<(), Fail> {
+    let alloc = rt.alloc();
+    let table = table(alloc)?;
+    let line = tokens(alloc, b"l(1,2) + l(l(1,2),3)")?;
+    let (tree, end) = read_tree(alloc, &table, &line, 0)?.ok_or("no tree")?;
+    assert_eq!(rt; end, 6);
+    assert_eq!(rt;
+        print_tree(alloc, &table, &tree)?.as_slice(),
+        b"l(1,2)".as_slice()
+    );
+    let (inner, end) = read_tree(alloc, &table, &line, 7)?.ok_or("no tree")?;
+    assert_eq!(rt; end, 18);
+    assert_eq!(rt;
+        print_tree(alloc, &table, &inner)?.as_slice(),
+        b"l(l(1,2),3)".as_slice()
+    );
+    assert!(rt; read_tree(alloc, &table, &line, 6)?.is_none());
+    Ok(())
+}
