@@ -12,6 +12,7 @@ pub mod Numberings
 pub mod Overlaps
 pub mod Overlays
 pub mod Places
+pub mod RankedParts
 pub mod Sets
 pub mod Sizes
 pub mod Vertices
