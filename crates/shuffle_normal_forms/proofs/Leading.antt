@@ -52,17 +52,17 @@ module _ (s : Setting) (order : IsTreeOrder s.arity s.compare) (monic : AreMonic
       ∙ coef_absent tree_discrete ((1, i.tree) ∷ rest_of i) u (not_less i.tree u l, rest_absent i u (inr l))
 
   leads : 0 < s.q → (i : Insertion s n) → IsLeadingTree s n (value_of i) i.tree
-  leads prime i = record {
-    there = λ z. one_not_zero s.q prime (ap (λ c. c % suc s.q) (sym (coef_tree i)) ∙ z);
+  leads positive i = record {
+    there = λ z. one_not_zero s.q positive (ap (λ c. c % suc s.q) (sym (coef_tree i)) ∙ z);
     above = λ u h l. ap (λ c. c % suc s.q) (coef_greater i u l);
   }
 
   pub free_of_none : 0 < s.q → (t : Tree ℕ) → IsShuffleTree s.arity n t → LeadsNone s n t → IsFree s t
-  free_of_none prime t h none = go (inserted_or_free s monic n t h)
+  free_of_none positive t h none = go (inserted_or_free s monic n t h)
     where
       go : ((i : Insertion s n) × (i.tree ≡ t)) ⊎ IsFree s t → IsFree s t
       go (inl p) = absurd (none (value_of p.0) (value_valid s order monic n p.0) ((span s n).instances p.0)
-          (subst (IsLeadingTree s n (value_of p.0)) p.1 (leads prime p.0)))
+          (subst (IsLeadingTree s n (value_of p.0)) p.1 (leads positive p.0)))
       go (inr f) = f
 
 -- ---- a free tree leads none
