@@ -23,7 +23,7 @@ spanning labels s are order monic n = (
 pub lead_none : FreeTreesLeadNone
 lead_none labels s are order monic = (
   λ N n reduce le t h f. none_of_free labels s are order monic N n reduce le t h f,
-  λ prime n t h none. free_of_none s order monic n prime t h none,
+  λ positive n t h none. free_of_none s order monic n positive t h none,
 )
 
 pub one_form : OneNormalForm

@@ -21,16 +21,6 @@ use Rattle.shuffle_normal_forms.proofs.Coefficients.{coef_absent, coef_first, co
 use Rattle.shuffle_normal_forms.proofs.Listing.{inserted_or_free, not_free}
 use Rattle.shuffle_normal_forms.proofs.Insertions.{span, rest_of, value_is, IsLower, rest_lower, value_valid}
 
-not_itself : (o : Ordering) → o ≡ ordering_reverse o → o ≡ Less → ⊥
-not_itself Less e h = absurd (cc e)
-not_itself Equal e h = absurd (cc h)
-not_itself Greater e h = absurd (cc h)
-
-turn_greater : (o p : Ordering) → o ≡ ordering_reverse p → o ≡ Greater → p ≡ Less
-turn_greater o Less e g = refl
-turn_greater o Equal e g = absurd (cc (e, g))
-turn_greater o Greater e g = absurd (cc (e, g))
-
 one_not_zero : (q : ℕ) → 0 < q → Alike q 1 0 → ⊥
 one_not_zero q h e =
     let a : 1 % suc q ≡ 1 = mod-eq_of_lt (omega (arith, h)) in
@@ -41,7 +31,10 @@ one_not_zero q h e =
 
 module _ (s : Setting) (order : IsTreeOrder s.arity s.compare) (monic : AreMonic s) (n : ℕ) where
   not_less : (x y : Tree ℕ) → IsLess s x y → x ≡ y → ⊥
-  not_less x y l e = not_itself (s.compare y y) (order.turned y y) (subst (λ z. IsLess s z y) e l)
+  not_less x y l e =
+      let less : s.compare y y ≡ Less = subst (λ z. IsLess s z y) e l in
+      let greater : s.compare y y ≡ Greater = order.turned y y ∙ ap ordering_reverse less in
+      absurd (cc (less, greater))
 
   rest_absent : (i : Insertion s n) (u : Tree ℕ) → (i.tree ≡ u) ⊎ IsLess s i.tree u → AllTerms (rest_of i) (λ x. x ≡ u → ⊥)
   rest_absent i u o = AllTerms-imp (IsLower s order monic n i) (λ x. x ≡ u → ⊥) (rest_of i) (λ x h e. not_less x u (go x h.1 o) e) (rest_lower s order monic n i)
@@ -59,17 +52,17 @@ module _ (s : Setting) (order : IsTreeOrder s.arity s.compare) (monic : AreMonic
       ∙ coef_absent tree_discrete ((1, i.tree) ∷ rest_of i) u (not_less i.tree u l, rest_absent i u (inr l))
 
   leads : 0 < s.q → (i : Insertion s n) → IsLeadingTree s n (value_of i) i.tree
-  leads prime i = record {
-    there = λ z. one_not_zero s.q prime (ap (λ c. c % suc s.q) (sym (coef_tree i)) ∙ z);
+  leads positive i = record {
+    there = λ z. one_not_zero s.q positive (ap (λ c. c % suc s.q) (sym (coef_tree i)) ∙ z);
     above = λ u h l. ap (λ c. c % suc s.q) (coef_greater i u l);
   }
 
   pub free_of_none : 0 < s.q → (t : Tree ℕ) → IsShuffleTree s.arity n t → LeadsNone s n t → IsFree s t
-  free_of_none prime t h none = go (inserted_or_free s monic n t h)
+  free_of_none positive t h none = go (inserted_or_free s monic n t h)
     where
       go : ((i : Insertion s n) × (i.tree ≡ t)) ⊎ IsFree s t → IsFree s t
       go (inl p) = absurd (none (value_of p.0) (value_valid s order monic n p.0) ((span s n).instances p.0)
-          (subst (IsLeadingTree s n (value_of p.0)) p.1 (leads prime p.0)))
+          (subst (IsLeadingTree s n (value_of p.0)) p.1 (leads positive p.0)))
       go (inr f) = f
 
 -- ---- a free tree leads none
@@ -82,7 +75,7 @@ module _ (labels : ℕ) (s : Setting) (are : AreLabels labels s.arity) (order : 
       at : (d : IsLed s n (expand value_of m.uses)) (o : Ordering) → s.compare t d.by.tree ≡ o → ⊥
       at d Less c = d.there (sym (m.adds_up d.by.tree) ∙ lead.above d.by.tree d.by.valid c)
       at d Equal c = not_free s monic n d.by t (order.equal_only n t d.by.tree h d.by.valid c) f
-      at d Greater c = lead.there (m.adds_up t ∙ d.above t h (turn_greater (s.compare t d.by.tree) (s.compare d.by.tree t) (order.turned t d.by.tree) c))
+      at d Greater c = lead.there (m.adds_up t ∙ d.above t h (order.turned d.by.tree t ∙ ap ordering_reverse c))
 
       go : Same tree_discrete s.q (expand value_of m.uses) [] ⊎ IsLed s n (expand value_of m.uses) → ⊥
       go (inl z) = lead.there (m.adds_up t ∙ z t ∙ ap (λ c. c % suc s.q) (coef_nothing tree_discrete t))

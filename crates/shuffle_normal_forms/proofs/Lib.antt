@@ -1,4 +1,5 @@
 pub mod Coefficients
+pub mod Differences
 pub mod Examples
 pub mod Independent
 pub mod Insertions

@@ -1,10 +1,8 @@
 -- Free trees span modulo the insertions, by the rank of a tree.
-use Rattle.std.proofs.Common.{◌≡◌, ℕ, zero, suc, ◌+◌, ◌*◌, ◌%◌, ◌<◌, List, [], ◌∷◌, sym, ◌∙◌, ap, arith, subst, inl, inr, ◌⊎◌}
+use Rattle.std.proofs.Common.{◌≡◌, ℕ, zero, suc, ◌<◌, List, [], ◌∷◌, sym, ◌∙◌, ap, arith, subst, inl, inr, ◌⊎◌}
 use mathlib.Core.List.{◌++◌}
-use Rattle.modular_sums.specs.Residues.{Alike}
-use Rattle.modular_sums.specs.Sums.{coef, scale, Same, AllTerms}
-use Rattle.modular_sums.proofs.Residues.{alike_drop}
-use Rattle.modular_sums.proofs.Sums.{coef-append, coef-scale, AllTerms-append, AllTerms-scale}
+use Rattle.modular_sums.specs.Sums.{scale, AllTerms}
+use Rattle.modular_sums.proofs.Sums.{AllTerms-append, AllTerms-scale}
 use Rattle.modular_sums.proofs.Images.{AllTerms-imp}
 use Rattle.labelled_trees.specs.Trees.{Tree}
 use Rattle.labelled_trees.specs.Equality.{tree_discrete}
@@ -15,67 +13,12 @@ use Rattle.shuffle_bases.specs.Elements.{Setting, IsLess, AreMonic, Insertion}
 use Rattle.shuffle_bases.proofs.Ranking.{rank, rank_less}
 use Rattle.shuffle_normal_forms.specs.FreeTrees.{IsFree, IsFreeTree}
 use Rattle.shuffle_normal_forms.specs.NormalForms.{InSpan, IsNormalForm, IsAtMost}
-use Rattle.shuffle_normal_forms.proofs.Coefficients.{coef_nothing, coef_times}
+use Rattle.shuffle_normal_forms.proofs.Differences.{same_negated, same_added, same_gone}
 use Rattle.shuffle_normal_forms.proofs.Listing.{inserted_or_free}
 use Rattle.shuffle_normal_forms.proofs.Insertions.{span, rest_of, value_is, IsLower, rest_lower}
 
 abbrev Sum : Type 0
 Sum = List (ℕ × Tree ℕ)
-
-abbrev co : Sum → Tree ℕ → ℕ
-co = coef tree_discrete
-
--- ---- sums that are the same
-
-module _ (q : ℕ) where
-  alike_of_eq : (a b : ℕ) → a ≡ b → Alike q a b
-  alike_of_eq a b e = ap (λ k. k % suc q) e
-
-  gone : (a : ℕ) → Alike q (a + q * a) 0
-  gone a = let e : 0 + (a + q * a) ≡ a + q * a = omega arith in rw e at (alike_drop q 0 a)
-
-  twice_negated : (h l f : ℕ) → Alike q (h + q * (q * f)) (h + l + q * (l + q * f))
-  twice_negated h l f =
-      let e : h + l + q * (l + q * f) ≡ h + q * (q * f) + (l + q * l) = omega arith in
-      sym (alike_of_eq _ _ e ∙ alike_drop q (h + q * (q * f)) l)
-
-  -- where f is a normal form of l, minus f is one of h, if h plus l is in the span
-  same_negated : (h l f : Sum) → Same tree_discrete q (h ++ scale q (scale q f)) ((h ++ l) ++ scale q (l ++ scale q f))
-  same_negated h l f t = rw (
-    coef-append tree_discrete h (scale q (scale q f)) t,
-    coef-scale tree_discrete q (scale q f) t,
-    coef-scale tree_discrete q f t,
-    coef-append tree_discrete (h ++ l) (scale q (l ++ scale q f)) t,
-    coef-append tree_discrete h l t,
-    coef-scale tree_discrete q (l ++ scale q f) t,
-    coef-append tree_discrete l (scale q f) t,
-    coef-scale tree_discrete q f t,
-  )
-      (twice_negated (co h t) (co l t) (co f t))
-
-  -- c times one normal form and another are a normal form of the sum
-  same_added : (c : ℕ) (x : Tree ℕ) (e f g : Sum)
-      → Same tree_discrete q (((c, x) ∷ e) ++ scale q (scale c f ++ g)) (scale c (((1, x) ∷ []) ++ scale q f) ++ (e ++ scale q g))
-  same_added c x e f g t = rw (
-    coef-append tree_discrete (((c, x) ∷ []) ++ e) (scale q (scale c f ++ g)) t,
-    coef-append tree_discrete ((c, x) ∷ []) e t,
-    coef_times tree_discrete c x t,
-    coef-scale tree_discrete q (scale c f ++ g) t,
-    coef-append tree_discrete (scale c f) g t,
-    coef-scale tree_discrete c f t,
-    coef-append tree_discrete (scale c (((1, x) ∷ []) ++ scale q f)) (e ++ scale q g) t,
-    coef-scale tree_discrete c (((1, x) ∷ []) ++ scale q f) t,
-    coef-append tree_discrete ((1, x) ∷ []) (scale q f) t,
-    coef-scale tree_discrete q f t,
-    coef-append tree_discrete e (scale q g) t,
-    coef-scale tree_discrete q g t,
-  )
-      (alike_of_eq _ _ (let h = co ((1, x) ∷ []) t in let k : c * h + co e t + q * (c * co f t + co g t) ≡ c * (h + q * co f t) + (co e t + q * co g t) = omega arith in k))
-
-  same_gone : (e : Sum) → Same tree_discrete q (e ++ scale q e) []
-  same_gone e t = rw (coef-append tree_discrete e (scale q e) t, coef-scale tree_discrete q e t, coef_nothing tree_discrete t) (gone (co e t))
-
--- ---- normal forms
 
 module _ (labels : ℕ) (s : Setting) (are : AreLabels labels s.arity) (order : IsTreeOrder s.arity s.compare) (monic : AreMonic s) (n : ℕ) where
   -- a normal form within each bound of the sum's trees
@@ -94,7 +37,7 @@ module _ (labels : ℕ) (s : Setting) (are : AreLabels labels s.arity) (order : 
     by = (1, t) ∷ [];
     normal = record {
       on_free = (h, tt);
-      rest = (span s n).same (((1, t) ∷ []) ++ scale s.q ((1, t) ∷ [])) [] (same_gone s.q ((1, t) ∷ [])) (span s n).none;
+      rest = (span s n).same (((1, t) ∷ []) ++ scale s.q ((1, t) ∷ [])) [] (same_gone tree_discrete s.q ((1, t) ∷ [])) (span s n).none;
     };
     within = λ u k. k;
   }
@@ -105,7 +48,7 @@ module _ (labels : ℕ) (s : Setting) (are : AreLabels labels s.arity) (order : 
     normal = record {
       on_free = AllTerms-scale s.q f.by (IsFreeTree s n) f.normal.on_free;
       rest = (span s n).same (((1, t) ∷ []) ++ scale s.q (scale s.q f.by)) (((1, t) ∷ rest_of i) ++ scale s.q (rest_of i ++ scale s.q f.by))
-          (same_negated s.q ((1, t) ∷ []) (rest_of i) f.by)
+          (same_negated tree_discrete s.q ((1, t) ∷ []) (rest_of i) f.by)
           ((span s n).added ((1, t) ∷ rest_of i) (scale s.q (rest_of i ++ scale s.q f.by))
           (subst (InSpan s n) (value_is s order monic n i ∙ ap (λ x. (1, x) ∷ rest_of i) e) ((span s n).instances i))
           ((span s n).scaled s.q (rest_of i ++ scale s.q f.by) f.normal.rest));
@@ -121,7 +64,7 @@ module _ (labels : ℕ) (s : Setting) (are : AreLabels labels s.arity) (order : 
     normal = record {
       on_free = AllTerms-append (scale c f.by) g.by (IsFreeTree s n) (AllTerms-scale c f.by (IsFreeTree s n) f.normal.on_free) g.normal.on_free;
       rest = (span s n).same (((c, x) ∷ e) ++ scale s.q (scale c f.by ++ g.by)) (scale c (((1, x) ∷ []) ++ scale s.q f.by) ++ (e ++ scale s.q g.by))
-          (same_added s.q c x e f.by g.by)
+          (same_added tree_discrete s.q c x e f.by g.by)
           ((span s n).added (scale c (((1, x) ∷ []) ++ scale s.q f.by)) (e ++ scale s.q g.by)
           ((span s n).scaled c (((1, x) ∷ []) ++ scale s.q f.by) f.normal.rest) g.normal.rest);
     };
@@ -132,7 +75,7 @@ module _ (labels : ℕ) (s : Setting) (are : AreLabels labels s.arity) (order : 
   sum_form : (e : Sum) → AllTerms e (λ x. Form ((1, x) ∷ [])) → Form e
   sum_form [] h = record {
     by = [];
-    normal = record { on_free = tt; rest = (span s n).same ([] ++ scale s.q []) [] (same_gone s.q []) (span s n).none };
+    normal = record { on_free = tt; rest = (span s n).same ([] ++ scale s.q []) [] (same_gone tree_discrete s.q []) (span s n).none };
     within = λ u k. tt;
   }
   sum_form (x ∷ e) h = added_form x.0 x.1 e h.0 (sum_form e h.1)
