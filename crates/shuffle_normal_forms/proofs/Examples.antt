@@ -15,33 +15,10 @@ use Rattle.shuffle_insertions.proofs.Examples.{by_path, l, t1, t2, t3, one_binar
 use Rattle.shuffle_places.proofs.Laws.{places_listed}
 use Rattle.shuffle_places.proofs.Examples.{top_two}
 use Rattle.shuffle_bases.specs.Elements.{Element, IsMonic, AreMonic, Insertion, value_of}
-use Rattle.shuffle_bases.proofs.Examples.{jacobi, setting, reduces}
+use Rattle.shuffle_bases.proofs.Examples.{jacobi, setting, reduces, monic, valid_at}
 use Rattle.shuffle_normal_forms.specs.FreeTrees.{IsFree, IsFreeTree, free_trees}
 use Rattle.shuffle_normal_forms.specs.NormalForms.{InSpan, IsNormalForm, LeadsNone, IsAtMost}
 use Rattle.shuffle_normal_forms.proofs.Laws.{all_listed, independent, spanning, lead_none, one_form}
-
--- ---- the premise on the element
-
-valid_at : (n : ℕ) (t : Tree ℕ) → has_by tree_discrete (all_trees 1 one_binary n) t ≡ true → IsShuffleTree one_binary n t
-valid_at n t h = (listed 1 one_binary one_label n).0.only t (has_by_mem tree_discrete (all_trees 1 one_binary n) t h)
-
-jacobi_monic : IsMonic setting jacobi
-unfolding ℕ_discrete tree_discrete tree_discrete_by row_discrete_by same_leaf same_node same_more
-jacobi_monic = record {
-  lead_valid = valid_at 3 t1 refl;
-  lead_node = tt;
-  tail_valid = ((valid_at 3 t2 refl, refl), ((valid_at 3 t3 refl, refl), tt));
-}
-
-is_jacobi : (g : Element) → Mem g setting.elements → g ≡ jacobi
-is_jacobi g (inl e) = e
-is_jacobi g (inr m) = absurd m
-
-monic : AreMonic setting
-monic = record {
-  each = λ g m. subst (IsMonic setting) (sym (is_jacobi g m)) jacobi_monic;
-  apart = λ g h a b e. is_jacobi g a ∙ sym (is_jacobi h b);
-}
 
 -- ---- the free trees
 
