@@ -226,7 +226,6 @@ at_top {A = A} (inside n c) h = absurd (no (start_row_low c))
     no : 2 ≤ start_row 2 c → ⊥
     no k = omega arith
 
-
 pub standard_shape : (p : Tree (Tree ℕ)) → shape (standard (graft p (λ v. leaf (least v)))) ≡ shape p
 standard_shape p =
     graft_assoc (graft p (λ v. leaf (least v))) (λ i. leaf (suc (below i (graft p (λ v. leaf (least v)))))) (λ a. leaf tt)
