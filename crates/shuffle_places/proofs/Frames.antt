@@ -1,3 +1,4 @@
+-- Slots and places: the place of a slot, the slot at a place, and the frame of both.
 use Rattle.std.proofs.Common.{[], map, inl, inr, ◌⊎◌, ◌≡◌, ℕ, zero, suc, ◌+◌, ◌<◌, ◌≤◌, List, ◌∷◌, refl, sym, ◌∙◌, ap, arith, subst}
 use mathlib.Core.List.{◌++◌}
 use mathlib.Core.Path.{ap₂}

@@ -24,7 +24,7 @@ use Rattle.shuffle_insertions.proofs.Rising.{rising_of_fill}
 use Rattle.shuffle_insertions.proofs.Insertions.{fill_slot-valid}
 use Rattle.labelled_trees.proofs.ContextLeaves.{sum_of_fill}
 use Rattle.shuffle_places.proofs.Overlaps.{Common, common}
-use Rattle.shuffle_insertions.proofs.Into.{fill_slot-into, into_rises, into}
+use Rattle.shuffle_insertions.proofs.NestedSlots.{fill_slot-into, into_rises, into}
 
 module _ (base : Setting) (basis : AreMonic base) (order : IsTreeOrder base.arity base.compare)
     (most : ℕ) (reduce : SmallMeet base most) (n : ℕ) (n_le : n ≤ most) where
