@@ -1,12 +1,14 @@
 -- The laws with premises, met by numbers as monomials.
-use Rattle.std.proofs.Common.{◌≡◌, ◌≢◌, ℕ, suc, ◌+◌, ◌%◌, sym, ◌∙◌, ◌≤◌, List, [], ◌∷◌, refl, ap, arith, ◌⊎◌}
-use native.Mathlib.Decide.{ℕ_discrete}
+use Rattle.std.proofs.Common.{Bool, true, false, inl, inr, ◌<◌, ◌*◌, ◌≡◌, ◌≢◌, ℕ, suc, ◌+◌, ◌%◌, sym, ◌∙◌, ◌≤◌, List, [], ◌∷◌, refl, ap, arith, ◌⊎◌}
+use native.Mathlib.Decide.{ℕ_discrete, dec_lt}
+use Rattle.modular_sums.specs.Lists.{Mem, holds}
+use Rattle.modular_sums.specs.Ranks.{count_less}
 use Rattle.modular_sums.specs.Residues.{Alike}
-use Rattle.modular_sums.specs.Sums.{hit, coef, scale, Same, expand}
+use Rattle.modular_sums.specs.Sums.{hit, coef, scale, Same, expand, Member, moved}
 use Rattle.modular_sums.specs.Diamond.{HaveHosts, Meet, Led}
 use Rattle.modular_sums.proofs.Sums.{Same-cancelled}
 use Rattle.modular_sums.proofs.Sameness.{same_if_agree}
-use Rattle.modular_sums.proofs.Laws.{diamond_law}
+use Rattle.modular_sums.proofs.Laws.{diamond_law, rank_law, image_law}
 
 -- 3 + 99 is 1 modulo 101
 one_again : Alike 100 (3 + 99) 1
@@ -54,3 +56,46 @@ meets i j e = record { uses = []; lower = tt; adds_up = λ t. Same-cancelled ℕ
 -- each multiple of x5 - x3 is zero, or 5 leads it
 led_by_five : (uses : List (ℕ × Unit {0})) → Same ℕ_discrete 100 (expand value uses) [] ⊎ Led ℕ_discrete (λ t. t) 100 host (expand value uses)
 led_by_five uses = diamond_law ℕ (Unit {0}) ℕ_discrete (λ t. t) 100 value host hosts meets (λ i j e. e) uses
+
+-- ---- numbers in a list, ranked by how many are less
+
+is_below : ℕ → ℕ → Bool
+is_below x y = holds (dec_lt x y) false
+
+below_of : (x y : ℕ) → is_below x y ≡ true → x < y
+unfolding is_below
+below_of x y e = go (dec_lt x y) e
+  where
+    go : (d : Dec (x < y)) → holds d false ≡ true → x < y
+    go (yes h) e = h
+    go (no f) e = absurd (cc e)
+
+of_below : (x y : ℕ) → x < y → is_below x y ≡ true
+unfolding is_below
+of_below x y h = go (dec_lt x y)
+  where
+    go : (d : Dec (x < y)) → holds d false ≡ true
+    go (yes k) = refl
+    go (no f) = absurd (f h)
+
+compared : (x y : ℕ) → (is_below x y ≡ true) ⊎ ((is_below y x ≡ true) ⊎ (x ≡ y))
+compared x y = go (dec_lt x y) (dec_lt y x)
+  where
+    go : Dec (x < y) → Dec (y < x) → (is_below x y ≡ true) ⊎ ((is_below y x ≡ true) ⊎ (x ≡ y))
+    go (yes h) d = inl (of_below x y h)
+    go (no f) (yes h) = inr (inl (of_below y x h))
+    go (no f) (no g) = inr (inr (omega (arith, f, g)))
+
+ranks_of_numbers : (l : List ℕ) (x y : ℕ) → Mem x l → Mem y l
+    → (is_below x y ≡ true → count_less is_below l x < count_less is_below l y) × (count_less is_below l x ≡ count_less is_below l y → x ≡ y)
+ranks_of_numbers l = rank_law ℕ is_below
+    (λ x y z h k. let a = below_of x y h in let b = below_of y z k in of_below x z (omega (arith, a, b)))
+    (λ x h. let a = below_of x x h in absurd (omega (arith, a))) l (λ x y mx my. compared x y)
+
+-- ---- an image: each monomial doubled, as a sum of instances again
+
+abbrev doubled : Unit {0} → List (ℕ × ℕ)
+doubled i = (1, 10) ∷ ((100, 6) ∷ [])
+
+image_of_five : (e : List (ℕ × ℕ)) → Member ℕ_discrete value 100 e → Member ℕ_discrete doubled 100 (moved (λ t. 2 * t) e)
+image_of_five = (image_law ℕ ℕ (Unit {0}) (Unit {0}) ℕ_discrete ℕ_discrete 100 (λ t. 2 * t)).1 value doubled (λ i. i) (λ i. refl)

@@ -18,7 +18,7 @@ use Rattle.shuffle_insertions.specs.Slots.{Slot, fill_slot, PartsRise}
 use Rattle.shuffle_insertions.proofs.PathWords.{HasWord}
 use Rattle.shuffle_insertions.specs.Keys.{words_at, words_below, weight, weight_row, word_cmp, short_cmp, Key, key, path, pathshort, leafpath, weightpath}
 use Rattle.shuffle_insertions.specs.Orders.{IsTreeOrder}
-use Rattle.shuffle_insertions.proofs.Counts.{same_sums}
+use Rattle.shuffle_insertions.proofs.LabelSums.{same_sums}
 use Rattle.labelled_trees.proofs.RangeSums.{by_counts}
 use Rattle.labelled_trees.specs.RangeSums.{range_sum}
 use Rattle.labelled_trees.proofs.Leaves.{by_leaf}
@@ -27,7 +27,7 @@ use Rattle.shuffle_insertions.proofs.Paths.{word-occurs, WordLess-between, Short
 use Rattle.shuffle_insertions.proofs.Orders.{rows, less-fill, leaves-graft, less_rows, all_in}
 use Rattle.shuffle_insertions.proofs.Comparing.{turn_greater, nat_less, nat_same, less_nat, same_nat, then_less, then_equal, then_first, then_second, list_same, itself, lex_of, of_lex, word_same, short_same, word_less_of, of_word_less, short_less_of, of_short_less, word_total, short_total, path_total, pathshort_total, leafpath_total, weightpath_total}
 use Rattle.shuffle_insertions.proofs.Keys.{has_at, all_same, below_of_same, less_of, of_less, at_all}
-use Rattle.shuffle_insertions.proofs.Determine.{words_tagged, determined, tag}
+use Rattle.shuffle_insertions.proofs.DeterminedByWords.{words_tagged, determined, tag}
 use Rattle.shuffle_insertions.proofs.Frames.{slot_of}
 
 -- insertion keeps what a comparison says, where it says less or equal

@@ -9,7 +9,7 @@ use Rattle.labelled_trees.specs.Equality.{row_discrete}
 use Rattle.modular_sums.specs.Lists.{Mem, Rises}
 use Rattle.shuffle_insertions.specs.Listing.{each_with_each, lone, upto}
 use Rattle.shuffle_places.specs.Overlays.{shape, shape_row}
-use Rattle.shuffle_places.specs.Numberings.{numberings, numberings_row, IsNumbering}
+use Rattle.shuffle_places.specs.Numberings.{numberings, numberings_row}
 use Rattle.labelled_trees.proofs.Leaves.{one_if-no, one_if-yes}
 use Rattle.modular_sums.proofs.Lists.{tail_same}
 use Rattle.labelled_trees.proofs.Contexts.{node-eq, more-eq}
@@ -17,6 +17,11 @@ use Rattle.shuffle_insertions.proofs.Splits.{Split, count, split_count, mem_left
 use Rattle.shuffle_insertions.proofs.Listing.{first_of, pos_left, pos_right}
 use Rattle.shuffle_insertions.proofs.ListedRows.{zero_times, empty_list, lead_occurs, one_times, times_each, none_each, times_node, leaf_node}
 use Rattle.shuffle_insertions.proofs.Upto.{upto_rises, upto_count}
+
+-- the list has each shuffle tree of the shape once, and nothing else
+pub record IsNumbering (n : ℕ) (form : Tree (Unit {0})) (dec : Discrete (Tree ℕ)) (l : List (Tree ℕ)) : Type 0 where
+  pub only : (t : Tree ℕ) → 0 < times dec t l → IsShuffle n t × (shape t ≡ form)
+  pub each : (t : Tree ℕ) → IsShuffle n t → shape t ≡ form → times dec t l ≡ 1
 
 -- a tree over the leaf numbers of a list
 pub record Plain (l : List ℕ) (t : Tree ℕ) : Type 0 where
