@@ -2,6 +2,7 @@ pub mod Signs
 pub mod Residues
 pub mod SortedLists
 pub mod SortedParts
+pub mod SameOrder
 pub mod Agreement
 pub mod Exchanges
 pub mod LeastLeaves
