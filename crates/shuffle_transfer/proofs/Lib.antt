@@ -6,3 +6,10 @@ pub mod Labels
 pub mod FormGrafts
 pub mod FormContexts
 pub mod Forms
+pub mod Back
+pub mod Signs
+pub mod Spelling
+pub mod FramesBack
+pub mod Forth
+pub mod Turned
+pub mod Vanish
