@@ -1,8 +1,8 @@
 -- Keys that stand in one order: sorting by them, its sign, and the counts of smaller keys are the same.
-use Rattle.std.proofs.Common.{◌≡◌, ◌⊎◌, inl, inr, ⊎_elim, ℕ, zero, suc, ◌+◌, ◌<◌, ◌≤◌, List, [], ◌∷◌, ◌++◌, map, take, drop, refl, sym, ap, ap₂, ◌∙◌, arith}
+use Rattle.std.proofs.Common.{◌≡◌, ⊎_elim, ℕ, suc, ◌<◌, List, [], ◌∷◌, ◌++◌, map, take, drop, refl, sym, ap, ap₂, ◌∙◌, arith}
 use Rattle.std.specs.List.{AllByRecursion}
 use Rattle.std.proofs.lemmas.List.{take-map, drop-map}
-use Rattle.operad_ideals.specs.Parts.{Kind, symmetric, skew, free, Part, Sign, times, sign_of}
+use Rattle.operad_ideals.specs.Parts.{Kind, symmetric, skew, free, Part, times, sign_of}
 use Rattle.operad_ideals.specs.Sorting.{put_by, sort_by, order_sign, sort_part, part_sign, sort_parts, parts_sign}
 use Rattle.operad_ideals.proofs.SortedLists.{tested, put_past, put_before, every_sort_by, every_take, every_drop, below, below_less, below_more}
 

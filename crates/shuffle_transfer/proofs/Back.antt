@@ -1,5 +1,5 @@
 -- The tree of a shuffle tree has it as its shuffle form, and no turns.
-use Rattle.std.proofs.Common.{◌≡◌, ℕ, zero, suc, ◌+◌, ◌<◌, ◌≤◌, List, [], ◌∷◌, map, length, refl, sym, ◌∙◌, ap, arith, subst}
+use Rattle.std.proofs.Common.{◌≡◌, ℕ, zero, suc, ◌≤◌, List, [], ◌∷◌, map, length, refl, sym, ◌∙◌, ap, arith, subst}
 use mathlib.Core.Path.{ap₂}
 use Rattle.std.specs.List.{AllByRecursion}
 use Rattle.std.proofs.Math.ListN.{length-map}
@@ -7,7 +7,7 @@ use Rattle.labelled_trees.specs.Trees.{Tree, Row, leaf, node, none, more, row, w
 use Rattle.labelled_trees.specs.Leaves.{occurs}
 use Rattle.labelled_trees.specs.Labelled.{Fits, FitsRow}
 use Rattle.labelled_trees.specs.Insertions.{item}
-use Rattle.labelled_trees.proofs.Rows.{inputs-row, row-inputs, width-row, length-inputs}
+use Rattle.labelled_trees.proofs.Rows.{row-inputs, width-row, length-inputs}
 use Rattle.shuffle_insertions.specs.ShuffleTrees.{least, IsRising, IsRisingRow}
 use Rattle.operad_ideals.specs.Sorting.{sort_by}
 use Rattle.operad_ideals.proofs.SortedLists.{Ascends}
@@ -15,7 +15,7 @@ use Rattle.shuffle_transfer.specs.Orderings.{IsOrdering}
 use Rattle.shuffle_transfer.specs.ShuffleForms.{ranks, form, form_row, to_symmetric, to_symmetric_row}
 use Rattle.shuffle_transfer.proofs.Ranks.{map-map, map_same, ranks-arranged, sort-arranged}
 use Rattle.shuffle_transfer.proofs.FormGrafts.{turns, turns_row}
-use Rattle.shuffle_transfer.proofs.Forms.{fits_row, row_fits, row_ascends, occurs-form}
+use Rattle.shuffle_transfer.proofs.Forms.{fits_row, row_ascends, occurs-form}
 
 -- the inputs of a row, as a list
 abbrev pub inputs_list : Row ℕ → List (Tree ℕ)

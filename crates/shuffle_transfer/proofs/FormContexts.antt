@@ -1,8 +1,7 @@
 -- The shuffle form of a filled context depends on the least leaf of what fills it.
-use Rattle.std.proofs.Common.{◌≡◌, ◌⊎◌, inl, inr, ⊎_elim, ℕ, suc, ◌+◌, ◌<◌, ◌≤◌, List, [], ◌∷◌, ◌++◌, map, refl, sym, ◌∙◌, ap, arith}
+use Rattle.std.proofs.Common.{◌≡◌, ⊎_elim, ℕ, ◌+◌, List, [], ◌∷◌, ◌++◌, map, refl, ◌∙◌, ap, arith}
 use mathlib.Core.Path.{ap₂}
-use Rattle.std.proofs.lemmas.List.{map-append}
-use Rattle.labelled_trees.specs.Trees.{Tree, Row, leaf, node, none, more, row}
+use Rattle.labelled_trees.specs.Trees.{Tree, leaf, node, more, row}
 use Rattle.labelled_trees.specs.Contexts.{Ctx, RowCtx, hole, inside, here, past, fill, fill_row}
 use Rattle.shuffle_insertions.specs.ShuffleTrees.{least}
 use Rattle.shuffle_insertions.proofs.Rising.{least-fill}

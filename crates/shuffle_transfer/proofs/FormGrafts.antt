@@ -1,11 +1,11 @@
 -- The shuffle form of a graft whose parts rise is the graft of the shuffle forms.
-use Rattle.std.proofs.Common.{◌≡◌, ℕ, zero, suc, ◌+◌, ◌<◌, ◌≤◌, List, [], ◌∷◌, map, length, refl, sym, ◌∙◌, ap, arith}
+use Rattle.std.proofs.Common.{◌≡◌, ℕ, suc, ◌+◌, ◌<◌, List, [], ◌∷◌, map, length, refl, sym, ◌∙◌, ap, arith}
 use mathlib.Core.Path.{ap₂}
 use Rattle.std.specs.List.{AllByRecursion}
 use Rattle.labelled_trees.specs.Trees.{Tree, Row, leaf, node, none, more, row, graft, graft_row, width}
 use Rattle.labelled_trees.specs.Leaves.{sum_leaves, sum_row, AllLeaves, AllRow}
 use Rattle.labelled_trees.specs.Labelled.{Fits, FitsRow}
-use Rattle.shuffle_insertions.specs.ShuffleTrees.{least, least_row}
+use Rattle.shuffle_insertions.specs.ShuffleTrees.{least}
 use Rattle.operad_ideals.specs.Sorting.{sort_by}
 use Rattle.operad_ideals.proofs.SortedLists.{every_sort_by, length-sort_by, map-sort_by}
 use Rattle.operad_ideals.proofs.SameOrder.{sort_by-order}

@@ -1,11 +1,11 @@
 -- The shuffle form keeps the leaves and rises.
-use Rattle.std.proofs.Common.{◌≡◌, ◌≢◌, ⊎_elim, ℕ, zero, suc, ◌+◌, ◌<◌, ◌≤◌, List, [], ◌∷◌, map, length, refl, sym, ◌∙◌, ap, arith, subst}
+use Rattle.std.proofs.Common.{◌≡◌, ◌≢◌, ⊎_elim, ℕ, ◌+◌, ◌<◌, ◌≤◌, List, [], ◌∷◌, map, length, refl, sym, ◌∙◌, ap, arith, subst}
 use mathlib.Core.Path.{ap₂}
-use native.Mathlib.Decide.{dec_lt, ℕ_discrete}
+use native.Mathlib.Decide.{ℕ_discrete}
 use Rattle.std.specs.List.{AllByRecursion}
 use Rattle.labelled_trees.specs.Trees.{Tree, Row, leaf, node, none, more, row, width}
 use Rattle.labelled_trees.specs.Leaves.{one_if, sum_leaves, sum_row, occurs, occurs_row}
-use Rattle.labelled_trees.specs.Labelled.{Fits, FitsRow, IsLabelled}
+use Rattle.labelled_trees.specs.Labelled.{Fits, FitsRow}
 use Rattle.labelled_trees.proofs.Rows.{width-row}
 use Rattle.shuffle_insertions.specs.ShuffleTrees.{least, IsBefore, HasInput, IsRising, IsRisingRow}
 use Rattle.shuffle_insertions.proofs.Rising.{least-occurs}

@@ -1,18 +1,17 @@
 -- There and back between labelled trees and shuffle trees over the labels.
-use Rattle.std.proofs.Common.{◌≡◌, ℕ, ◌<◌, ◌≤◌, sym, ◌∙◌, ap, subst}
+use Rattle.std.proofs.Common.{◌≡◌, ℕ, ◌<◌, sym, ◌∙◌, ap, subst}
 use Rattle.labelled_trees.specs.Trees.{Tree}
 use Rattle.labelled_trees.specs.Leaves.{occurs}
-use Rattle.labelled_trees.specs.Labelled.{Fits, IsLabelled}
+use Rattle.labelled_trees.specs.Labelled.{IsLabelled}
 use Rattle.shuffle_insertions.specs.ShuffleTrees.{IsShuffleTree}
-use Rattle.operad_ideals.specs.Parts.{plus, sign_of}
-use Rattle.operad_ideals.specs.Sorting.{spelled_sign}
+use Rattle.operad_ideals.specs.Parts.{sign_of}
 use Rattle.operad_ideals.specs.Presentations.{Presentation, parts, arity_of}
 use Rattle.operad_ideals.proofs.Spellings.{labelled_once}
 use Rattle.shuffle_transfer.specs.Labels.{label, gen, inputs_of, shuffle_form, symmetric_tree}
 use Rattle.shuffle_transfer.specs.Laws.{Forth, Back, Spelling}
 use Rattle.shuffle_transfer.proofs.Labels.{label_gen}
 use Rattle.shuffle_transfer.proofs.Forms.{form_rises, fits-form, occurs-form}
-use Rattle.shuffle_transfer.proofs.Signs.{twist, sign-turns}
+use Rattle.shuffle_transfer.proofs.Signs.{sign-turns}
 use Rattle.shuffle_transfer.proofs.Spelling.{back_of, occurs_of, spelled_is}
 
 pub forth : Forth

@@ -1,9 +1,9 @@
 -- The way back keeps grafts, sums over leaves, and insertions.
-use Rattle.std.proofs.Common.{◌≡◌, ℕ, zero, suc, ◌+◌, ◌<◌, ◌≤◌, List, [], ◌∷◌, map, length, inl, inr, refl, sym, ◌∙◌, ap, arith, subst}
+use Rattle.std.proofs.Common.{◌≡◌, ℕ, zero, suc, ◌+◌, ◌<◌, ◌≤◌, List, [], ◌∷◌, map, length, refl, sym, ◌∙◌, ap, arith, subst}
 use mathlib.Core.Path.{ap₂}
 use native.Mathlib.Decide.{ℕ_discrete}
-use Rattle.labelled_trees.specs.Trees.{Tree, Row, leaf, node, none, more, row, graft, graft_row, width, inputs}
-use Rattle.labelled_trees.specs.Leaves.{one_if, sum_leaves, sum_row, occurs}
+use Rattle.labelled_trees.specs.Trees.{Tree, Row, leaf, node, none, more, row, graft, graft_row, width}
+use Rattle.labelled_trees.specs.Leaves.{one_if, sum_leaves, sum_row}
 use Rattle.labelled_trees.specs.Labelled.{Fits, FitsRow}
 use Rattle.labelled_trees.specs.Insertions.{at_zero, put, item}
 use Rattle.labelled_trees.proofs.Leaves.{AllLeaves-each}

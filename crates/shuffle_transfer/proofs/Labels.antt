@@ -1,5 +1,5 @@
 -- Labels stand one to one for the generators with their words.
-use Rattle.std.proofs.Common.{◌≡◌, ◌≢◌, ◌⊎◌, inl, inr, ⊎_elim, ℕ, zero, suc, ◌+◌, ◌<◌, ◌≤◌, true, List, [], ◌∷◌, ◌++◌, map, length, refl, sym, ap, ◌∙◌, subst, arith}
+use Rattle.std.proofs.Common.{◌≡◌, ◌⊎◌, inl, inr, ⊎_elim, ℕ, zero, suc, ◌+◌, ◌<◌, ◌≤◌, List, [], ◌∷◌, map, length, refl, sym, ap, ◌∙◌, subst, arith}
 use Rattle.modular_sums.specs.Lists.{Mem, Distinct}
 use Rattle.modular_sums.proofs.Lists.{mem_left, mem_right, mem_either, mem_map, mem_of_map}
 use Rattle.operad_ideals.specs.Parts.{Part, total, parts_of}
@@ -8,7 +8,7 @@ use Rattle.operad_ideals.specs.Presentations.{Presentation, parts, arity_of, IsW
 use Rattle.operad_ideals.proofs.SortedLists.{tested}
 use Rattle.shuffle_insertions.specs.Labels.{AreLabels}
 use Rattle.shuffle_transfer.specs.Orderings.{IsOrdering}
-use Rattle.shuffle_transfer.specs.Labels.{parts_rise, words_of, Letter, letter_discrete, letters, zero_if, place_of, letter_at, labels, label, letter, gen, word, inputs_of}
+use Rattle.shuffle_transfer.specs.Labels.{words_of, Letter, letter_discrete, letters, zero_if, place_of, letter_at, labels, label, letter, gen, word, inputs_of}
 use Rattle.shuffle_transfer.specs.Laws.{IsWordOf, LabelsAreWords}
 use Rattle.shuffle_transfer.proofs.Orderings.{ascending_distinct}
 use Rattle.shuffle_transfer.proofs.Ranks.{ordering_apart}

@@ -13,3 +13,9 @@ pub mod FramesBack
 pub mod Forth
 pub mod Turned
 pub mod Vanish
+pub mod Contexts
+pub mod SlotInsertions
+pub mod Relations
+pub mod Forward
+pub mod Return
+pub mod TransferLaw

@@ -1,22 +1,22 @@
 -- A list is its sorted list, arranged by the ranks of its keys.
-use Rattle.std.proofs.Common.{◌≡◌, ◌≢◌, ◌⊎◌, inl, inr, ⊎_elim, ℕ, zero, suc, ◌+◌, ◌<◌, ◌≤◌, List, [], ◌∷◌, map, length, refl, sym, ap, ap₂, ◌∙◌, subst, arith}
+use Rattle.std.proofs.Common.{◌≡◌, ◌≢◌, inl, inr, ⊎_elim, ℕ, zero, suc, ◌+◌, ◌<◌, ◌≤◌, List, [], ◌∷◌, map, length, refl, sym, ap, ap₂, ◌∙◌, subst, arith}
 use mathlib.Core.List.{◌++◌}
 use Rattle.std.specs.List.{AllByRecursion}
 use Rattle.std.proofs.Math.ListN.{length-map}
 use Rattle.std.proofs.lemmas.List.{map-append}
 use Rattle.modular_sums.specs.Lists.{Mem, Distinct, Rises}
-use Rattle.modular_sums.proofs.Lists.{mem_map, mem_of_map, same_rising}
-use Rattle.labelled_trees.specs.Trees.{Tree, leaf}
+use Rattle.modular_sums.proofs.Lists.{mem_of_map, same_rising}
+use Rattle.labelled_trees.specs.Trees.{Tree}
 use Rattle.labelled_trees.specs.Insertions.{item}
 use Rattle.shuffle_insertions.specs.Listing.{upto}
 use Rattle.shuffle_insertions.proofs.Upto.{upto_mem, upto_rises, in_upto}
 use Rattle.operad_ideals.specs.Sorting.{put_by, sort_by}
-use Rattle.operad_ideals.proofs.SortedLists.{Apart, Ascends, every_weaker, tested, put_past, put_before, every_in, in_itself, every_unsort, every_sort_by, sort_by-ascends, sort_by-same, map-sort_by, below, below_less, below_more, below_none}
+use Rattle.operad_ideals.proofs.SortedLists.{Apart, Ascends, every_weaker, tested, put_past, put_before, every_in, in_itself, every_unsort, every_sort_by, sort_by-ascends, map-sort_by, below, below_less, below_more, below_none}
 use Rattle.operad_ideals.proofs.SameOrder.{sort_by-order, below-order}
 use Rattle.shuffle_transfer.specs.Orderings.{IsOrdering}
 use Rattle.shuffle_transfer.specs.ShuffleForms.{ranks}
 use Rattle.shuffle_transfer.proofs.Permutes.{permutes_each}
-use Rattle.shuffle_transfer.proofs.Orderings.{length-upto, ordering_permutes}
+use Rattle.shuffle_transfer.proofs.Orderings.{ordering_permutes}
 
 -- ---- members
 

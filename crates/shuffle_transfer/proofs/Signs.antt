@@ -1,16 +1,14 @@
 -- The turns of a tree count for the sign of its sorted spelling.
-use Rattle.std.proofs.Common.{◌≡◌, ◌⊎◌, inl, inr, ⊎_elim, ℕ, zero, suc, ◌+◌, ◌*◌, ◌^◌, ◌%◌, ◌<◌, ◌≤◌, List, [], ◌∷◌, map, length, min, refl, sym, ◌∙◌, ap, arith, subst}
+use Rattle.std.proofs.Common.{◌≡◌, ⊎_elim, ℕ, zero, suc, ◌^◌, ◌<◌, ◌≤◌, List, [], ◌∷◌, map, min, refl, sym, ◌∙◌, ap, arith, subst}
 use mathlib.Core.Path.{ap₂}
-use native.Mathlib.Decide.{dec_lt, ℕ_discrete}
-use Rattle.std.proofs.lemmas.Nat.{pow-add}
+use native.Mathlib.Decide.{dec_lt}
 use Rattle.std.proofs.Math.Nat.{pow-zero, pow-succ'}
-use Rattle.std.specs.List.{AllByRecursion}
 use Rattle.modular_sums.specs.Residues.{Alike}
 use Rattle.modular_sums.proofs.Residues.{alike_mul}
 use Rattle.labelled_trees.specs.Trees.{Tree, Row, leaf, node, none, more, inputs}
 use Rattle.labelled_trees.specs.Leaves.{occurs, occurs_row, AllLeaves, AllRow}
 use Rattle.labelled_trees.specs.Labelled.{Fits, FitsRow}
-use Rattle.labelled_trees.proofs.Leaves.{by_leaf, at_leaf, AllLeaves-imp, AllRow-imp}
+use Rattle.labelled_trees.proofs.Leaves.{at_leaf, AllLeaves-imp, AllRow-imp}
 use Rattle.shuffle_insertions.specs.ShuffleTrees.{least, IsRising}
 use Rattle.shuffle_insertions.proofs.Rising.{least-occurs, least-le}
 use Rattle.operad_ideals.specs.Parts.{Part, Sign, plus, minus, times, sign_of}
@@ -23,10 +21,10 @@ use Rattle.operad_ideals.proofs.Residues.{residue-times}
 use Rattle.operad_ideals.proofs.LeastLeaves.{occurs-least_leaf}
 use Rattle.operad_ideals.proofs.SameOrder.{parts_sign-order}
 use Rattle.operad_ideals.proofs.Spellings.{least_leaves-spelled_row}
-use Rattle.operad_ideals.proofs.SortedLists.{tested, below, every_in, in_itself}
+use Rattle.operad_ideals.proofs.SortedLists.{tested, below, in_itself}
 use Rattle.modular_sums.specs.Lists.{Mem}
 use Rattle.shuffle_transfer.specs.ShuffleForms.{ranks, form, form_row}
-use Rattle.shuffle_transfer.proofs.Ranks.{below_less_mem, every_mem}
+use Rattle.shuffle_transfer.proofs.Ranks.{below_less_mem}
 use Rattle.shuffle_transfer.proofs.FormGrafts.{turns, turns_row}
 use Rattle.shuffle_transfer.proofs.Forms.{form_rises, occurs-form}
 

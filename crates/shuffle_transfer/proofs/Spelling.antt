@@ -1,5 +1,5 @@
 -- The tree of the shuffle form is the sorted spelling.
-use Rattle.std.proofs.Common.{◌≡◌, ℕ, zero, suc, ◌<◌, ◌≤◌, List, [], ◌∷◌, map, length, refl, sym, ◌∙◌, ap, arith, subst}
+use Rattle.std.proofs.Common.{◌≡◌, ℕ, ◌≤◌, List, [], ◌∷◌, map, length, refl, sym, ◌∙◌, ap, arith, subst}
 use mathlib.Core.Path.{ap₂}
 use Rattle.std.specs.List.{AllByRecursion}
 use Rattle.labelled_trees.specs.Trees.{Tree, Row, leaf, node, none, more, row}
@@ -15,13 +15,13 @@ use Rattle.operad_ideals.proofs.SortedLists.{Apart, Ascends, every_sort_by, leng
 use Rattle.operad_ideals.proofs.SortedParts.{map-sort_parts}
 use Rattle.operad_ideals.proofs.SameOrder.{sort_parts-order}
 use Rattle.shuffle_transfer.specs.Orderings.{IsOrdering}
-use Rattle.shuffle_transfer.specs.ShuffleForms.{ranks, form, form_row, to_symmetric_row}
+use Rattle.shuffle_transfer.specs.ShuffleForms.{ranks, form_row}
 use Rattle.shuffle_transfer.specs.Labels.{label, gen, word, inputs_of, shuffle_form, symmetric_tree}
 use Rattle.shuffle_transfer.proofs.Ranks.{map-map, map_same, arranged_back, items_up, items_down, in_range, InRange}
 use Rattle.shuffle_transfer.proofs.Words.{parts_plus}
 use Rattle.shuffle_transfer.proofs.Labels.{sorted_word, label_gen, label_word, word_of_label, label_is}
 use Rattle.shuffle_transfer.proofs.FormGrafts.{length-form_row}
-use Rattle.shuffle_transfer.proofs.Forms.{every_both, forms_rise, forms_apart, forms_ordering, fits-form_row}
+use Rattle.shuffle_transfer.proofs.Forms.{forms_rise, forms_apart, forms_ordering, fits-form_row}
 use Rattle.shuffle_transfer.proofs.Back.{AreLabelled, Back, back, occurs_back, item-map, every_item, to_symmetric_row-map}
 use Rattle.shuffle_transfer.proofs.Signs.{turn_of, twist, least_leaf-is}
 

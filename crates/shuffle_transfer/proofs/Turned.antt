@@ -1,9 +1,9 @@
 -- Shuffle forms with counts of turns in place of signs: a form that serves the proofs.
-use Rattle.std.proofs.Common.{◌≡◌, ℕ, suc, ◌+◌, ◌*◌, ◌^◌, List, [], ◌∷◌, refl, sym, ◌∙◌, ap, arith, subst}
+use Rattle.std.proofs.Common.{◌≡◌, ℕ, ◌+◌, ◌*◌, ◌^◌, List, [], ◌∷◌, refl, sym, ap, arith, subst}
 use mathlib.Core.Path.{ap₂}
 use mathlib.Core.List.{◌++◌}
 use Rattle.modular_sums.specs.Residues.{Alike}
-use Rattle.modular_sums.specs.Sums.{hit, coef, scale, Same, expand, Member, moved, AllTerms}
+use Rattle.modular_sums.specs.Sums.{hit, coef, scale, Same, expand, Member, AllTerms}
 use Rattle.modular_sums.proofs.Residues.{alike_add, alike_mul}
 use Rattle.modular_sums.proofs.Sums.{hit-mul, Member-append, Member-scale}
 use Rattle.modular_sums.proofs.Replacements.{sum_over}
@@ -11,7 +11,6 @@ use Rattle.modular_sums.proofs.Images.{same_sum}
 use Rattle.labelled_trees.specs.Trees.{Tree}
 use Rattle.labelled_trees.specs.Equality.{tree_discrete}
 use Rattle.labelled_trees.specs.Labelled.{IsLabelled}
-use Rattle.operad_ideals.specs.Parts.{Sign, sign_of}
 use Rattle.operad_ideals.specs.Sorting.{spelled_sign}
 use Rattle.operad_ideals.specs.Presentations.{Presentation, residue_of, parts, arity_of}
 use Rattle.operad_ideals.proofs.Links.{member_zero}

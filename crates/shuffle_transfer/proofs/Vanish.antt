@@ -6,16 +6,16 @@ use Rattle.std.proofs.lemmas.Nat.{pow-add}
 use Rattle.modular_sums.specs.Residues.{Alike}
 use Rattle.modular_sums.specs.Sums.{Same}
 use Rattle.modular_sums.proofs.Residues.{alike_add, alike_mul, alike_drop}
-use Rattle.labelled_trees.specs.Trees.{Tree, Row, leaf, node, none, more, row, graft_row}
+use Rattle.labelled_trees.specs.Trees.{Tree, Row, node, none, more, row, graft_row}
 use Rattle.labelled_trees.specs.Contexts.{Ctx, fill}
 use Rattle.labelled_trees.specs.Leaves.{one_if, occurs}
 use Rattle.labelled_trees.specs.Equality.{tree_discrete}
 use Rattle.labelled_trees.specs.Labelled.{Fits, IsLabelled}
 use Rattle.labelled_trees.proofs.ContextLeaves.{sum_of_fill}
 use Rattle.labelled_trees.proofs.Fitting.{fits_of_fill}
-use Rattle.shuffle_insertions.specs.ShuffleTrees.{least, least_row}
+use Rattle.shuffle_insertions.specs.ShuffleTrees.{least}
 use Rattle.operad_ideals.specs.Parts.{Part, Sign, plus, minus, times, total, InOnePart}
-use Rattle.operad_ideals.specs.Sorting.{sort_by, sort_parts, parts_sign}
+use Rattle.operad_ideals.specs.Sorting.{sort_by, parts_sign}
 use Rattle.operad_ideals.specs.Presentations.{Presentation, residue_of, parts, arity_of}
 use Rattle.operad_ideals.specs.Rules.{numbered, exchanged_at}
 use Rattle.operad_ideals.proofs.Residues.{residue-times}
@@ -27,7 +27,7 @@ use Rattle.operad_ideals.proofs.SortedParts.{sort_parts-exchange, parts_sign-exc
 use Rattle.operad_ideals.proofs.Spellings.{labelled_once}
 use Rattle.shuffle_transfer.specs.Orderings.{IsOrdering}
 use Rattle.shuffle_transfer.specs.ShuffleForms.{ranks, form, form_row}
-use Rattle.shuffle_transfer.specs.Labels.{Letter, letters, place_of, label, shuffle_form}
+use Rattle.shuffle_transfer.specs.Labels.{letters, place_of, label, shuffle_form}
 use Rattle.shuffle_transfer.proofs.Ranks.{map_same, ordering_apart}
 use Rattle.shuffle_transfer.proofs.FormGrafts.{turns, turns_row}
 use Rattle.shuffle_transfer.proofs.FormContexts.{FormCtx, form_ctx}

@@ -1,11 +1,9 @@
 -- Words that rise within the parts of a generator.
-use Rattle.std.proofs.Common.{◌≡◌, ◌≢◌, ◌⊎◌, inl, inr, ⊎_elim, ℕ, zero, suc, ◌+◌, ◌<◌, ◌≤◌, Bool, true, false, cond, nat_lt, List, [], ◌∷◌, ◌++◌, length, take, drop, refl, sym, ap, ap₂, ◌∙◌, subst, arith, lt-ltb, le-ltb, length-take, length-drop, take-append-drop}
-use Rattle.std.specs.List.{AllByRecursion}
-use Rattle.std.specs.declared.cmp.Ordering.TheVariants.{Less}
+use Rattle.std.proofs.Common.{◌≡◌, inl, inr, ⊎_elim, ℕ, zero, suc, ◌<◌, ◌≤◌, Bool, true, false, cond, List, [], ◌∷◌, ◌++◌, length, take, drop, refl, sym, ap, ap₂, ◌∙◌, subst, arith, lt-ltb, le-ltb, length-take, length-drop, take-append-drop}
 use Rattle.modular_sums.specs.Lists.{Mem, Distinct}
 use Rattle.modular_sums.proofs.Lists.{mem_either, mem_left, mem_right}
-use Rattle.operad_ideals.specs.Parts.{Kind, symmetric, skew, free, Part, Sign, plus, times, total}
-use Rattle.operad_ideals.specs.Sorting.{sort_by, order_sign, sort_part, part_sign, sort_parts, parts_sign}
+use Rattle.operad_ideals.specs.Parts.{Kind, symmetric, skew, free, Part, plus, times, total}
+use Rattle.operad_ideals.specs.Sorting.{sort_by, sort_part, part_sign, sort_parts, parts_sign}
 use Rattle.operad_ideals.proofs.SortedLists.{Apart, Ascends, every_weaker, tested, every_in, in_itself, sort_by-ascends, sort_by-same, order_sign-ascending, apart-take, apart-drop}
 use Rattle.operad_ideals.proofs.SortedParts.{every_sort_parts, length-sort_part, length-sort_parts}
 use Rattle.shuffle_transfer.specs.Orderings.{IsOrdering, orderings, Ascending}

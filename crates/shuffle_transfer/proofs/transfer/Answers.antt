@@ -1,6 +1,5 @@
-use Rattle.shuffle_transfer.proofs.Vanish.{symmetry_gone}
-use Rattle.shuffle_transfer.proofs.Forth.{forth, back_law, spelling}
+use Rattle.shuffle_transfer.proofs.TransferLaw.{transfer_law}
 use Rattle.shuffle_transfer.proofs.transfer.Goals as goal
 
 pub returns : goal.returns
-returns c = ?
+returns c = record { law = transfer_law }
