@@ -41,24 +41,24 @@ mutual
   compose_row-hole (past t c) = ap (past t) (compose_row-hole c)
 
 mutual
-  graft_ctx_assoc : {A B C : Type 0} (c : Ctx A) (s : A → Tree B) (u : B → Tree C) → graft_ctx (graft_ctx c s) u ≡ graft_ctx c (λ a. graft (s a) u)
+  pub graft_ctx_assoc : {A B C : Type 0} (c : Ctx A) (s : A → Tree B) (u : B → Tree C) → graft_ctx (graft_ctx c s) u ≡ graft_ctx c (λ a. graft (s a) u)
   graft_ctx_assoc hole s u = refl
   graft_ctx_assoc (inside l c) s u = ap (inside l) (graft_row_ctx_assoc c s u)
 
-  graft_row_ctx_assoc : {A B C : Type 0} (c : RowCtx A) (s : A → Tree B) (u : B → Tree C) → graft_row_ctx (graft_row_ctx c s) u ≡ graft_row_ctx c (λ a. graft (s a) u)
+  pub graft_row_ctx_assoc : {A B C : Type 0} (c : RowCtx A) (s : A → Tree B) (u : B → Tree C) → graft_row_ctx (graft_row_ctx c s) u ≡ graft_row_ctx c (λ a. graft (s a) u)
   graft_row_ctx_assoc (here c r) s u = ap₂ here (graft_ctx_assoc c s u) (graft_row_assoc r s u)
   graft_row_ctx_assoc (past t c) s u = ap₂ past (graft_assoc t s u) (graft_row_ctx_assoc c s u)
 
-inside-eq : {A : Type 0} (l : ℕ) (c d : RowCtx A) → inside l c ≡ inside l d → c ≡ d
+pub inside-eq : {A : Type 0} (l : ℕ) (c d : RowCtx A) → inside l c ≡ inside l d → c ≡ d
 inside-eq l c d e = cc
 
 mutual
   -- one context with two changes, filled to one tree
-  same_ctx : {A B : Type 0} (c : Ctx A) (s u : A → Tree B) (x y : Tree B) → fill (graft_ctx c s) x ≡ fill (graft_ctx c u) y → graft_ctx c s ≡ graft_ctx c u
+  pub same_ctx : {A B : Type 0} (c : Ctx A) (s u : A → Tree B) (x y : Tree B) → fill (graft_ctx c s) x ≡ fill (graft_ctx c u) y → graft_ctx c s ≡ graft_ctx c u
   same_ctx hole s u x y e = refl
   same_ctx (inside l c) s u x y e = ap (inside l) (same_row_ctx c s u x y (node-eq l l (fill_row (graft_row_ctx c s) x) (fill_row (graft_row_ctx c u) y) e).1)
 
-  same_row_ctx : {A B : Type 0} (c : RowCtx A) (s u : A → Tree B) (x y : Tree B) → fill_row (graft_row_ctx c s) x ≡ fill_row (graft_row_ctx c u) y → graft_row_ctx c s ≡ graft_row_ctx c u
+  pub same_row_ctx : {A B : Type 0} (c : RowCtx A) (s u : A → Tree B) (x y : Tree B) → fill_row (graft_row_ctx c s) x ≡ fill_row (graft_row_ctx c u) y → graft_row_ctx c s ≡ graft_row_ctx c u
   same_row_ctx (here c r) s u x y e =
       let h = more-eq (fill (graft_ctx c s) x) (fill (graft_ctx c u) y) (graft_row r s) (graft_row r u) e in
       ap₂ here (same_ctx c s u x y h.0) h.1

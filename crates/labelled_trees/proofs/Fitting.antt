@@ -4,6 +4,7 @@ use Rattle.labelled_trees.specs.Trees.{Tree, Row, leaf, node, none, more, graft,
 use Rattle.labelled_trees.specs.Contexts.{Ctx, RowCtx, hole, inside, here, past, fill, fill_row}
 use Rattle.labelled_trees.specs.Leaves.{AllLeaves, AllRow}
 use Rattle.labelled_trees.specs.Labelled.{Fits, FitsRow}
+use Rattle.labelled_trees.specs.Unions.{union_row, union}
 
 pub width-graft : {A B : Type 0} (r : Row A) (s : A → Tree B) → width (graft_row r s) ≡ width r
 width-graft none s = refl
@@ -12,6 +13,11 @@ width-graft (more t r) s = ap suc (width-graft r s)
 pub width-fill : {A : Type 0} (c : RowCtx A) (x y : Tree A) → width (fill_row c x) ≡ width (fill_row c y)
 width-fill (here c r) x y = refl
 width-fill (past t c) x y = ap suc (width-fill c x y)
+
+pub width-union : {X : Type 0} (r s : Row X) → width (union_row r s) ≡ width r
+width-union none s = refl
+width-union (more t r) none = refl
+width-union (more t r) (more u s) = ap suc (width-union r s)
 
 module _ (arity : ℕ → ℕ) where
   mutual
@@ -58,3 +64,14 @@ module _ (arity : ℕ → ℕ) where
     pub fits_row-fill : {A : Type 0} (c : RowCtx A) (x y : Tree A) → FitsRow arity (fill_row c x) → Fits arity y → FitsRow arity (fill_row c y)
     fits_row-fill (here c r) x y h b = (fits-fill c x y h.0 b, h.1)
     fits_row-fill (past t c) x y h b = (h.0, fits_row-fill c x y h.1 b)
+
+  mutual
+    pub fits-union : {X : Type 0} (t q : Tree X) → Fits arity t → Fits arity q → Fits arity (union t q)
+    fits-union (leaf a) q h k = k
+    fits-union (node l r) (leaf u) h k = h
+    fits-union (node l r) (node m s) h k = (h.0, width-union r s ∙ h.1, fits_row-union r s h.2 k.2)
+
+    pub fits_row-union : {X : Type 0} (r s : Row X) → FitsRow arity r → FitsRow arity s → FitsRow arity (union_row r s)
+    fits_row-union none s h k = tt
+    fits_row-union (more t r) none h k = h
+    fits_row-union (more t r) (more u s) h k = (fits-union t u h.0 k.0, fits_row-union r s h.1 k.1)

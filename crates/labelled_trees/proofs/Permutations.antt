@@ -39,8 +39,8 @@ permuted (x ∷ k) l h =
     let a : Around x l = around x l (let e = h x in let o = one_if-yes (ℕ_discrete x x) refl in omega (arith, e, o)) in
     let rest : (i : ℕ) → times ℕ_discrete i k ≡ times ℕ_discrete i (a.front ++ a.back)
     = λ i.
-        let e : times ℕ_discrete i l ≡ times ℕ_discrete i a.front + (one_if (ℕ_discrete x i) + times ℕ_discrete i a.back) = ap (times ℕ_discrete i) a.is ∙ times-append ℕ_discrete i a.front (x ∷ a.back) in
-        let g = h i in omega (arith, e, g, times-append ℕ_discrete i a.front a.back) in
+    let e : times ℕ_discrete i l ≡ times ℕ_discrete i a.front + (one_if (ℕ_discrete x i) + times ℕ_discrete i a.back) = ap (times ℕ_discrete i) a.is ∙ times-append ℕ_discrete i a.front (x ∷ a.back) in
+    let g = h i in omega (arith, e, g, times-append ℕ_discrete i a.front a.back) in
     subst (IsPermutation (x ∷ k)) (sym a.is)
     (IsPermutation-trans (x ∷ k) (x ∷ (a.front ++ a.back)) (a.front ++ (x ∷ a.back))
     (IsPermutation-cons x k (a.front ++ a.back) (permuted k (a.front ++ a.back) rest))

@@ -5,8 +5,8 @@ use native.Mathlib.Decide.{dec_lt, ℕ_discrete}
 use Rattle.modular_sums.specs.Residues.{Alike}
 use Rattle.modular_sums.specs.Sums.{coef, scale, Same, expand}
 use Rattle.modular_sums.proofs.Residues.{alike_add, alike_mul, alike_drop}
-use Rattle.modular_sums.proofs.Sums.{coef-append, coef-scale, coef-expand, coef-expand_append, coef-expand_scale}
-use Rattle.modular_sums.specs.Diamond.{Meet, AreMonic, HostsBelow, Led}
+use Rattle.modular_sums.proofs.Sums.{AllTerms-scale, AllTerms-append, coef-append, coef-scale, coef-expand, coef-expand_append, coef-expand_scale}
+use Rattle.modular_sums.specs.Diamond.{Meet, HaveHosts, HostsBelow, Led}
 
 module _ (M : Type 0) (dec : Discrete M) (rank : M → ℕ) (q : ℕ) where
   module _ (I : Type 0) (value : I → List (ℕ × M)) (host : I → M) where
@@ -21,20 +21,11 @@ module _ (M : Type 0) (dec : Discrete M) (rank : M → ℕ) (q : ℕ) where
       above = λ t ne le. s t ∙ l.above t ne le;
     }
 
-    HostsBelow-append : (n : ℕ) (k l : List (ℕ × I)) → HostsBelow rank host n k → HostsBelow rank host n l → HostsBelow rank host n (k ++ l)
-    HostsBelow-append n [] l h g = g
-    HostsBelow-append n (x ∷ k) l h g = (h.0, HostsBelow-append n k l h.1 g)
-
-    HostsBelow-scale : (n c : ℕ) (l : List (ℕ × I)) → HostsBelow rank host n l → HostsBelow rank host n (scale c l)
-    unfolding scale
-    HostsBelow-scale n c [] h = tt
-    HostsBelow-scale n c (x ∷ l) h = (h.0, HostsBelow-scale n c l h.1)
-
     HostsBelow-up : (n m : ℕ) (l : List (ℕ × I)) → n ≤ m → HostsBelow rank host n l → HostsBelow rank host m l
     HostsBelow-up n m [] le h = tt
     HostsBelow-up n m (x ∷ l) le h = (omega arith, HostsBelow-up n m l le h.1)
 
-    module _ (monic : AreMonic dec rank q value host)
+    module _ (monic : HaveHosts dec rank q value host)
         (meet : (i j : I) → host i ≡ host j → Meet dec rank q value host i j)
         (one_host : (i j : I) → rank (host i) ≡ rank (host j) → host i ≡ host j) where
       low_coef : (n : ℕ) (l : List (ℕ × I)) (t : M) → HostsBelow rank host n l → n ≤ rank t → Alike q (coef dec (expand value l) t) 0
@@ -97,7 +88,7 @@ module _ (M : Type 0) (dec : Discrete M) (rank : M → ℕ) (q : ℕ) where
             top = r.top;
             is_at = r.is_at;
             uses = scale x.0 m.uses ++ r.uses;
-            lower = HostsBelow-append n _ r.uses (HostsBelow-scale n x.0 m.uses (subst (λ k. HostsBelow rank host k m.uses) at m.lower)) r.lower;
+            lower = AllTerms-append _ r.uses (λ i. rank (host i) < n) (AllTerms-scale x.0 m.uses (λ i. rank (host i) < n) (subst (λ k. HostsBelow rank host k m.uses) at m.lower)) r.lower;
             same = λ t. top_sum x.0 r.by (coef dec (value x.1) t) (coef dec (value r.top) t) (coef dec (expand value m.uses) t)
                 (coef dec (expand value r.uses) t) (coef dec (expand value l) t) _ _
                 (coef-expand dec value x l t)

@@ -5,4 +5,5 @@ pub mod Lists
 pub mod Ranks
 pub mod Replacements
 pub mod Residues
+pub mod Sameness
 pub mod Sums

@@ -3,7 +3,7 @@ use Rattle.std.proofs.Common.{◌≡◌, ℕ, ◌<◌, List, [], ◌∷◌, true
 use mathlib.Core.List.{◌++◌}
 use mathlib.Core.Path.{ap₂}
 use native.Mathlib.Decide.{ℕ_discrete}
-use Rattle.modular_sums.specs.Lists.{Mem, Rises, holds, has}
+use Rattle.modular_sums.specs.Lists.{Mem, Rises, holds, has_by, has}
 
 pub tail_same : {A : Type 0} (x y : A) (k l : List A) → x ∷ k ≡ y ∷ l → (x ≡ y) × (k ≡ l)
 tail_same x y k l e = (cc, cc)
@@ -36,22 +36,28 @@ mem_of_map f y [] h = absurd h
 mem_of_map f y (x ∷ l) (inl e) = (x, inl refl, e)
 mem_of_map f y (x ∷ l) (inr h) = let k = mem_of_map f y l h in (k.0, inr k.1, k.2)
 
-pub has_mem : (l : List ℕ) (v : ℕ) → has l v ≡ true → Mem v l
-has_mem [] v e = absurd (cc e)
-has_mem (x ∷ l) v e = go (ℕ_discrete v x) (λ h. has_mem l v h) e
+pub has_by_mem : {X : Type 0} (dec : Discrete X) (l : List X) (v : X) → has_by dec l v ≡ true → Mem v l
+has_by_mem dec [] v e = absurd (cc e)
+has_by_mem dec (x ∷ l) v e = go (dec v x) (λ h. has_by_mem dec l v h) e
   where
-    go : (d : Dec (v ≡ x)) → (has l v ≡ true → Mem v l) → holds d (has l v) ≡ true → (v ≡ x) ⊎ Mem v l
+    go : (d : Dec (v ≡ x)) → (has_by dec l v ≡ true → Mem v l) → holds d (has_by dec l v) ≡ true → (v ≡ x) ⊎ Mem v l
     go (yes h) ih e = inl h
     go (no _) ih e = inr (ih e)
 
-pub mem_has : (l : List ℕ) (v : ℕ) → Mem v l → has l v ≡ true
-mem_has [] v h = absurd h
-mem_has (x ∷ l) v h = go (ℕ_discrete v x) (λ m. mem_has l v m) h
+pub mem_has_by : {X : Type 0} (dec : Discrete X) (l : List X) (v : X) → Mem v l → has_by dec l v ≡ true
+mem_has_by dec [] v h = absurd h
+mem_has_by dec (x ∷ l) v h = go (dec v x) (λ m. mem_has_by dec l v m) h
   where
-    go : (d : Dec (v ≡ x)) → (Mem v l → has l v ≡ true) → (v ≡ x) ⊎ Mem v l → holds d (has l v) ≡ true
+    go : (d : Dec (v ≡ x)) → (Mem v l → has_by dec l v ≡ true) → (v ≡ x) ⊎ Mem v l → holds d (has_by dec l v) ≡ true
     go (yes _) ih h = refl
     go (no f) ih (inl e) = absurd (f e)
     go (no f) ih (inr m) = ih m
+
+pub has_mem : (l : List ℕ) (v : ℕ) → has l v ≡ true → Mem v l
+has_mem l v e = has_by_mem ℕ_discrete l v e
+
+pub mem_has : (l : List ℕ) (v : ℕ) → Mem v l → has l v ≡ true
+mem_has l v m = mem_has_by ℕ_discrete l v m
 
 pub Rises-append : (k l : List ℕ) → Rises k → Rises l → ((u v : ℕ) → Mem u k → Mem v l → u < v) → Rises (k ++ l)
 Rises-append [] l a b h = b

@@ -5,7 +5,7 @@ use mathlib.Core.Path.{ap₂}
 use Rattle.modular_sums.specs.Residues.{Alike}
 use Rattle.modular_sums.specs.Sums.{hit, coef, scale, Same, expand, moved}
 use Rattle.modular_sums.proofs.Residues.{alike_drop}
-use Rattle.modular_sums.proofs.Sums.{hit-mul, coef-append, coef-scale, coef-expand_append, coef-expand_scale}
+use Rattle.modular_sums.proofs.Sums.{expand-moved, hit-mul, coef-append, coef-scale, coef-expand_append, coef-expand_scale}
 
 -- the sum of the coefficients times f
 abbrev pub sum_over : {X : Type 0} → List (ℕ × X) → (X → ℕ) → ℕ
@@ -99,19 +99,14 @@ module _ {M : Type 0} (dec : Discrete M) where
               let s : w + q * u + (z + q * z) ≡ v + q * z + (u + q * u) = omega arith in
               sym (alike_drop q (w + q * u) z) ∙ ap (λ n. n % suc q) s ∙ alike_drop q (v + q * z) u
 
-expand-moved : {I M X : Type 0} (value : I → List (ℕ × M)) (f : X → I) (l : List (ℕ × X)) → expand value (moved f l) ≡ expand (λ x. value (f x)) l
-unfolding expand
-expand-moved value f [] = refl
-expand-moved value f (x ∷ l) = ap (λ e. scale x.0 (value (f x.1)) ++ e) (expand-moved value f l)
-
 pub independent : {M X Y : Type 0} (dec : Discrete M) (q : ℕ) (both : X → Y → M) (a : X) (g : List (ℕ × X)) (b : Y) (h : List (ℕ × Y))
     → Same dec q (moved (λ x. both x b) ((1, a) ∷ g) ++ scale q (moved (both a) ((1, b) ∷ h)))
     (expand (λ x. moved (both x) ((1, b) ∷ h)) g ++ scale q (expand (λ y. moved (λ x. both x y) ((1, a) ∷ g)) h))
 independent {M} {X} {Y} dec q both a g b h t =
     pair_adds_up dec value q both a g b h inr inl (λ y. refl) (λ x. refl) t
     ∙ ap (λ n. n % suc q) (coef-expand_append dec value (moved inl g) (scale q (moved inr h)) t
-    ∙ ap₂ (λ m n. m + n) (ap (λ e. coef dec e t) (expand-moved value inl g))
-    (coef-expand_scale dec value q (moved inr h) t ∙ ap (λ e. q * coef dec e t) (expand-moved value inr h) ∙ sym (coef-scale dec q (expand (λ y. value (inr y)) h) t))
+    ∙ ap₂ (λ m n. m + n) (ap (λ e. coef dec e t) (expand-moved (λ x. value (inl x)) value inl (λ x. refl) g))
+    (coef-expand_scale dec value q (moved inr h) t ∙ ap (λ e. q * coef dec e t) (expand-moved (λ y. value (inr y)) value inr (λ y. refl) h) ∙ sym (coef-scale dec q (expand (λ y. value (inr y)) h) t))
     ∙ sym (coef-append dec (expand (λ x. value (inl x)) g) (scale q (expand (λ y. value (inr y)) h)) t))
   where
     value : X ⊎ Y → List (ℕ × M)

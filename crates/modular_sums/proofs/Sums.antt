@@ -1,8 +1,10 @@
 -- Elements as lists of a number and a monomial.
-use Rattle.std.proofs.Common.{◌≡◌, ℕ, ◌+◌, ◌*◌, List, [], ◌∷◌, arith, refl, ◌∙◌}
+use Rattle.std.proofs.Common.{suc, ◌%◌, sym, ap, ◌≡◌, ℕ, ◌+◌, ◌*◌, List, [], ◌∷◌, arith, refl, ◌∙◌}
 use mathlib.Core.List.{◌++◌}
-use Rattle.modular_sums.specs.Sums.{hit, coef, scale, Same, expand, Member}
-use Rattle.modular_sums.proofs.Residues.{alike_add, alike_mul}
+use mathlib.Core.Path.{ap₂}
+use Rattle.modular_sums.specs.Sums.{moved, AllTerms, hit, coef, scale, Same, expand, Member}
+use Rattle.modular_sums.proofs.Residues.{alike_drop, alike_add, alike_mul}
+use Rattle.modular_sums.specs.Residues.{Alike}
 
 pub hit-mul : {A : Type 0} (d : Dec A) (k c : ℕ) → hit d (k * c) ≡ k * hit d c
 hit-mul (yes _) k c = refl
@@ -48,3 +50,50 @@ module _ {M : Type 0} (dec : Discrete M) where
 
     pub Member-same : (q : ℕ) {e f : List (ℕ × M)} → Same dec q e f → Member dec value q f → Member dec value q e
     Member-same q s m = record { uses = m.uses; adds_up = λ t. s t ∙ m.adds_up t }
+
+turn : (q a b c : ℕ) → Alike q (b + q * a) c → Alike q (a + q * b) (q * c)
+turn q a b c h =
+    let k : Alike q (q * (b + q * a)) (q * c) = alike_mul q q q _ _ refl h in
+    let l : Alike q (q * (b + q * a) + q * a) (q * c + q * a) = alike_add q _ _ _ _ k refl in
+    let e : q * (b + q * a) + q * a ≡ q * b + (q * a + q * (q * a)) = omega arith in
+    let m : Alike q (q * b) (q * c + q * a) = sym (alike_drop q (q * b) (q * a)) ∙ (rw e at l) in
+    let o : Alike q (q * b + a) (q * c + q * a + a) = alike_add q _ _ a a m refl in
+    let e1 : q * b + a ≡ a + q * b = omega arith in
+    let e2 : q * c + q * a + a ≡ q * c + (a + q * a) = omega arith in
+    (rw (e1, e2) at o) ∙ alike_drop q (q * c) a
+
+module _ {M : Type 0} (dec : Discrete M) (q : ℕ) where
+  -- a difference the other way round
+  pub Same-turned : (e f g : List (ℕ × M)) → Same dec q (e ++ scale q f) g → Same dec q (f ++ scale q e) (scale q g)
+  Same-turned e f g h t =
+      let k : Alike q (coef dec e t + q * coef dec f t) (coef dec g t) = rw (coef-append dec e (scale q f) t, coef-scale dec q f t) at (h t) in
+      rw (coef-append dec f (scale q e) t, coef-scale dec q e t, coef-scale dec q g t) (turn q (coef dec f t) (coef dec e t) (coef dec g t) k)
+
+  -- a sum less itself
+  pub Same-cancelled : (e : List (ℕ × M)) (t : M) → Alike q (coef dec (e ++ scale q e) t) 0
+  Same-cancelled e t =
+      let z : coef dec e t + q * coef dec e t ≡ 0 + (coef dec e t + q * coef dec e t) = omega arith in
+      rw (coef-append dec e (scale q e) t, coef-scale dec q e t, z) (alike_drop q 0 (coef dec e t))
+
+-- a multiple of a sum of instances is the sum of the multiples
+pub Same-expand_scale : {M I : Type 0} (dec : Discrete M) (q c : ℕ) (value : I → List (ℕ × M)) (l : List (ℕ × I)) → Same dec q (scale c (expand value l)) (expand value (scale c l))
+Same-expand_scale dec q c value l t = ap (λ n. n % suc q) (coef-scale dec c (expand value l) t ∙ sym (coef-expand_scale dec value c l t))
+
+pub AllTerms-append : {X : Type 0} (k l : List (ℕ × X)) (P : X → Type 0) → AllTerms k P → AllTerms l P → AllTerms (k ++ l) P
+AllTerms-append [] l P h g = g
+AllTerms-append (x ∷ k) l P h g = (h.0, AllTerms-append k l P h.1 g)
+
+pub AllTerms-scale : {X : Type 0} (c : ℕ) (l : List (ℕ × X)) (P : X → Type 0) → AllTerms l P → AllTerms (scale c l) P
+unfolding scale
+AllTerms-scale c [] P h = tt
+AllTerms-scale c (x ∷ l) P h = (h.0, AllTerms-scale c l P h.1)
+
+pub AllTerms-moved : {X Y : Type 0} (f : X → Y) (l : List (ℕ × X)) (P : Y → Type 0) → AllTerms l (λ x. P (f x)) → AllTerms (moved f l) P
+AllTerms-moved f [] P h = tt
+AllTerms-moved f (x ∷ l) P h = (h.0, AllTerms-moved f l P h.1)
+
+-- the sum of instances that stand for others with the same values
+pub expand-moved : {I J M : Type 0} (vi : I → List (ℕ × M)) (vj : J → List (ℕ × M)) (g : I → J) → ((i : I) → vj (g i) ≡ vi i) → (l : List (ℕ × I)) → expand vj (moved g l) ≡ expand vi l
+unfolding expand
+expand-moved vi vj g h [] = refl
+expand-moved vi vj g h (x ∷ l) = ap₂ (λ a b. scale x.0 a ++ b) (h x.1) (expand-moved vi vj g h l)

@@ -9,7 +9,7 @@ abbrev pub NothingAbove : {M : Type 0} → Discrete M → (M → ℕ) → ℕ �
 NothingAbove {M} dec rank q e m = (t : M) → t ≢ m → rank m ≤ rank t → Alike q (coef dec e t) 0
 
 -- Each instance has a host: its greatest monomial, with coefficient 1.
-pub record AreMonic {M I : Type 0} (dec : Discrete M) (rank : M → ℕ) (q : ℕ) (value : I → List (ℕ × M)) (host : I → M) : Type 0 where
+pub record HaveHosts {M I : Type 0} (dec : Discrete M) (rank : M → ℕ) (q : ℕ) (value : I → List (ℕ × M)) (host : I → M) : Type 0 where
   pub at_host : (i : I) → Alike q (coef dec (value i) (host i)) 1
   pub above : (i : I) → NothingAbove dec rank q (value i) (host i)
 

@@ -5,7 +5,7 @@ use Rattle.modular_sums.specs.Lists.{Mem}
 use Rattle.modular_sums.specs.Residues.{Alike}
 use Rattle.modular_sums.specs.Sums.{coef, scale, Same, expand, Member, moved}
 use Rattle.modular_sums.specs.Ranks.{count_less}
-use Rattle.modular_sums.specs.Diamond.{AreMonic, Meet, Led}
+use Rattle.modular_sums.specs.Diamond.{HaveHosts, Meet, Led}
 
 -- Being alike modulo suc q is an equivalence that sums and products keep, q times a number is its negative,
 -- and what is added may be cancelled.
@@ -65,7 +65,7 @@ Ranks X = (less : X → X → Bool)
 -- Monic instances of which any two with one host differ by a sum of instances with lower hosts, where hosts of one rank are one:
 -- each sum of instances is zero, or its greatest monomial is the host of an instance.
 abbrev pub DiamondLemma : Type 0 → Type 0 → Type 0
-DiamondLemma M I = (dec : Discrete M) (rank : M → ℕ) (q : ℕ) (value : I → List (ℕ × M)) (host : I → M) → AreMonic dec rank q value host
+DiamondLemma M I = (dec : Discrete M) (rank : M → ℕ) (q : ℕ) (value : I → List (ℕ × M)) (host : I → M) → HaveHosts dec rank q value host
     → ((i j : I) → host i ≡ host j → Meet dec rank q value host i j) → ((i j : I) → rank (host i) ≡ rank (host j) → host i ≡ host j)
     → (uses : List (ℕ × I)) → Same dec q (expand value uses) [] ⊎ Led dec rank q host (expand value uses)
 

@@ -1,9 +1,8 @@
-pub mod Basis
-pub mod Cases
+pub mod Examples
+pub mod Laws
 pub mod Multiples
+pub mod Placed
+pub mod Ranking
 pub mod Reduce
 pub mod Separate
-pub mod Smaller
-pub mod Standing
 pub mod Theorem
-pub mod Whole

@@ -1,4 +1,3 @@
-pub mod Bases
-pub mod Law
+pub mod Elements
 pub mod Laws
-pub mod Rows
+pub mod Reductions

@@ -3,6 +3,7 @@ pub mod Counted
 pub mod Counting
 pub mod Counts
 pub mod Determine
+pub mod Examples
 pub mod Frames
 pub mod Insertions
 pub mod Into

@@ -11,14 +11,14 @@ use Rattle.labelled_trees.specs.Equality.{tree_discrete}
 use Rattle.shuffle_insertions.specs.ShuffleTrees.{IsShuffle}
 use Rattle.shuffle_places.proofs.Places.{place_of_cut, cut_of_place}
 use Rattle.shuffle_places.specs.Cuts.{IsCut}
-use Rattle.modular_sums.specs.Lists.{Mem, Distinct, holds, has}
+use Rattle.modular_sums.specs.Lists.{has_by, Mem, Distinct, has}
 use Rattle.shuffle_insertions.specs.Listing.{upto}
 use Rattle.shuffle_places.specs.Overlays.{shape_discrete, shape, shapes_of}
 use Rattle.shuffle_places.specs.Numberings.{numberings}
 use Rattle.shuffle_places.specs.AllPlaces.{places}
 use Rattle.shuffle_places.specs.Multiples.{IsMultiple}
-use Rattle.shuffle_places.specs.AllMultiples.{meet, cover, in_order, test, joined, any_same, different, multiples, only_where}
-use Rattle.modular_sums.proofs.Lists.{has_mem, mem_has, mem_either, mem_left, mem_right}
+use Rattle.shuffle_places.specs.AllMultiples.{meet, cover, in_order, test, joined, different, multiples, only_where}
+use Rattle.modular_sums.proofs.Lists.{mem_has_by, has_by_mem, has_mem, mem_has, mem_either, mem_left, mem_right}
 use Rattle.shuffle_places.proofs.Overlays.{multiple_shape}
 use Rattle.shuffle_places.proofs.Numberings.{all_numbered}
 use Rattle.shuffle_places.proofs.AllPlaces.{listed_place, place_listed, places_distinct}
@@ -128,36 +128,19 @@ into_cond : {Y : Type 0} (b : Bool) (z : Y) → b ≡ true → Mem z (cond b (z 
 into_cond true z e = inl refl
 into_cond false z e = absurd (cc e)
 
-any_among : (x : Tree (Unit {0})) (l : List (Tree (Unit {0}))) → any_same x l ≡ true → Mem x l
-any_among x [] e = absurd (cc e)
-any_among x (y ∷ l) e = go (shape_discrete x y) (λ h. any_among x l h) e
-  where
-    go : (d : Dec (x ≡ y)) → (any_same x l ≡ true → Mem x l) → holds d (any_same x l) ≡ true → (x ≡ y) ⊎ Mem x l
-    go (yes h) ih e = inl h
-    go (no _) ih e = inr (ih e)
-
-among_any : (x : Tree (Unit {0})) (l : List (Tree (Unit {0}))) → Mem x l → any_same x l ≡ true
-among_any x [] h = absurd h
-among_any x (y ∷ l) h = go (shape_discrete x y) (λ m. among_any x l m) h
-  where
-    go : (d : Dec (x ≡ y)) → (Mem x l → any_same x l ≡ true) → (x ≡ y) ⊎ Mem x l → holds d (any_same x l) ≡ true
-    go (yes _) ih h = refl
-    go (no f) ih (inl e) = absurd (f e)
-    go (no f) ih (inr m) = ih m
-
 in_different : (x : Tree (Unit {0})) (l : List (Tree (Unit {0}))) → Mem x l → Mem x (different l)
 in_different x [] h = absurd h
-in_different x (y ∷ l) h = go (any_same y l) refl (λ m. in_different x l m) h
+in_different x (y ∷ l) h = go (has_by shape_discrete l y) refl (λ m. in_different x l m) h
   where
-    go : (b : Bool) → any_same y l ≡ b → (Mem x l → Mem x (different l)) → (x ≡ y) ⊎ Mem x l → Mem x (cond b (different l) (y ∷ different l))
-    go true e ih (inl q) = ih (subst (λ z. Mem z l) (sym q) (any_among y l e))
+    go : (b : Bool) → has_by shape_discrete l y ≡ b → (Mem x l → Mem x (different l)) → (x ≡ y) ⊎ Mem x l → Mem x (cond b (different l) (y ∷ different l))
+    go true e ih (inl q) = ih (subst (λ z. Mem z l) (sym q) (has_by_mem shape_discrete l y e))
     go true e ih (inr m) = ih m
     go false e ih (inl q) = inl q
     go false e ih (inr m) = inr (ih m)
 
 of_different : (x : Tree (Unit {0})) (l : List (Tree (Unit {0}))) → Mem x (different l) → Mem x l
 of_different x [] h = h
-of_different x (y ∷ l) h = go (any_same y l) (λ m. of_different x l m) h
+of_different x (y ∷ l) h = go (has_by shape_discrete l y) (λ m. of_different x l m) h
   where
     go : (b : Bool) → (Mem x (different l) → Mem x l) → Mem x (cond b (different l) (y ∷ different l)) → (x ≡ y) ⊎ Mem x l
     go true ih m = inr (ih m)
@@ -166,13 +149,13 @@ of_different x (y ∷ l) h = go (any_same y l) (λ m. of_different x l m) h
 
 different_distinct : (l : List (Tree (Unit {0}))) → Distinct (different l)
 different_distinct [] = tt
-different_distinct (y ∷ l) = go (any_same y l) refl (different_distinct l)
+different_distinct (y ∷ l) = go (has_by shape_discrete l y) refl (different_distinct l)
   where
-    go : (b : Bool) → any_same y l ≡ b → Distinct (different l) → Distinct (cond b (different l) (y ∷ different l))
+    go : (b : Bool) → has_by shape_discrete l y ≡ b → Distinct (different l) → Distinct (cond b (different l) (y ∷ different l))
     go true e ih = ih
-    go false e ih = (λ m. no_false (among_any y l (of_different y l m)) e, ih)
+    go false e ih = (λ m. no_false (mem_has_by shape_discrete l y (of_different y l m)) e, ih)
       where
-        no_false : any_same y l ≡ true → any_same y l ≡ false → ⊥
+        no_false : has_by shape_discrete l y ≡ true → has_by shape_discrete l y ≡ false → ⊥
         no_false p q = cc (p, q)
 
 distinct_append : {Y : Type 0} (k l : List Y) → Distinct k → Distinct l → ((y : Y) → Mem y k → Mem y l → ⊥) → Distinct (k ++ l)

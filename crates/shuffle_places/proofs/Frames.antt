@@ -5,7 +5,7 @@ use native.Mathlib.Decide.{ℕ_discrete, dec_lt}
 use Rattle.labelled_trees.specs.Trees.{Tree, Row, leaf, node, none, more, graft, graft_row, join, IsNode, vertices}
 use Rattle.labelled_trees.specs.Contexts.{fill}
 use Rattle.shuffle_insertions.specs.ShuffleTrees.{least, IsRising, IsShuffle}
-use Rattle.labelled_trees.specs.Leaves.{AllLeaves, one_if, occurs}
+use Rattle.labelled_trees.specs.Leaves.{one_if, occurs}
 use Rattle.shuffle_insertions.specs.Slots.{Slot, fill_slot, PartsRise}
 use Rattle.labelled_trees.specs.Ranks.{below, standard}
 use Rattle.labelled_trees.specs.Trees.{leaves}
@@ -17,18 +17,17 @@ use Rattle.modular_sums.specs.Lists.{Mem}
 use Rattle.shuffle_insertions.proofs.Counted.{times_mem, mem_times}
 use Rattle.shuffle_insertions.proofs.TreeOrders.{length_leaves, leaves_count}
 use Rattle.shuffle_insertions.proofs.Frames.{frame_of}
-use Rattle.shuffle_places.specs.Places.{choose, of_rank, inputs_of, frame_at}
+use Rattle.shuffle_places.specs.Places.{divisor_of, choose, of_rank, inputs_of, frame_at}
+use Rattle.shuffle_places.proofs.RankedParts.{Ranked, ranked}
 use Rattle.shuffle_places.proofs.Places.{of_pattern}
 use Rattle.shuffle_places.specs.Cuts.{numbers, numbers_row, start, IsCut}
 use Rattle.labelled_trees.proofs.Grafts.{graft_assoc, graft_leaf}
-use Rattle.labelled_trees.proofs.GraftLeaves.{graft_ext, agree, AllLeaves_of_graft, sum_leaves-graft}
-use Rattle.labelled_trees.proofs.Factors.{factor}
-use Rattle.labelled_trees.proofs.Leaves.{sum_leaves-same, by_leaf, at_leaf, AllLeaves-imp}
+use Rattle.labelled_trees.proofs.GraftLeaves.{graft_ext, sum_leaves-graft}
+use Rattle.labelled_trees.proofs.Leaves.{sum_leaves-same, AllLeaves-imp}
 use Rattle.labelled_trees.proofs.ContextLeaves.{sum_of_fill}
-use Rattle.shuffle_insertions.proofs.Rising.{rising_change, rising_of_fill}
+use Rattle.shuffle_insertions.proofs.Rising.{rising_of_fill}
 use Rattle.shuffle_insertions.proofs.Insertions.{InRange, all_among, once_of}
-use Rattle.labelled_trees.proofs.Ranks.{same_if, below_sum, below-mono, below-lt, standard_each, standard_only}
-use Rattle.shuffle_insertions.proofs.Named.{parts_rise, occurs-named}
+use Rattle.labelled_trees.proofs.Ranks.{same_if, below_sum}
 
 mutual
   pub numbers-graft : {X Y A : Type 0} (p : Tree X) (f : X → Y) (s : Y → Tree A) (k : ℕ) → numbers s k (graft p (λ x. leaf (f x))) ≡ numbers (λ x. s (f x)) k p
@@ -49,6 +48,10 @@ below_valid m d h zero le = go (dec_lt 0 (occurs 0 d))
     go (yes o) = let r = h.only 0 o in absurd (omega (arith, r.0))
     go (no z) = omega (arith, z)
 below_valid m d h (suc i) le = let e = below_valid m d h i (omega arith) in let o = h.each (suc i) (omega arith) le in omega (arith, e, o)
+
+still_node : (d : Tree ℕ) (s : ℕ → Tree ℕ) → IsNode d → IsNode (graft d (λ i. leaf (s i)))
+still_node (leaf a) s n = absurd n
+still_node (node l r) s n = tt
 
 -- the place of an insertion
 module _ (m : ℕ) (f : Slot) (d : Tree ℕ) (hd : IsShuffle m d) (rise : PartsRise m f.parts) where
@@ -77,7 +80,7 @@ module _ (m : ℕ) (f : Slot) (d : Tree ℕ) (hd : IsShuffle m d) (rise : PartsR
   cut_of_slot n = record {
     context = f.context;
     pattern_at = graft d (λ i. leaf (f.parts i));
-    is_node = still_node d n;
+    is_node = still_node d f.parts n;
     host_is = ap (fill f.context) (sym (graft_assoc d (λ i. leaf (f.parts i)) (λ v. v)));
     set_is = sym (numbers-graft d f.parts (λ v. v) (start 1 f.context));
     divisor_is =
@@ -87,10 +90,7 @@ module _ (m : ℕ) (f : Slot) (d : Tree ℕ) (hd : IsShuffle m d) (rise : PartsR
         (AllLeaves-imp d (InRange m) (λ i. leaf (suc (below (least (f.parts i)) (graft d (λ j. leaf (least (f.parts j)))))) ≡ leaf i) (λ i a. ap leaf (rank_back i a)) (all_among m d hd))
         ∙ graft_leaf d);
   }
-    where
-      still_node : (d : Tree ℕ) → IsNode d → IsNode (graft d (λ i. leaf (f.parts i)))
-      still_node (leaf a) n = absurd n
-      still_node (node l r) n = tt
+
 
   -- the rank of each part among the parts
   find : (l : List ℕ) (i : ℕ) → ((j : ℕ) → Mem j l → InRange m j) → Mem i l → of_rank (graft d (λ j. leaf (least (f.parts j)))) (map f.parts l) i ≡ f.parts i
@@ -123,15 +123,10 @@ module _ (m : ℕ) (f : Slot) (d : Tree ℕ) (hd : IsShuffle m d) (rise : PartsR
   unfolding frame_of
   frame_at-slot n =
       let c = cut_of_slot n in
-      let o = of_pattern f.context (graft d (λ i. leaf (f.parts i))) (node_again d n) in
+      let o = of_pattern f.context (graft d (λ i. leaf (f.parts i))) (still_node d f.parts n) in
       let host : fill_slot f d ≡ fill f.context (join (graft d (λ i. leaf (f.parts i)))) = ap (fill f.context) (sym (graft_assoc d (λ i. leaf (f.parts i)) (λ v. v))) in
       let set : numbers f.parts (start 1 f.context) d ≡ numbers (λ v. v) (start 1 f.context) (graft d (λ i. leaf (f.parts i))) = sym (numbers-graft d f.parts (λ v. v) (start 1 f.context)) in
       ap₂ frame_at set host ∙ ap₂ (λ h l. record { hole = h; inputs = l }) o.1 (ap inputs_of o.0 ∙ inputs_are)
-    where
-      node_again : (d : Tree ℕ) → IsNode d → IsNode (graft d (λ i. leaf (f.parts i)))
-      node_again (leaf a) n = absurd n
-      node_again (node l r) n = tt
-
 -- the frame at a place
 pub record SlotAt (host : Tree ℕ) (set : List ℕ) (divisor : Tree ℕ) : Type 0 where
   pub arity : ℕ
@@ -143,105 +138,22 @@ pub record SlotAt (host : Tree ℕ) (set : List ℕ) (divisor : Tree ℕ) : Type
   pub set_is : set ≡ numbers at.parts (start 1 at.context) divisor
 
 module _ (n : ℕ) (host : Tree ℕ) (valid : IsShuffle n host) (set : List ℕ) (divisor : Tree ℕ) (place : IsCut host set divisor) where
-  p : Tree (Tree ℕ)
-  p = place.pattern_at
-
-  keys : Tree ℕ
-  keys = graft p (λ v. leaf (least v))
-
-  rank : Tree ℕ → ℕ
-  rank v = suc (below (least v) keys)
-
-  low : (i : ℕ) → occurs i (join p) ≤ occurs i host
-  unfolding p
+  low : (i : ℕ) → occurs i (join place.pattern_at) ≤ occurs i host
   low i = subst (λ x. occurs i (join place.pattern_at) ≤ occurs i x) (sym place.host_is) (sum_of_fill place.context (join place.pattern_at) (λ m. one_if (ℕ_discrete m i)))
 
-  rise_all : IsRising (join p)
-  unfolding p
-  rise_all = rising_of_fill place.context (join place.pattern_at) (subst IsRising place.host_is valid.rising)
-
-  key_le : (i : ℕ) → occurs i keys ≤ occurs i host
-  unfolding keys
-  key_le i = let a = occurs-named (λ v. v) p i rise_all in let b = low i in omega (arith, a, b)
-
-  once_keys : (i : ℕ) → occurs i keys ≤ 1
-  once_keys i = omega (arith, key_le i, once_of n host valid i)
-
-  IsKey : Tree ℕ → Type 0
-  IsKey v = 0 < occurs (least v) keys
-
-  all_keys : AllLeaves p IsKey
-  unfolding IsKey keys
-  all_keys = AllLeaves_of_graft p (λ v. leaf (least v)) (λ i. 0 < occurs i keys) (by_leaf keys (λ i. 0 < occurs i keys) (λ i o. o))
-
-  rank_order : (v w : Tree ℕ) → IsKey v → IsKey w → least v < least w → rank v < rank w
-  unfolding IsKey rank
-  rank_order v w kv kw lt = let h : below (least v) keys < below (least w) keys = below-lt (least v) (least w) keys kv lt in omega arith
-
-  divisor_is : divisor ≡ graft p (λ v. leaf (rank v))
-  unfolding p keys rank
-  divisor_is = place.divisor_is ∙ graft_assoc place.pattern_at (λ v. leaf (least v)) (λ i. leaf (suc (below i (graft place.pattern_at (λ v. leaf (least v))))))
-
-  standard_is : divisor ≡ standard keys
-  unfolding p keys
-  standard_is = place.divisor_is
-
-  keys_low : AllLeaves keys (λ x. x < suc n)
-  keys_low = by_leaf keys (λ x. x < suc n) (λ x o. let r = valid.only x (omega (arith, key_le x, o)) in omega (arith, r.1))
-
-  size : ℕ
-  size = below (suc n) keys
-
-  divisor_valid : IsShuffle size divisor
-  unfolding size
-  divisor_valid = record {
-    rising = subst IsRising (sym divisor_is) (rising_change (Tree ℕ) IsKey (λ v. v) (λ v. leaf (rank v)) (λ v k. tt) rank_order p rise_all all_keys);
-    each = λ i q le. subst (λ x. occurs i x ≡ 1) (sym standard_is) (standard_each (suc n) keys keys_low once_keys i q le);
-    only = λ i o. standard_only (suc n) keys keys_low once_keys i (subst (λ x. 0 < occurs i x) standard_is o);
-  }
-
-  found : (f : ℕ → Tree ℕ) × (p ≡ graft divisor (λ i. leaf (f i)))
-  found = factor divisor p rank (λ i. i) (leaf 0) (once_of size divisor divisor_valid) (sym divisor_is ∙ sym (graft_leaf divisor))
-
-  hung : ℕ → Tree ℕ
-  hung = found.0
-
-  rank_of_hung : AllLeaves divisor (λ i. rank (hung i) ≡ i)
-  unfolding hung
-  rank_of_hung = agree divisor (λ i. rank (found.0 i)) (λ i. i)
-      (sym (graft_assoc divisor (λ i. leaf (found.0 i)) (λ v. leaf (rank v))) ∙ ap (λ x. graft x (λ v. leaf (rank v))) (sym found.1) ∙ sym divisor_is ∙ sym (graft_leaf divisor))
-
-  hung_whole : graft divisor hung ≡ join p
-  unfolding hung
-  hung_whole = sym (graft_assoc divisor (λ i. leaf (found.0 i)) (λ v. v)) ∙ ap join (sym found.1)
-
-  in_divisor : (i : ℕ) → 0 < i → i ≤ size → 0 < occurs i divisor
-  in_divisor i q le = let e : occurs i divisor ≡ 1 = divisor_valid.each i q le in omega arith
-
-  lower : (i j : ℕ) → rank (hung i) ≡ i → rank (hung j) ≡ j → i < j → Dec (least (hung i) < least (hung j)) → least (hung i) < least (hung j)
-  unfolding rank
-  lower i j ei ej lt (yes h) = h
-  lower i j ei ej lt (no h) =
-      let k : below (least (hung j)) keys ≤ below (least (hung i)) keys = below-mono (least (hung j)) (least (hung i)) keys (omega (arith, h)) in
-      absurd (omega (arith, k, ei, ej))
-
-  hung_rises : PartsRise size hung
-  hung_rises = record {
-    each = λ i q le. at_leaf divisor (λ j. IsRising (hung j)) i (parts_rise divisor hung (subst IsRising (sym hung_whole) rise_all)) (in_divisor i q le);
-    order = λ i j q lt le. lower i j (at_leaf divisor (λ k. rank (hung k) ≡ k) i rank_of_hung (in_divisor i q (omega arith)))
-        (at_leaf divisor (λ k. rank (hung k) ≡ k) j rank_of_hung (in_divisor j (omega arith) le)) lt (dec_lt (least (hung i)) (least (hung j)));
-  }
+  by_rank : Ranked n place.pattern_at
+  by_rank = ranked n place.pattern_at (rising_of_fill place.context (join place.pattern_at) (subst IsRising place.host_is valid.rising))
+      (λ i. omega (arith, low i, once_of n host valid i)) (λ i o. valid.only i (omega (arith, low i, o)))
 
   pub slot_at : SlotAt host set divisor
-  unfolding p hung
-  slot_at = record {
-    arity = size;
-    at = record { context = place.context; parts = hung };
-    valid = divisor_valid;
-    is_node = node_again divisor place.pattern_at found.0 found.1 place.is_node;
-    rises = hung_rises;
-    host_is = ap (fill place.context) hung_whole ∙ sym place.host_is;
-    set_is = place.set_is ∙ ap (numbers (λ v. v) (start 1 place.context)) found.1 ∙ numbers-graft divisor found.0 (λ v. v) (start 1 place.context);
+  slot_at = subst (SlotAt host set) (sym place.divisor_is) record {
+    arity = by_rank.size;
+    at = record { context = place.context; parts = by_rank.hung };
+    valid = by_rank.valid;
+    is_node = node_again (divisor_of place.pattern_at) place.pattern_at by_rank.hung by_rank.pattern_is place.is_node;
+    rises = by_rank.rises;
+    host_is = ap (fill place.context) by_rank.whole ∙ sym place.host_is;
+    set_is = place.set_is ∙ ap (numbers (λ v. v) (start 1 place.context)) by_rank.pattern_is ∙ numbers-graft (divisor_of place.pattern_at) by_rank.hung (λ v. v) (start 1 place.context);
   }
     where
       node_again : (d : Tree ℕ) (q : Tree (Tree ℕ)) (f : ℕ → Tree ℕ) → q ≡ graft d (λ i. leaf (f i)) → IsNode q → IsNode d

@@ -226,8 +226,6 @@ at_top {A = A} (inside n c) h = absurd (no (start_row_low c))
     no : 2 ≤ start_row 2 c → ⊥
     no k = omega arith
 
-start_compose : {A : Type 0} (k : ℕ) (c d : Ctx A) → start k (compose c d) ≡ start (start k c) d
-start_compose k c d = start-compose k c d
 
 pub standard_shape : (p : Tree (Tree ℕ)) → shape (standard (graft p (λ v. leaf (least v)))) ≡ shape p
 standard_shape p =
@@ -252,7 +250,7 @@ module _ (tree : Tree ℕ) (first second : List ℕ) (a b : Tree ℕ) (p : IsCut
     not_hanging : (x : Tree ℕ) → part ≡ leaf x → ⊥
     not_hanging x e =
         let k = start 1 (graft_ctx front self) in
-        let s : start 1 q.context ≡ start k rest = ap (start 1) hole_is ∙ start_compose 1 (graft_ctx front self) rest in
+        let s : start 1 q.context ≡ start k rest = ap (start 1) hole_is ∙ start-compose 1 (graft_ctx front self) rest in
         let m = subst (λ z. Mem u (numbers self z q.pattern_at)) s (subst (Mem u) q.set_is us) in
         let i = numbers_in self (start k rest) q.pattern_at u m in
         let r = start_in k rest (join q.pattern_at) in

@@ -29,9 +29,10 @@ mutual
   cut_nothing set k (leaf n) h = (refl, refl)
   cut_nothing set k (node l r) h =
       let e = no_member set k (λ m. h k m (omega arith)) in
-      let i = cut_nothing_row set (suc k) r (λ v m w. h v m (omega (arith, w.0, w.1))) in
-      (ap (λ b. cond b (cut (has set) k (node l r) ∷ []) (cut_out_row set (suc k) r)) e ∙ i.0,
-      ap (λ b. cond b (leaf 0) (node l (hole_at_row set (suc k) r))) e ∙ ap (node l) i.1)
+      let i = cut_nothing_row set (suc k) r (λ v m w. h v m (omega (arith, w.0, w.1))) in (
+        ap (λ b. cond b (cut (has set) k (node l r) ∷ []) (cut_out_row set (suc k) r)) e ∙ i.0,
+        ap (λ b. cond b (leaf 0) (node l (hole_at_row set (suc k) r))) e ∙ ap (node l) i.1,
+      )
 
   cut_nothing_row : (set : List ℕ) (k : ℕ) (r : Row ℕ) → Misses set k (vertices_row r) → (cut_out_row set k r ≡ []) × (hole_at_row set k r ≡ r)
   cut_nothing_row set k none h = (refl, refl)
@@ -52,9 +53,10 @@ mutual
   cut_filling set k (inside l c) x h =
       let s = start_row_in (suc k) c x in
       let e = no_member set k (λ m. let w = h k m in absurd (omega (arith, w.0, s.0))) in
-      let i = cut_filling_row set (suc k) c x h in
-      (ap (λ b. cond b (cut (has set) k (node l (fill_row c x)) ∷ []) (cut_out_row set (suc k) (fill_row c x))) e ∙ i.0,
-      ap (λ b. cond b (leaf 0) (node l (hole_at_row set (suc k) (fill_row c x)))) e ∙ ap (node l) i.1)
+      let i = cut_filling_row set (suc k) c x h in (
+        ap (λ b. cond b (cut (has set) k (node l (fill_row c x)) ∷ []) (cut_out_row set (suc k) (fill_row c x))) e ∙ i.0,
+        ap (λ b. cond b (leaf 0) (node l (hole_at_row set (suc k) (fill_row c x)))) e ∙ ap (node l) i.1,
+      )
 
   cut_filling_row : (set : List ℕ) (k : ℕ) (c : RowCtx ℕ) (x : Tree ℕ) → Within set (start_row k c) (vertices x)
       → (cut_out_row set k (fill_row c x) ≡ cut_out set (start_row k c) x) × (hole_at_row set k (fill_row c x) ≡ fill_row c (hole_at set (start_row k c) x))

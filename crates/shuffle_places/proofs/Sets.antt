@@ -1,5 +1,5 @@
 -- Connected sets of vertices are the sets of the patterns that lie in the tree.
-use Rattle.std.proofs.Common.{◌≡◌, ◌≢◌, ℕ, suc, ◌+◌, ◌<◌, ◌≤◌, List, [], ◌∷◌, refl, sym, ap, arith, inl, inr, ◌⊎◌}
+use Rattle.std.proofs.Common.{◌≡◌, ◌≢◌, ℕ, suc, ◌+◌, ◌<◌, ◌≤◌, List, ◌∷◌, refl, sym, ap, arith, inl, inr, ◌⊎◌}
 use mathlib.Core.List.{◌++◌}
 use native.Mathlib.Decide.{ℕ_discrete, dec_lt}
 use Rattle.labelled_trees.specs.Trees.{Tree, Row, leaf, node, none, more, graft, graft_row, join, IsNode, vertices, vertices_row}
@@ -7,7 +7,7 @@ use Rattle.labelled_trees.specs.Contexts.{Ctx, RowCtx, hole, inside, here, past,
 use Rattle.shuffle_places.specs.Cuts.{numbers, numbers_row, start, start_row}
 use Rattle.modular_sums.specs.Lists.{Mem, Rises}
 use Rattle.shuffle_places.specs.Connected.{Edge, EdgeRow, IsConnected}
-use Rattle.modular_sums.proofs.Lists.{mem_left, mem_right, mem_either}
+use Rattle.modular_sums.proofs.Lists.{Rises-append, mem_left, mem_right, mem_either}
 use Rattle.shuffle_places.proofs.Vertices.{In, numbers_in, numbers_row_in}
 
 pub node_has : {A : Type 0} (t : Tree A) → IsNode t → 0 < vertices t
@@ -123,15 +123,6 @@ mutual
   edge_inside_row up k (past t c) x p u lt (inl h) i = let s = start_row_in (k + vertices t) c x in absurd (omega (arith, s.0, i.0, h.1))
   edge_inside_row up k (past t c) x p u lt (inr (inl h)) i = let s = start_row_in (k + vertices t) c x in let e = edge_in k t p u h in absurd (omega (arith, s.0, i.0, e.0.1))
   edge_inside_row up k (past t c) x p u lt (inr (inr h)) i = edge_inside_row up (k + vertices t) c x p u (omega arith) h i
-
-pub Rises-append : (k l : List ℕ) → Rises k → Rises l → ((u v : ℕ) → Mem u k → Mem v l → u < v) → Rises (k ++ l)
-Rises-append [] l a b h = b
-Rises-append (x ∷ k) l a b h =
-    (λ u m. first (mem_either u k l m), Rises-append k l a.1 b (λ u v m n. h u v (inr m) n))
-  where
-    first : {u : ℕ} → Mem u k ⊎ Mem u l → x < u
-    first {u} (inl m) = a.0 u m
-    first {u} (inr m) = h x u (inl refl) m
 
 mutual
   pub numbers_rise : {X A : Type 0} (s : X → Tree A) (k : ℕ) (p : Tree X) → Rises (numbers s k p)

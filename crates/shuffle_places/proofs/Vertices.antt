@@ -5,6 +5,7 @@ use mathlib.Core.Path.{ap₂}
 use Rattle.labelled_trees.specs.Trees.{Tree, Row, leaf, node, none, more, graft, graft_row, join, vertices, vertices_row}
 use Rattle.modular_sums.specs.Lists.{Mem}
 use Rattle.shuffle_places.specs.Cuts.{cut, cut_row, numbers, numbers_row}
+use Rattle.modular_sums.proofs.Lists.{mem_left, mem_right, mem_either}
 
 cut_here : {A : Type 0} (b : ℕ → Bool) (k l : ℕ) (r : Row A) (d : Bool) → graft_row (cut_row b (suc k) r) (λ v. v) ≡ r
     → join (elim d as (λ _. Tree (Tree A)) [ true ↦ node l (cut_row b (suc k) r) | false ↦ leaf (node l r) ]) ≡ node l r
@@ -20,24 +21,6 @@ mutual
   pub join-cut_row : {A : Type 0} (b : ℕ → Bool) (k : ℕ) (r : Row A) → graft_row (cut_row b k r) (λ v. v) ≡ r
   join-cut_row b k none = refl
   join-cut_row b k (more t r) = ap₂ more (join-cut b k t) (join-cut_row b (k + vertices t) r)
-
-pub mem_left : (v : ℕ) (k l : List ℕ) → Mem v k → Mem v (k ++ l)
-mem_left v [] l h = absurd h
-mem_left v (x ∷ k) l (inl e) = inl e
-mem_left v (x ∷ k) l (inr h) = inr (mem_left v k l h)
-
-pub mem_right : (v : ℕ) (k l : List ℕ) → Mem v l → Mem v (k ++ l)
-mem_right v [] l h = h
-mem_right v (x ∷ k) l h = inr (mem_right v k l h)
-
-pub mem_either : (v : ℕ) (k l : List ℕ) → Mem v (k ++ l) → Mem v k ⊎ Mem v l
-mem_either v [] l h = inr h
-mem_either v (x ∷ k) l (inl e) = inl (inl e)
-mem_either v (x ∷ k) l (inr h) = widen (mem_either v k l h)
-  where
-    widen : Mem v k ⊎ Mem v l → Mem v (x ∷ k) ⊎ Mem v l
-    widen (inl p) = inl (inr p)
-    widen (inr p) = inr p
 
 abbrev pub In : ℕ → ℕ → ℕ → Type 0
 In v k n = (k ≤ v) × (v < k + n)

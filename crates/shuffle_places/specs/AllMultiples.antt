@@ -1,7 +1,6 @@
 -- The list of all small common multiples of two trees.
 use Rattle.std.specs.Prelude.{ℕ, List, [], ◌∷◌, ◌++◌}
 use Rattle.std.proofs.Common.{Bool, true, false, cond}
-use native.Mathlib.Decide.{ℕ_discrete}
 use Rattle.std.specs.Ordering.{nat_cmp, is_lt}
 use Rattle.std.specs.Cmp.Lexicographic.{slice_cmp}
 use Rattle.labelled_trees.specs.Trees.{Tree, vertices}
@@ -10,15 +9,7 @@ use Rattle.shuffle_insertions.specs.Listing.{upto}
 use Rattle.shuffle_places.specs.Overlays.{shape_discrete, shapes_of}
 use Rattle.shuffle_places.specs.Numberings.{numberings}
 use Rattle.shuffle_places.specs.AllPlaces.{places}
-
-abbrev pub holds : {A : Type 0} → Dec A → Bool → Bool
-holds (yes _) b = true
-holds (no _) b = b
-
--- the test of membership
-abbrev pub has : List ℕ → ℕ → Bool
-has [] v = false
-has (x ∷ l) v = holds (ℕ_discrete v x) (has l v)
+use Rattle.modular_sums.specs.Lists.{has, has_by}
 
 -- a member of the first stands in the second
 abbrev pub meet : List ℕ → List ℕ → Bool
@@ -46,14 +37,10 @@ abbrev pub joined : {X Y : Type 0} → List X → (X → List Y) → List Y
 joined [] f = []
 joined (x ∷ l) f = f x ++ joined l f
 
-abbrev pub any_same : Tree (Unit {0}) → List (Tree (Unit {0})) → Bool
-any_same x [] = false
-any_same x (y ∷ l) = holds (shape_discrete x y) (any_same x l)
-
 -- the last of equal shapes alone
 abbrev pub different : List (Tree (Unit {0})) → List (Tree (Unit {0}))
 different [] = []
-different (x ∷ l) = cond (any_same x l) (different l) (x ∷ different l)
+different (x ∷ l) = cond (has_by shape_discrete l x) (different l) (x ∷ different l)
 
 abbrev pub multiples : Tree ℕ → Tree ℕ → ℕ → List (Tree ℕ × List ℕ × List ℕ)
 multiples a b n =

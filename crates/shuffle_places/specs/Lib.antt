@@ -2,6 +2,8 @@ pub mod AllMultiples
 pub mod AllPlaces
 pub mod Connected
 pub mod Cuts
+pub mod Independent
+pub mod Laws
 pub mod Multiples
 pub mod Numberings
 pub mod Overlays

@@ -1,6 +1,5 @@
 -- The shapes that a small common multiple can have.
 use Rattle.std.specs.Prelude.{ℕ, ◌≡◌, List, [], ◌∷◌, ◌++◌, map}
-
 use Rattle.std.proofs.Common.{refl}
 use Rattle.labelled_trees.specs.Equality.{tree_discrete_by}
 use Rattle.labelled_trees.specs.Trees.{Tree, Row, leaf, node, none, more, graft, graft_row}

@@ -1,10 +1,34 @@
-//! Shuffle trees.
+//! Places in shuffle trees: connected sets of vertices, divisors, frames, small common multiples. Definitions and laws, without code.
 #![tactic(auto)]
 
-ghost use Rattle.std.specs.Prelude.{◌≡◌, ℕ};
+ghost use Rattle.shuffle_places.specs.Laws.{InsertionsCommute, MultiplesFit, MultiplesListed, PlaceFrames, PlaceSets, PlacesListed};
 
-pub fn nothing(x: usize) -> usize
-    ensures { result ≡ x }
-{
-    x
-}
+/// Law: a connected set of vertices is the set of exactly one place.
+pub fn place_sets()
+    ensures law { PlaceSets }
+{}
+
+/// Law: the divisor of a place inserted into its frame gives the tree, and an insertion has a place with its frame.
+pub fn place_frames()
+    ensures law { PlaceFrames }
+{}
+
+/// Law: the places with a given divisor, each once.
+pub fn places_listed()
+    ensures law { PlacesListed }
+{}
+
+/// Law: the small common multiples of two trees, each once.
+pub fn multiples_listed()
+    ensures law { MultiplesListed }
+{}
+
+/// Law: small common multiples of shuffle trees over labels are over the labels.
+pub fn multiples_fit()
+    ensures law { MultiplesFit }
+{}
+
+/// Law: two insertions at places without a common vertex commute.
+pub fn insertions_commute()
+    ensures law { InsertionsCommute }
+{}
