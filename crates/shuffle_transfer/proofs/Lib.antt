@@ -19,3 +19,9 @@ pub mod Relations
 pub mod Forward
 pub mod Return
 pub mod TransferLaw
+pub mod Carrying
+pub mod Given
+pub mod Independent
+pub mod Spanning
+pub mod NormalTrees
+pub mod NormalForms

@@ -21,7 +21,7 @@ use Rattle.operad_ideals.proofs.Links.{member_zero, member_one, member_through}
 use Rattle.operad_ideals.proofs.HoleInstances.{ideals_are_one}
 use Rattle.shuffle_transfer.specs.Orderings.{IsOrdering, entry}
 use Rattle.shuffle_transfer.specs.Labels.{inputs_of, shuffle_form}
-use Rattle.shuffle_transfer.specs.Transfer.{relabelled, shuffled, Insertion, inserted, Transfer}
+use Rattle.shuffle_transfer.specs.Transfer.{relabelled, shuffled, RelationInsertion, inserted_relation, Transfer}
 use Rattle.shuffle_transfer.specs.Laws.{Kernel}
 use Rattle.shuffle_transfer.proofs.Permutes.{permutes_each}
 use Rattle.shuffle_transfer.proofs.Orderings.{ordering_permutes, entry_mem, mem_entry, entry_within}
@@ -122,8 +122,8 @@ module _ (p : Presentation) (n : ℕ) where
 
   module _ (sound : IsSound p) where
     -- an insertion into a frame as one into a slot
-    from_frame : (i : Insertion p n) → Member tree_discrete (slot_inserted p n) p.q (inserted p n i)
-    from_frame i = Member-same tree_discrete (slot_inserted p n) p.q {e = inserted p n i} {f = slot_inserted p n instance}
+    pub from_frame : (i : RelationInsertion p n) → Member tree_discrete (slot_inserted p n) p.q (inserted_relation p n i)
+    from_frame i = Member-same tree_discrete (slot_inserted p n) p.q {e = inserted_relation p n i} {f = slot_inserted p n instance}
         (λ t. Same-moved tree_discrete tree_discrete p.q (insert i.frame) (shuffled p r) (turned p r) (shuffled-turned p i.relation.arity r labels) t
         ∙ ap (λ e. coef tree_discrete e t % suc p.q) (moved_ext (insert i.frame) (fill_slot s.slot) (turned p r) s.inserts))
         (member_one tree_discrete (slot_inserted p n) p.q instance)
@@ -149,7 +149,7 @@ module _ (p : Presentation) (n : ℕ) where
         }
 
     -- and conversely
-    to_frame : (i : SlotInsertion p n) → Member tree_discrete (inserted p n) p.q (slot_inserted p n i)
+    pub to_frame : (i : SlotInsertion p n) → Member tree_discrete (inserted_relation p n) p.q (slot_inserted p n i)
     to_frame i = go i.relation.terms refl
       where
         k : ℕ
@@ -164,14 +164,14 @@ module _ (p : Presentation) (n : ℕ) where
         labels : AllTerms (relabelled i.permutation i.relation.terms) (IsLabelled arity i.relation.arity)
         labels = labelled-relabelled arity i.relation.arity i.permutation i.permutes i.relation.terms (sound i.relation i.there)
 
-        made : (x : Tree ℕ) → IsShuffle i.relation.arity x → IsShuffle n (fill_slot i.slot x) → Member tree_discrete (inserted p n) p.q (slot_inserted p n i)
-        made x hx v = Member-same tree_discrete (inserted p n) p.q {e = slot_inserted p n i} {f = inserted p n instance}
+        made : (x : Tree ℕ) → IsShuffle i.relation.arity x → IsShuffle n (fill_slot i.slot x) → Member tree_discrete (inserted_relation p n) p.q (slot_inserted p n i)
+        made x hx v = Member-same tree_discrete (inserted_relation p n) p.q {e = slot_inserted p n i} {f = inserted_relation p n instance}
             (λ t. sym (Same-moved tree_discrete tree_discrete p.q (insert f) (shuffled p r) (turned p r) (shuffled-turned p i.relation.arity r labels) t
             ∙ ap (λ e. coef tree_discrete e t % suc p.q)
             (moved_eq (insert f) (fill_slot i.slot) (IsShuffle i.relation.arity) (turned p r) (forms_shuffle i.relation.arity r labels) (insert-frame_of i.relation.arity n i.slot i.rises x hx v))))
-            (member_one tree_discrete (inserted p n) p.q instance)
+            (member_one tree_discrete (inserted_relation p n) p.q instance)
           where
-            instance : Insertion p n
+            instance : RelationInsertion p n
             instance = record {
               relation = i.relation;
               there = i.there;
@@ -183,8 +183,8 @@ module _ (p : Presentation) (n : ℕ) where
                   (λ y hy. sym (insert-frame_of i.relation.arity n i.slot i.rises x hx v y hy)) i.valid;
             }
 
-        go : (l : List (ℕ × Tree ℕ)) → i.relation.terms ≡ l → Member tree_discrete (inserted p n) p.q (slot_inserted p n i)
-        go [] e = subst (λ l. Member tree_discrete (inserted p n) p.q (moved (fill_slot i.slot) (turned p (relabelled i.permutation l)))) (sym e) (member_zero tree_discrete (inserted p n) p.q)
+        go : (l : List (ℕ × Tree ℕ)) → i.relation.terms ≡ l → Member tree_discrete (inserted_relation p n) p.q (slot_inserted p n i)
+        go [] e = subst (λ l. Member tree_discrete (inserted_relation p n) p.q (moved (fill_slot i.slot) (turned p (relabelled i.permutation l)))) (sym e) (member_zero tree_discrete (inserted_relation p n) p.q)
         go (x ∷ l) e =
             let h : AllTerms (turned p (relabelled i.permutation (x ∷ l))) (IsShuffle i.relation.arity) = subst (λ t. AllTerms (turned p (relabelled i.permutation t)) (IsShuffle i.relation.arity)) e (forms_shuffle i.relation.arity r labels) in
             let v : AllTerms (moved (fill_slot i.slot) (turned p (relabelled i.permutation (x ∷ l)))) Shuffles = subst (λ t. AllTerms (moved (fill_slot i.slot) (turned p (relabelled i.permutation t))) Shuffles) e i.valid in
@@ -192,14 +192,14 @@ module _ (p : Presentation) (n : ℕ) where
 
 pub transfer_law : Transfer
 transfer_law p n e sound h = (
-  λ m. Member-same tree_discrete (inserted p n) p.q {e = shuffled p e} {f = turned p e} (shuffled-turned p n e h)
-      (member_through tree_discrete p.q (slot_inserted p n) (inserted p n) (to_frame p n sound) (turned p e) (forward p n sound e ((ideals_are_one p n e sound).0 m))),
+  λ m. Member-same tree_discrete (inserted_relation p n) p.q {e = shuffled p e} {f = turned p e} (shuffled-turned p n e h)
+      (member_through tree_discrete p.q (slot_inserted p n) (inserted_relation p n) (to_frame p n sound) (turned p e) (forward p n sound e ((ideals_are_one p n e sound).0 m))),
   λ m. (ideals_are_one p n e sound).1 (backward p n sound e h
-      (member_through tree_discrete p.q (inserted p n) (slot_inserted p n) (from_frame p n sound) (turned p e)
-      (Member-same tree_discrete (inserted p n) p.q {e = turned p e} {f = shuffled p e} (λ t. sym (shuffled-turned p n e h t)) m))),
+      (member_through tree_discrete p.q (inserted_relation p n) (slot_inserted p n) (from_frame p n sound) (turned p e)
+      (Member-same tree_discrete (inserted_relation p n) p.q {e = turned p e} {f = shuffled p e} (λ t. sym (shuffled-turned p n e h t)) m))),
 )
 
-no_insertions : (p : Presentation) (n : ℕ) (l : List (ℕ × Insertion (without_relations p) n)) → expand (inserted (without_relations p) n) l ≡ []
+no_insertions : (p : Presentation) (n : ℕ) (l : List (ℕ × RelationInsertion (without_relations p) n)) → expand (inserted_relation (without_relations p) n) l ≡ []
 unfolding expand
 no_insertions p n [] = refl
 no_insertions p n (x ∷ l) = absurd x.1.there

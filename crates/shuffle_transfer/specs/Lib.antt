@@ -3,3 +3,6 @@ pub mod ShuffleForms
 pub mod Labels
 pub mod Transfer
 pub mod Laws
+pub mod Certified
+pub mod NormalTrees
+pub mod NormalLaws

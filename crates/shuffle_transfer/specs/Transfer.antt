@@ -29,7 +29,7 @@ module _ (p : Presentation) where
 
   -- An insertion of arity n: the shuffle form of a relabelled relation, inserted into a frame, so that shuffle trees of arity n come out
   -- (Dotsenko and Khoroshkin 2010, the ideal that elements generate in a free shuffle operad).
-  pub record Insertion (n : ℕ) : Type 0 where
+  pub record RelationInsertion (n : ℕ) : Type 0 where
     pub relation : Relation
     pub there : Mem relation p.relations
     pub permutation : List ℕ
@@ -38,12 +38,12 @@ module _ (p : Presentation) where
     pub is_frame : IsFrame relation.arity frame
     pub valid : AllTerms (moved (insert frame) (shuffled (relabelled permutation relation.terms))) (IsShuffleTree (inputs_of p) n)
 
-  abbrev pub inserted : (n : ℕ) → Insertion n → List (ℕ × Tree ℕ)
-  inserted n i = moved (insert i.frame) (shuffled (relabelled i.permutation i.relation.terms))
+  abbrev pub inserted_relation : (n : ℕ) → RelationInsertion n → List (ℕ × Tree ℕ)
+  inserted_relation n i = moved (insert i.frame) (shuffled (relabelled i.permutation i.relation.terms))
 
   -- the element is a sum of numbers times insertions
   abbrev pub IsSumOfInsertions : ℕ → List (ℕ × Tree ℕ) → Type 0
-  IsSumOfInsertions n e = Member tree_discrete (inserted n) p.q e
+  IsSumOfInsertions n e = Member tree_discrete (inserted_relation n) p.q e
 
 -- An element is in the ideal exactly where its shuffle form is a sum of insertions of shuffle forms of relabelled relations.
 abbrev pub Transfer : Type 0

@@ -2,6 +2,7 @@
 #![tactic(auto)]
 
 ghost use Rattle.shuffle_transfer.specs.Laws.{AllOrderings, Back, Forth, FramesBack, Kernel, LabelsAreWords, Spelling};
+ghost use Rattle.shuffle_transfer.specs.NormalLaws.{NormalTreesListed};
 ghost use Rattle.shuffle_transfer.specs.Transfer.{Transfer};
 
 /// Law: the list of relabellings has the permutations of 1 to m, each once, in lexicographic order.
@@ -31,4 +32,10 @@ pub fn transfer()
 /// Law: the tree of an insertion into a frame is the insertion of the trees.
 pub fn frames_back()
     ensures law { FramesBack }
+{}
+
+/// Law: for elements certified through an arity, the trees that no leading tree divides are the normal trees, independent
+/// and spanning modulo the ideal; each element has one normal form, and congruent elements have the same.
+pub fn normal_trees_listed()
+    ensures law { NormalTreesListed }
 {}
