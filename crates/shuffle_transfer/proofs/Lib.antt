@@ -25,3 +25,5 @@ pub mod Independent
 pub mod Spanning
 pub mod NormalTrees
 pub mod NormalForms
+pub mod Examples
+pub mod Jacobi
