@@ -49,9 +49,6 @@ mutual
   graft_row_ctx_assoc (here c r) s u = ap₂ here (graft_ctx_assoc c s u) (graft_row_assoc r s u)
   graft_row_ctx_assoc (past t c) s u = ap₂ past (graft_assoc t s u) (graft_row_ctx_assoc c s u)
 
-pub inside-eq : {A : Type 0} (l : ℕ) (c d : RowCtx A) → inside l c ≡ inside l d → c ≡ d
-inside-eq l c d e = cc
-
 mutual
   -- one context with two changes, filled to one tree
   pub same_ctx : {A B : Type 0} (c : Ctx A) (s u : A → Tree B) (x y : Tree B) → fill (graft_ctx c s) x ≡ fill (graft_ctx c u) y → graft_ctx c s ≡ graft_ctx c u

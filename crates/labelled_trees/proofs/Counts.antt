@@ -1,8 +1,8 @@
 -- A tree with n leaves that carries each of 1 to n carries nothing else.
 use Rattle.std.proofs.Common.{◌≡◌, ℕ, zero, suc, ◌+◌, ◌≤◌, ◌<◌, refl, sym, ◌∙◌, ap, arith, subst}
 use native.Mathlib.Decide.{ℕ_discrete, dec_lt}
-use Rattle.labelled_trees.specs.Trees.{Tree, Row, leaf, node, none, more}
-use Rattle.labelled_trees.specs.Leaves.{sum_leaves, sum_row, one_if, occurs, leaf_count}
+use Rattle.labelled_trees.specs.Trees.{Tree}
+use Rattle.labelled_trees.specs.Leaves.{sum_leaves, one_if, occurs, leaf_count}
 use Rattle.labelled_trees.specs.Labelled.{IsLabelled}
 use Rattle.labelled_trees.proofs.Leaves.{one_if-yes, one_if-no, sum_leaves-add, sum_leaves-≤, sum_leaves-same, by_leaf, AllLeaves-each, sum_leaves-zero}
 

@@ -1,6 +1,7 @@
 pub mod ContextLeaves
 pub mod Contexts
 pub mod Counts
+pub mod Examples
 pub mod Factors
 pub mod Fitting
 pub mod GraftLeaves

@@ -47,3 +47,7 @@ mutual
   by_counts_row b none h k = sym (range_sum-zero b h)
   by_counts_row b (more t r) h k =
       ap₂ (λ m n. m + n) (by_counts b t h k.0) (by_counts_row b r h k.1) ∙ sym (range_sum-add b (λ i. occurs i t) (λ i. occurs_row i r) h)
+
+pub range_sum-none : (b : ℕ) (f : ℕ → ℕ) → ((i : ℕ) → f i ≡ 0) → range_sum b f ≡ 0
+range_sum-none zero f h = refl
+range_sum-none (suc b) f h = omega (arith, range_sum-none b f h, h b)

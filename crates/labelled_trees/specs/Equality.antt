@@ -5,15 +5,18 @@ use mathlib.Core.Path.{ap₂}
 use native.Mathlib.Decide.{ℕ_discrete}
 use Rattle.labelled_trees.specs.Trees.{Tree, Row, leaf, node, none, more}
 
+-- leaves are one where their values are
 unfoldable pub same_leaf : {A : Type 0} (m n : A) → Dec (m ≡ n) → Dec (leaf m ≡ leaf n)
 same_leaf m n (yes e) = yes (ap leaf e)
 same_leaf m n (no f) = no (λ e. f (cc e))
 
+-- vertices are one where their numbers and inputs are
 unfoldable pub same_node : {A : Type 0} (l m : ℕ) (r s : Row A) → Dec (l ≡ m) → Dec (r ≡ s) → Dec (node l r ≡ node m s)
 same_node l m r s (yes e) (yes f) = yes (ap₂ node e f)
 same_node l m r s (no e) d = no (λ p. e (cc p))
 same_node l m r s (yes e) (no f) = no (λ p. f (cc p))
 
+-- rows are one where their first inputs and the others are
 unfoldable pub same_more : {A : Type 0} (t u : Tree A) (r s : Row A) → Dec (t ≡ u) → Dec (r ≡ s) → Dec (more t r ≡ more u s)
 same_more t u r s (yes e) (yes f) = yes (ap₂ more e f)
 same_more t u r s (no e) d = no (λ p. e (cc p))
@@ -40,6 +43,7 @@ unfoldable pub tree_discrete : (t u : Tree ℕ) → Dec (t ≡ u)
 unfolding tree_discrete_by
 tree_discrete = tree_discrete_by ℕ_discrete
 
+-- whether two rows of numbered trees are one
 unfoldable pub row_discrete : (r s : Row ℕ) → Dec (r ≡ s)
 unfolding row_discrete_by
 row_discrete = row_discrete_by ℕ_discrete

@@ -37,6 +37,7 @@ times dec x (y ∷ l) = one_if (dec y x) + times dec x l
 abbrev pub occurs : ℕ → Tree ℕ → ℕ
 occurs i t = sum_leaves t (λ n. one_if (ℕ_discrete n i))
 
+-- the same among the inputs of a row
 abbrev pub occurs_row : ℕ → Row ℕ → ℕ
 occurs_row i r = sum_row r (λ n. one_if (ℕ_discrete n i))
 
@@ -44,5 +45,6 @@ occurs_row i r = sum_row r (λ n. one_if (ℕ_discrete n i))
 abbrev pub leaf_count : {A : Type 0} → Tree A → ℕ
 leaf_count t = sum_leaves t (λ a. 1)
 
+-- the same among the inputs of a row
 abbrev pub leaf_count_row : {A : Type 0} → Row A → ℕ
 leaf_count_row r = sum_row r (λ a. 1)

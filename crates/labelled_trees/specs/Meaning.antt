@@ -5,6 +5,7 @@ use Rattle.labelled_trees.specs.declared.Tree as program
 use Rattle.labelled_trees.specs.declared.Tree.TheOpen.{Tree-F}
 use Rattle.labelled_trees.specs.declared.Tree.TheFolds.{fold-Tree}
 
+-- the meaning of one vertex or leaf, given those of its inputs
 abbrev pub tree_step : Tree-F (Tree ℕ) → Tree ℕ
 tree_step (Tree-F.Leaf i) = leaf i
 tree_step (Tree-F.Node g ts) = node g (row ts)

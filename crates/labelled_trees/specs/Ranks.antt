@@ -9,6 +9,6 @@ abbrev pub below : ℕ → Tree ℕ → ℕ
 below zero t = 0
 below (suc n) t = below n t + occurs n t
 
--- Each leaf has its rank, from 1, in place of its number (Dotsenko and Khoroshkin 2010, standardization).
+-- The standardised tree: each leaf has its rank, from 1, in place of its number.
 abbrev pub standard : Tree ℕ → Tree ℕ
 standard t = graft t (λ i. leaf (suc (below i t)))

@@ -1,4 +1,5 @@
 pub mod Diamond
+pub mod Examples
 pub mod Images
 pub mod Laws
 pub mod Lists

@@ -1,5 +1,5 @@
 -- Membership in lists, and rising lists.
-use Rattle.std.proofs.Common.{◌≡◌, ℕ, ◌<◌, List, [], ◌∷◌, true, map, refl, sym, ap, arith, inl, inr, ◌⊎◌}
+use Rattle.std.proofs.Common.{false, Bool, cond, ◌≡◌, ℕ, ◌<◌, List, [], ◌∷◌, true, map, refl, sym, ap, arith, inl, inr, ◌⊎◌}
 use mathlib.Core.List.{◌++◌}
 use mathlib.Core.Path.{ap₂}
 use native.Mathlib.Decide.{ℕ_discrete}
@@ -90,3 +90,8 @@ same_rising (x ∷ k) (y ∷ l) a b f g = ap₂ (λ v m. v ∷ m) one (same_risi
     drop_second : (u : ℕ) → Mem u l → (u ≡ x) ⊎ Mem u k → Mem u k
     drop_second u m (inl e) = absurd (omega (arith, b.0 u m, e, one))
     drop_second u m (inr n) = n
+
+-- both of two tests hold
+pub both_true : (b c : Bool) → cond b c false ≡ true → (b ≡ true) × (c ≡ true)
+both_true true c e = (refl, e)
+both_true false c e = absurd (cc e)

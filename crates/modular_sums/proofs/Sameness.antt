@@ -6,7 +6,7 @@ use native.Mathlib.Decide.{ℕ_discrete}
 use Rattle.modular_sums.specs.Lists.{Mem, holds, has_by}
 use Rattle.modular_sums.specs.Residues.{Alike}
 use Rattle.modular_sums.specs.Sums.{hit, coef, Same}
-use Rattle.modular_sums.proofs.Lists.{has_by_mem, mem_has_by, mem_left, mem_right}
+use Rattle.modular_sums.proofs.Lists.{both_true, has_by_mem, mem_has_by, mem_left, mem_right}
 
 -- the monomials of a sum
 abbrev pub monomials : {M : Type 0} → List (ℕ × M) → List M
@@ -25,10 +25,6 @@ yes_of : {A : Type 0} (d : Dec A) → is_yes d ≡ true → A
 yes_of (yes a) e = a
 yes_of (no f) e = absurd (cc e)
 
-both_of : (b c : Bool) → cond b c false ≡ true → (b ≡ true) × (c ≡ true)
-both_of true c e = (refl, e)
-both_of false c e = absurd (cc e)
-
 module _ {M : Type 0} (dec : Discrete M) where
   -- a monomial that doesn't stand in the sum
   not_there : (e : List (ℕ × M)) (t : M) → (Mem t (monomials e) → ⊥) → coef dec e t ≡ 0
@@ -42,7 +38,7 @@ module _ {M : Type 0} (dec : Discrete M) where
 
   agreed : (q : ℕ) (e f : List (ℕ × M)) (l : List M) → agree_at dec q e f l ≡ true → (t : M) → Mem t l → Alike q (coef dec e t) (coef dec f t)
   agreed q e f [] h t m = absurd m
-  agreed q e f (u ∷ l) h t m = go (both_of (is_yes (ℕ_discrete (coef dec e u % suc q) (coef dec f u % suc q))) (agree_at dec q e f l) h) (λ g n. agreed q e f l g t n) m
+  agreed q e f (u ∷ l) h t m = go (both_true (is_yes (ℕ_discrete (coef dec e u % suc q) (coef dec f u % suc q))) (agree_at dec q e f l) h) (λ g n. agreed q e f l g t n) m
     where
       go : (is_yes (ℕ_discrete (coef dec e u % suc q) (coef dec f u % suc q)) ≡ true) × (agree_at dec q e f l ≡ true)
           → (agree_at dec q e f l ≡ true → Mem t l → Alike q (coef dec e t) (coef dec f t)) → (t ≡ u) ⊎ Mem t l → Alike q (coef dec e t) (coef dec f t)

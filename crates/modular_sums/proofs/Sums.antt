@@ -1,4 +1,4 @@
--- Elements as lists of a number and a monomial.
+-- Coefficients of formal sums, spans and their multiples.
 use Rattle.std.proofs.Common.{suc, ◌%◌, sym, ap, ◌≡◌, ℕ, ◌+◌, ◌*◌, List, [], ◌∷◌, arith, refl, ◌∙◌}
 use mathlib.Core.List.{◌++◌}
 use mathlib.Core.Path.{ap₂}

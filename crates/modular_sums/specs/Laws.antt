@@ -18,6 +18,7 @@ pub record ResidueLaw (q : ℕ) : Type 0 where
   pub negative : (a : ℕ) → Alike q (a + q * a) 0
   pub cancelled : (a b c : ℕ) → Alike q (a + c) (b + c) → Alike q a b
 
+-- the same, for all of them
 abbrev pub Residues : Type 0
 Residues = (q : ℕ) → ResidueLaw q
 
@@ -32,6 +33,7 @@ pub record SumLaw (M : Type 0) (dec : Discrete M) (q : ℕ) : Type 0 where
   pub same_added : (e f g h : List (ℕ × M)) → Same dec q e f → Same dec q g h → Same dec q (e ++ g) (f ++ h)
   pub same_scaled : (c : ℕ) (e f : List (ℕ × M)) → Same dec q e f → Same dec q (scale c e) (scale c f)
 
+-- the same, for all of them
 abbrev pub Sums : Type 0 → Type 0
 Sums M = (dec : Discrete M) (q : ℕ) → SumLaw M dec q
 
@@ -43,6 +45,7 @@ pub record SpanLaw (M I : Type 0) (dec : Discrete M) (value : I → List (ℕ ×
   pub scaled : (c : ℕ) (e : List (ℕ × M)) → Member dec value q e → Member dec value q (scale c e)
   pub same : (e f : List (ℕ × M)) → Same dec q e f → Member dec value q f → Member dec value q e
 
+-- the same, for all of them
 abbrev pub Spans : Type 0 → Type 0 → Type 0
 Spans M I = (dec : Discrete M) (value : I → List (ℕ × M)) (q : ℕ) → SpanLaw M I dec value q
 

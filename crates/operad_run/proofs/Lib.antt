@@ -1,4 +1,5 @@
 pub mod AnswerSteps
+pub mod OneAnswer
 pub mod OneTable
 pub mod QueryLines
 pub mod Runs

@@ -22,7 +22,7 @@ one_kind Alt Free word h g = absurd g
 one_kind Free other word h g = absurd h
 
 -- a line gives one generator
-one_generator : (line : List Token) (generator other : Generator) → IsGeneratorLine line generator → IsGeneratorLine line other → generator ≡ other
+pub one_generator : (line : List Token) (generator other : Generator) → IsGeneratorLine line generator → IsGeneratorLine line other → generator ≡ other
 one_generator line generator other h g =
     let lines = sym h.line_is ∙ g.line_is in
     let name : h.name ≡ g.name = cc in

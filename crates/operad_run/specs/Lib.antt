@@ -4,4 +4,5 @@ pub mod Answers
 pub mod Documents
 pub mod OpeningLines
 pub mod Queries
+pub mod Laws
 pub mod Runs

@@ -3,6 +3,7 @@ ghost use Rattle.symmetric_trees.specs.Generators.{IsTable};
 ghost use Rattle.presentation_text.specs.Lines.{lines};
 ghost use Rattle.presentation_text.specs.Tokens.{tokens as tokens_of};
 ghost use Rattle.operad_run.specs.Documents.{IsAnswered, IsNoDocument};
+ghost use Rattle.operad_run.specs.Laws.{AnswersAreDetermined};
 ghost use Rattle.operad_run.specs.Queries.{AreAnswered, AreNoQueries};
 
 use crate::opening::{read_table, skip_opening};
@@ -52,3 +53,8 @@ pub fn forms(alloc: Global, text: &[u8], most: u8) -> Result<Option<Vec<u8>>, Al
         None => Ok(None),
     }
 }
+
+/// Law: a document has one answer, so the text of a run that is done is a function of the words and the bytes.
+pub fn answers_are_determined()
+    ensures law { AnswersAreDetermined }
+{}

@@ -10,5 +10,6 @@ mod status;
 #[cfg(test)]
 mod tests;
 
+pub use documents::answers_are_determined;
 pub use run::operad_run;
 pub use status::Status;

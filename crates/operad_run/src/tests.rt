@@ -1,3 +1,5 @@
+ghost use Rattle.std.specs.Prelude.{◌<◌};
+
 use crate::{Status, operad_run};
 use outside_io::{MemorySink, MemorySource};
 use std::alloc::{AllocError, Global};
@@ -16,7 +18,9 @@ fn words(alloc: Global, texts: &[&str]) -> Result<Vec<String>, AllocError> {
 }
 
 // A sink with ample room.
-fn sink(alloc: Global, chunk: usize, fail_at: &[u32]) -> Result<MemorySink, AllocError> {
+fn sink(alloc: Global, chunk: usize, fail_at: &[u32]) -> Result<MemorySink, AllocError>
+    requires { 0 < chunk }
+{
     MemorySink::new(alloc, 1000, chunk, fail_at.to_vec(alloc)?)
 }
 

@@ -1,21 +1,19 @@
 -- An example: one element over one binary label, its S-element, its reduction and the diamond lemma for it.
 use Rattle.std.proofs.Common.{arith, zero, suc, ◌⊎◌, ◌≤◌, ◌≡◌, ℕ, List, [], ◌∷◌, true, refl, sym, ◌∙◌, subst, inl, inr}
+use mathlib.Core.List.{◌++◌}
 use native.Mathlib.Decide.{ℕ_discrete}
 use Rattle.modular_sums.specs.Lists.{Mem, has_by}
 use Rattle.modular_sums.specs.Sums.{coef, scale, expand, Same}
-use Rattle.modular_sums.proofs.Lists.{has_by_mem}
 use Rattle.modular_sums.proofs.Sameness.{same_if_agree}
 use Rattle.labelled_trees.specs.Trees.{Tree, leaf}
 use Rattle.labelled_trees.specs.Equality.{same_leaf, same_node, same_more, tree_discrete_by, row_discrete_by, tree_discrete}
-use Rattle.shuffle_insertions.specs.ShuffleTrees.{IsShuffleTree}
 use Rattle.shuffle_insertions.specs.Keys.{key, path}
 use Rattle.shuffle_insertions.specs.Listing.{all_trees}
-use Rattle.shuffle_insertions.proofs.Laws.{listed}
-use Rattle.shuffle_insertions.proofs.Examples.{by_path, l, t1, t2, t3, no_weight, one_binary, one_label}
+use Rattle.shuffle_insertions.proofs.Examples.{by_path, valid_at, comb, l, t1, t2, t3, no_weight, one_binary, one_label}
 use Rattle.shuffle_places.specs.AllPlaces.{places}
 use Rattle.shuffle_places.proofs.Laws.{multiples_listed, places_listed}
-use Rattle.shuffle_places.proofs.Examples.{multiples_of_t1, comb, top_two, lower_two}
-use Rattle.shuffle_bases.proofs.Laws.{diamond}
+use Rattle.shuffle_places.proofs.Examples.{multiples_of_t1, comb_multiple, top_two, lower_two}
+use Rattle.shuffle_bases.proofs.Laws.{diamond, stand}
 use Rattle.shuffle_bases.specs.Elements.{Element, Setting, IsMonic, AreMonic, Insertion, value_of, s_element}
 use Rattle.shuffle_bases.specs.Reductions.{IsLed, SElementsReduce, ReducesBelow}
 use Rattle.shuffle_places.specs.Multiples.{IsMultiple}
@@ -43,9 +41,6 @@ unfolding ℕ_discrete tree_discrete tree_discrete_by row_discrete_by same_leaf 
 s_of_jacobi = same_if_agree tree_discrete 100 (s_element 100 jacobi jacobi comb top_two lower_two) four_terms refl
 
 -- ---- shuffle trees and places, found in their lists
-
-valid_at : (n : ℕ) (t : Tree ℕ) → has_by tree_discrete (all_trees 1 one_binary n) t ≡ true → IsShuffleTree one_binary n t
-valid_at n t h = (listed 1 one_binary one_label n).0.only t (has_by_mem tree_discrete (all_trees 1 one_binary n) t h)
 
 jacobi_monic : IsMonic setting jacobi
 unfolding ℕ_discrete tree_discrete tree_discrete_by row_discrete_by same_leaf same_node same_more
@@ -156,3 +151,8 @@ reduces m le g h o t first second mult = go g h (pair o) mult
 -- each sum of insertions of arity 4 is zero or is led by an insertion
 pub diamond_of_jacobi : (uses : List (ℕ × Insertion setting 4)) → Same tree_discrete 100 (expand value_of uses) [] ⊎ IsLed setting 4 (expand value_of uses)
 diamond_of_jacobi = diamond 1 setting one_label by_path monic 4 4 reduces (omega arith)
+
+-- the S-element is the difference of two insertions in the comb
+jacobi_stands : (i : Insertion setting 4) × (j : Insertion setting 4) × (i.tree ≡ comb) × (j.tree ≡ comb)
+    × (s_element 100 jacobi jacobi comb top_two lower_two ≡ value_of i ++ scale 100 (value_of j))
+jacobi_stands = stand setting monic 4 jacobi jacobi (inl refl) (inl refl) comb top_two lower_two comb_multiple

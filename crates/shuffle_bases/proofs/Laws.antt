@@ -15,7 +15,7 @@ use Rattle.shuffle_bases.specs.Laws.{DiamondLemma, SElementsStand}
 use Rattle.shuffle_bases.proofs.Placed.{Placed, host, value, insertion, placed, placed_value}
 use Rattle.shuffle_bases.proofs.Multiples.{small_meet}
 use Rattle.shuffle_bases.proofs.Ranking.{rank, rank_less, one_rank}
-use Rattle.shuffle_bases.proofs.Theorem.{diamond_lemma as by_rank}
+use Rattle.shuffle_bases.proofs.DiamondBySlots.{diamond_lemma as by_rank}
 
 module _ (labels : ℕ) (s : Setting) (are : AreLabels labels s.arity) (order : IsTreeOrder s.arity s.compare) (monic : AreMonic s)
     (N n : ℕ) (rows : SElementsReduce s N) (le : n ≤ N) where

@@ -1,8 +1,8 @@
+pub mod DiamondBySlots
 pub mod Examples
 pub mod Laws
 pub mod Multiples
 pub mod Placed
 pub mod Ranking
-pub mod Reduce
 pub mod Separate
-pub mod Theorem
+pub mod SharedVertices

@@ -28,7 +28,7 @@ use Rattle.labelled_trees.proofs.Contexts.{graft-fill}
 use Rattle.shuffle_insertions.proofs.Comparing.{less_nat, then_first}
 use Rattle.shuffle_insertions.proofs.Insertions.{once_of}
 use Rattle.shuffle_places.proofs.Vertices.{In}
-use Rattle.shuffle_places.proofs.Sets.{start_row_in}
+use Rattle.shuffle_places.proofs.PatternSets.{start_row_in}
 use Rattle.shuffle_places.proofs.Frames.{numbers-graft, cut_of_slot}
 
 in_order_self : (g : Element) (l : List Element) → Mem g l → InOrder g g l

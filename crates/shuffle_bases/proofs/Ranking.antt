@@ -12,23 +12,14 @@ use Rattle.shuffle_insertions.specs.ShuffleTrees.{IsShuffleTree}
 use Rattle.shuffle_insertions.specs.Labels.{AreLabels}
 use Rattle.shuffle_insertions.specs.Orders.{IsTreeOrder}
 use Rattle.shuffle_insertions.specs.Listing.{all_trees}
+use Rattle.shuffle_insertions.proofs.Comparing.{is_less, turn_greater}
 use Rattle.shuffle_insertions.proofs.Listing.{all_listed}
 use Rattle.shuffle_bases.specs.Elements.{Setting, IsLess}
-
-is_less : (o : Ordering) → is_lt o ≡ true → o ≡ Less
-is_less Less e = refl
-is_less Equal e = absurd (cc e)
-is_less Greater e = absurd (cc e)
 
 not_itself : (o : Ordering) → o ≡ ordering_reverse o → o ≡ Less → ⊥
 not_itself Less e h = absurd (cc e)
 not_itself Equal e h = absurd (cc h)
 not_itself Greater e h = absurd (cc h)
-
-turn_greater : (o p : Ordering) → o ≡ ordering_reverse p → o ≡ Greater → p ≡ Less
-turn_greater o Less e g = refl
-turn_greater o Equal e g = absurd (cc (e, g))
-turn_greater o Greater e g = absurd (cc (e, g))
 
 module _ (labels : ℕ) (s : Setting) (are : AreLabels labels s.arity) (order : IsTreeOrder s.arity s.compare) (n : ℕ) where
   less : Tree ℕ → Tree ℕ → Bool

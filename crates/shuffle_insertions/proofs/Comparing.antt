@@ -1,5 +1,5 @@
 -- Comparisons of numbers, words and lists, against the relations.
-use Rattle.std.proofs.Common.{◌≡◌, ℕ, ◌<◌, List, [], ◌∷◌, length, refl, sym, ◌∙◌, ap, arith, inl, inr, ◌⊎◌}
+use Rattle.std.proofs.Common.{true, ◌≡◌, ℕ, ◌<◌, List, [], ◌∷◌, length, refl, sym, ◌∙◌, ap, arith, inl, inr, ◌⊎◌}
 use mathlib.Core.Path.{ap₂}
 use mathlib.Core.List.{◌++◌}
 use Rattle.std.specs.declared.cmp.Ordering.{Ordering}
@@ -9,6 +9,8 @@ use Rattle.std.specs.Cmp.{IsTotalOrder}
 use Rattle.std.specs.Cmp.Lexicographic.{slice_cmp}
 use Rattle.std.proofs.lemmas.Cmp.{ranked, nat_cmp_total, nat_list_cmp_total, lists_total, then_total, back_total, on_total, tied_itself}
 use Rattle.shuffle_insertions.proofs.PathWords.{LexLess, WordLess, ShortLess}
+use Rattle.std.specs.Ordering.{ordering_reverse, is_lt}
+use Rattle.std.specs.declared.cmp.Ordering.TheVariants.{Greater}
 use Rattle.shuffle_insertions.specs.Keys.{word_cmp, short_cmp, Key, path, pathshort, leafpath, weightpath}
 
 pub word_total : IsTotalOrder word_cmp
@@ -134,3 +136,13 @@ short_less_of v w e = go (then_less (nat_cmp (length w) (length v)) (slice_cmp n
 pub of_short_less : (v w : List ℕ) → ShortLess v w → short_cmp v w ≡ Less
 of_short_less v w (inl h) = then_first (nat_cmp (length w) (length v)) (slice_cmp nat_cmp v w) (less_nat (length w) (length v) h)
 of_short_less v w (inr h) = then_second (nat_cmp (length w) (length v)) (slice_cmp nat_cmp v w) Less (same_nat (length w) (length v) (sym h.0)) (of_lex v w h.1)
+
+pub turn_greater : (o p : Ordering) → o ≡ ordering_reverse p → o ≡ Greater → p ≡ Less
+turn_greater o Less e g = refl
+turn_greater o Equal e g = absurd (cc (e, g))
+turn_greater o Greater e g = absurd (cc (e, g))
+
+pub is_less : (o : Ordering) → is_lt o ≡ true → o ≡ Less
+is_less Less e = refl
+is_less Equal e = absurd (cc e)
+is_less Greater e = absurd (cc e)

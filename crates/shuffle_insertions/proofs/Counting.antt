@@ -6,6 +6,7 @@ use Rattle.shuffle_insertions.specs.Listing.{joined_below, joined_splits, each_w
 use Rattle.shuffle_insertions.specs.Labels.{AreLabels}
 use Rattle.shuffle_insertions.specs.Counting.{binomial, row_count, lone_count, tree_count, trees}
 use Rattle.labelled_trees.specs.RangeSums.{range_sum}
+use Rattle.labelled_trees.proofs.RangeSums.{range_sum-none}
 
 ext_below : (b : ℕ) (f g : ℕ → ℕ) → ((i : ℕ) → i < b → f i ≡ g i) → range_sum b f ≡ range_sum b g
 ext_below zero f g h = refl
@@ -144,12 +145,8 @@ row_below f h (suc (suc k)) (suc n) two e = ext_below (suc n) (λ j. binomial n 
 pub too_few : (f : ℕ → ℕ) (k n : ℕ) → n < k → row_count f k n ≡ 0
 too_few f zero n lt = absurd (omega arith)
 too_few f (suc k) zero lt = refl
-too_few f (suc k) (suc n) lt = sum_none (suc n) (λ j. binomial n j * (f (suc j) * row_count f k (n - j)))
+too_few f (suc k) (suc n) lt = range_sum-none (suc n) (λ j. binomial n j * (f (suc j) * row_count f k (n - j)))
     (λ j. let z = too_few f k (n - j) (omega arith) in let c : f (suc j) * row_count f k (n - j) ≡ 0 = rw z (omega arith) in let d : binomial n j * (f (suc j) * row_count f k (n - j)) ≡ 0 = rw c (omega arith) in d)
-  where
-    sum_none : (b : ℕ) (f : ℕ → ℕ) → ((i : ℕ) → f i ≡ 0) → range_sum b f ≡ 0
-    sum_none zero f h = refl
-    sum_none (suc b) f h = omega (arith, sum_none b f h, h b)
 
 module _ (labels : ℕ) (arity : ℕ → ℕ) (are : AreLabels labels arity) where
   no_leaves : (d : ℕ) → tree_count labels arity d 0 ≡ 0
@@ -157,11 +154,7 @@ module _ (labels : ℕ) (arity : ℕ → ℕ) (are : AreLabels labels arity) whe
   no_leaves (suc d) =
       let e : range_sum labels (λ g. row_count (tree_count labels arity d) (arity g) 0) ≡ range_sum labels (λ g. 0)
       = ext_below labels (λ g. row_count (tree_count labels arity d) (arity g) 0) (λ g. 0) (λ g lt. too_few (tree_count labels arity d) (arity g) 0 (omega (arith, are.wide g lt))) in
-      omega (arith, e, none_at_all labels)
-    where
-      none_at_all : (b : ℕ) → range_sum b (λ g. 0) ≡ 0
-      none_at_all zero = refl
-      none_at_all (suc b) = omega (arith, none_at_all b)
+      omega (arith, e, range_sum-none labels (λ g. 0) (λ g. refl))
 
   -- levels enough
   pub enough_levels : (d e n : ℕ) → n ≤ d → n ≤ e → tree_count labels arity d n ≡ tree_count labels arity e n
@@ -175,11 +168,7 @@ module _ (labels : ℕ) (arity : ℕ → ℕ) (are : AreLabels labels arity) whe
   trees_one =
       let e : range_sum labels (λ g. row_count (tree_count labels arity 0) (arity g) 1) ≡ range_sum labels (λ g. 0)
       = ext_below labels (λ g. row_count (tree_count labels arity 0) (arity g) 1) (λ g. 0) (λ g lt. too_few (tree_count labels arity 0) (arity g) 1 (omega (arith, are.wide g lt))) in
-      omega (arith, e, none_at_all labels)
-    where
-      none_at_all : (b : ℕ) → range_sum b (λ g. 0) ≡ 0
-      none_at_all zero = refl
-      none_at_all (suc b) = omega (arith, none_at_all b)
+      omega (arith, e, range_sum-none labels (λ g. 0) (λ g. refl))
 
   -- two or more leaves: the sum over the labels
   pub trees_more : (n : ℕ) → trees labels arity (suc (suc n)) ≡ range_sum labels (λ g. row_count (trees labels arity) (arity g) (suc (suc n)))

@@ -9,7 +9,7 @@ use Rattle.shuffle_insertions.specs.Slots.{Slot, fill_slot, PartsRise}
 use Rattle.labelled_trees.proofs.Grafts.{graft_leaf}
 use Rattle.labelled_trees.proofs.Leaves.{by_leaf, at_leaf}
 use Rattle.labelled_trees.proofs.GraftLeaves.{sum_leaves-graft}
-use Rattle.shuffle_insertions.proofs.Counts.{same_counts, same_sums}
+use Rattle.shuffle_insertions.proofs.LabelSums.{same_counts, same_sums}
 use Rattle.labelled_trees.proofs.ContextLeaves.{sum-fill}
 use Rattle.shuffle_insertions.proofs.Rising.{head, rising_change, rising-fill, least-occurs, least-le}
 use Rattle.labelled_trees.proofs.Fitting.{fits_parts, fits-graft, fits_of_fill, fits-fill, fits_of_graft}

@@ -13,7 +13,7 @@ use Rattle.labelled_trees.specs.Leaves.{one_if, occurs, occurs_row}
 use Rattle.shuffle_insertions.specs.ShuffleTrees.{IsShuffle}
 use Rattle.shuffle_insertions.proofs.PathWords.{HasWord, HasWordRow, SameWord, LessByWords}
 use Rattle.shuffle_insertions.specs.Keys.{only_if, words_at, words_at_row, words_below}
-use Rattle.shuffle_insertions.proofs.Counts.{same_counts}
+use Rattle.shuffle_insertions.proofs.LabelSums.{same_counts}
 use Rattle.shuffle_insertions.proofs.Paths.{word_of, word-occurs, word-occurs_row}
 use Rattle.shuffle_insertions.proofs.Comparing.{then_less, then_first, then_second, list_same, itself, slice_cmp-append}
 use Rattle.shuffle_insertions.proofs.Insertions.{once_of}

@@ -1,12 +1,16 @@
 -- How often a tree or a row stands in a list of trees or rows.
-use Rattle.std.proofs.Common.{◌≡◌, ℕ, ◌+◌, ◌*◌, List, [], ◌∷◌, map, refl, ◌∙◌, arith}
+use Rattle.std.proofs.Common.{subst, inl, ◌≤◌, ap, ◌≡◌, ℕ, ◌+◌, ◌*◌, List, [], ◌∷◌, map, refl, ◌∙◌, arith}
 use mathlib.Core.Path.{ap₂}
 use native.Mathlib.Decide.{ℕ_discrete}
 use Rattle.labelled_trees.specs.Trees.{Tree, Row, leaf, node, none, more}
-use Rattle.labelled_trees.specs.Leaves.{times, one_if}
+use Rattle.labelled_trees.specs.Leaves.{occurs, times, one_if}
 use Rattle.shuffle_insertions.specs.Listing.{each_with_each, lone}
 use Rattle.labelled_trees.proofs.Leaves.{one_if-no}
 use Rattle.labelled_trees.proofs.Permutations.{times-append}
+use Rattle.shuffle_insertions.proofs.Splits.{count}
+use Rattle.shuffle_insertions.specs.ShuffleTrees.{IsRising, least}
+use Rattle.shuffle_insertions.proofs.Counted.{mem_times}
+use Rattle.shuffle_insertions.proofs.Rising.{least-occurs}
 
 one_if_and : (P Q R : Type 0) (d : Dec P) (e : Dec Q) (f : Dec R) → (P → Q × R) → (Q → R → P) → one_if d ≡ one_if e * one_if f
 one_if_and P Q R (yes p) (yes q) (yes r) f g = omega arith
@@ -15,6 +19,24 @@ one_if_and P Q R (yes p) (yes q) (no r) f g = absurd (r (f p).1)
 one_if_and P Q R (no p) (yes q) (yes r) f g = absurd (p (g q r))
 one_if_and P Q R (no p) (no q) e f g = omega arith
 one_if_and P Q R (no p) (yes q) (no r) f g = omega arith
+
+pub zero_times : (m n c : ℕ) → c ≡ m * n → m ≡ 0 → c ≡ 0
+zero_times m n c e z = e ∙ ap (λ k. k * n) z ∙ let k : 0 * n ≡ 0 = omega arith in k
+
+pub one_times : (m n c : ℕ) → c ≡ m * n → m ≡ 1 → n ≡ 1 → c ≡ 1
+one_times m n c e f g = e ∙ ap₂ (λ j k. j * k) f g
+
+-- the first leaf stands in the tree
+pub lead_occurs : (a : ℕ) (t : Tree ℕ) → least t ≡ a → IsRising t → (i : ℕ) → one_if (ℕ_discrete a i) ≤ occurs i t
+lead_occurs a t e h i = go (ℕ_discrete a i)
+  where
+    go : (d : Dec (a ≡ i)) → one_if d ≤ occurs i t
+    go (yes k) = subst (λ j. 1 ≤ occurs j t) (e ∙ k) (least-occurs t h)
+    go (no _) = omega arith
+
+pub empty_list : (l : List ℕ) → ((i : ℕ) → 0 ≡ count i l) → l ≡ []
+empty_list [] h = refl
+empty_list (a ∷ l) h = absurd (let o = mem_times ℕ_discrete a (a ∷ l) (inl refl) in let e = h a in omega (arith, o, e))
 
 module _ (dec : Discrete (Tree ℕ)) (decr : Discrete (Row ℕ)) where
   pub times_more : (t : Tree ℕ) (r : Row ℕ) (u : Tree ℕ) (rs : List (Row ℕ)) → times decr (more t r) (map (λ s. more u s) rs) ≡ one_if (dec u t) * times decr r rs

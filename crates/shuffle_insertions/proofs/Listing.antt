@@ -11,12 +11,12 @@ use Rattle.shuffle_insertions.specs.Labels.{AreLabels}
 use Rattle.shuffle_insertions.specs.Listing.{joined_below, each_with_each, rows, lone, shuffles, upto, all_trees, IsListing}
 use Rattle.labelled_trees.proofs.Leaves.{by_leaf, at_row, one_if-no, one_if-yes}
 use Rattle.labelled_trees.specs.RangeSums.{range_sum}
-use Rattle.labelled_trees.proofs.RangeSums.{range_sum-one, range_sum-past, range_sum_ext, by_counts}
+use Rattle.labelled_trees.proofs.RangeSums.{range_sum-none, range_sum-one, range_sum-past, range_sum_ext, by_counts}
 use Rattle.shuffle_insertions.proofs.Rising.{least-occurs, least_row-le}
 use Rattle.modular_sums.proofs.Lists.{tail_same}
 use Rattle.shuffle_insertions.proofs.Splits.{Split, count, split_count, mem_left_split, mem_right_split, left_rises, right_rises, times-splits, times-below, sum_zero, sum_some, sum_one}
 use Rattle.shuffle_insertions.proofs.Insertions.{once_of}
-use Rattle.shuffle_insertions.proofs.ListedRows.{times_node, none_each, node_lone, leaf_node, times_each}
+use Rattle.shuffle_insertions.proofs.ListedRows.{zero_times, one_times, lead_occurs, empty_list, times_node, none_each, node_lone, leaf_node, times_each}
 use Rattle.shuffle_insertions.proofs.Upto.{upto_rises, upto_count}
 use Rattle.shuffle_insertions.proofs.Counted.{distinct_times, times_mem, mem_times}
 use Rattle.labelled_trees.proofs.Permutations.{times-append}
@@ -67,15 +67,11 @@ first_of (a ∷ l) (more t r) h g n e =
     member (inr m) = let k = h.0 (least t) m in omega arith
 
 module _ (labels : ℕ) (arity : ℕ → ℕ) (are : AreLabels labels arity) (dec : Discrete (Tree ℕ)) (decr : Discrete (Row ℕ)) where
-  zero_range : (b : ℕ) (f : ℕ → ℕ) → ((i : ℕ) → f i ≡ 0) → range_sum b f ≡ 0
-  zero_range zero f h = refl
-  zero_range (suc b) f h = omega (arith, zero_range b f h, h b)
-
   times_leaf : (d n : ℕ) (l : List ℕ) → times dec (leaf n) (shuffles labels arity (suc d) l) ≡ times dec (leaf n) (lone l)
   times_leaf d n l =
       times-append dec (leaf n) (lone l) (joined_below labels (λ g. map (λ r. node g r) (rows (shuffles labels arity d) (arity g) l)))
       ∙ ap (λ m. times dec (leaf n) (lone l) + m) (times-below dec (leaf n) labels (λ g. map (λ r. node g r) (rows (shuffles labels arity d) (arity g) l))
-      ∙ zero_range labels (λ g. times dec (leaf n) (map (λ r. node g r) (rows (shuffles labels arity d) (arity g) l))) (λ g. leaf_node dec decr n g (rows (shuffles labels arity d) (arity g) l)))
+      ∙ range_sum-none labels (λ g. times dec (leaf n) (map (λ r. node g r) (rows (shuffles labels arity d) (arity g) l))) (λ g. leaf_node dec decr n g (rows (shuffles labels arity d) (arity g) l)))
       ∙ let k : times dec (leaf n) (lone l) + 0 ≡ times dec (leaf n) (lone l) = omega arith in k
 
   times_vertex : (d g : ℕ) (r : Row ℕ) (l : List ℕ) → times dec (node g r) (shuffles labels arity (suc d) l) ≡ range_sum labels (λ h. one_if (ℕ_discrete g h) * times decr r (rows (shuffles labels arity d) (arity h) l))
@@ -126,12 +122,6 @@ module _ (labels : ℕ) (arity : ℕ → ℕ) (are : AreLabels labels arity) (de
         (only_rows k s.second r (right_rises s.split h.1) rp)
 
     module _ (P : Tree ℕ → Type 0) (each : (l : List ℕ) (t : Tree ℕ) → Rises l → Good arity l t → P t → times dec t (t_of l) ≡ 1) where
-      zero_times : (m n c : ℕ) → c ≡ m * n → m ≡ 0 → c ≡ 0
-      zero_times m n c e z = e ∙ ap (λ k. k * n) z ∙ let k : 0 * n ≡ 0 = omega arith in k
-
-      one_times : (m n c : ℕ) → c ≡ m * n → m ≡ 1 → n ≡ 1 → c ≡ 1
-      one_times m n c e f g = e ∙ ap₂ (λ j k. j * k) f g
-
       -- the first input of a good row
       first_good : (k a : ℕ) (l b c : List ℕ) (t : Tree ℕ) (r : Row ℕ) → least t ≡ a → GoodRow arity (suc k) (a ∷ l) (more t r) → ((i : ℕ) → count i b ≡ occurs i t - one_if (ℕ_discrete a i))
           → ((i : ℕ) → one_if (ℕ_discrete a i) ≤ occurs i t) → Good arity (a ∷ b) t
@@ -151,17 +141,6 @@ module _ (labels : ℕ) (arity : ℕ → ℕ) (are : AreLabels labels arity) (de
         inputs_are = i;
         first = λ p. first_of c r h g (has_input r (omega (arith, p, i))) (λ i. sym (e i));
       }
-
-      lead_occurs : (a : ℕ) (t : Tree ℕ) → least t ≡ a → IsRising t → (i : ℕ) → one_if (ℕ_discrete a i) ≤ occurs i t
-      lead_occurs a t e h i = go (ℕ_discrete a i)
-        where
-          go : (d : Dec (a ≡ i)) → one_if d ≤ occurs i t
-          go (yes k) = subst (λ j. 1 ≤ occurs j t) (e ∙ k) (least-occurs t h)
-          go (no _) = omega arith
-
-      empty_list : (l : List ℕ) → ((i : ℕ) → 0 ≡ count i l) → l ≡ []
-      empty_list [] h = refl
-      empty_list (a ∷ l) h = absurd (let o = mem_times ℕ_discrete a (a ∷ l) (inl refl) in let e = h a in omega (arith, o, e))
 
       at_more : (k a : ℕ) (l : List ℕ) (t : Tree ℕ) (r : Row ℕ) → Rises (a ∷ l) → GoodRow arity (suc k) (a ∷ l) (more t r) → P t
           → ((c : List ℕ) → Rises c → GoodRow arity k c r → times decr r (rows t_of k c) ≡ 1) → least t ≡ a → times decr (more t r) (rows t_of (suc k) (a ∷ l)) ≡ 1

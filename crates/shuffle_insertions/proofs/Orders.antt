@@ -1,4 +1,4 @@
--- The comparison by words, then by the leaf row, is kept by insertion.
+-- The comparison by the leaf row is kept by insertion.
 use Rattle.std.proofs.Common.{◌≡◌, ℕ, List, [], ◌∷◌, refl, sym, ◌∙◌, ap, subst, inl, inr, append_assoc}
 use mathlib.Core.Path.{ap₂}
 use mathlib.Core.List.{◌++◌, append-nil}
@@ -72,12 +72,3 @@ less_rows k s r (x ∷ v) (y ∷ w) a b (inl lt) =
     rw (p.1, o.1) (inl (r.order x y a.0.0 lt b.0.1))
 less_rows k s r (x ∷ v) (y ∷ w) a b (inr h) =
     subst (λ m. LexLess (leaves (s x) ++ rows v s) (leaves (s m) ++ rows w s)) h.0 (LexLess-under (leaves (s x)) (rows v s) (rows w s) (less_rows k s r v w a.1 b.1 h.1))
-
--- what the diamond lemma asks of an order
-pub path_kept : (k n : ℕ) (f : Slot) (x y : Tree ℕ) → PartsRise k f.parts → IsShuffle k x → IsShuffle k y → IsShuffle n (fill_slot f y) → PathLess x y → PathLess (fill_slot f x) (fill_slot f y)
-path_kept k n f x y rise hx hy vy (inl h) = inl (words_kept k n f x y rise hx hy (fill_slot-valid k n f y x rise hy hx vy) WordLess WordLess-between h)
-path_kept k n f x y rise hx hy vy (inr h) = inr record {
-  words = λ j. same_after k n f x y rise hx hy (fill_slot-valid k n f y x rise hy hx vy) j (λ i v a hv. h.words i);
-  less = less-fill f.context (graft x f.parts) (graft y f.parts)
-      (rw (leaves-graft x f.parts, leaves-graft y f.parts) (less_rows k f.parts rise (leaves x) (leaves y) (all_in x (InRange k) (all_among k x hx)) (all_in y (InRange k) (all_among k y hy)) h.less));
-}

@@ -51,13 +51,7 @@ pub record LessByWords (Before : List ℕ → List ℕ → Type 0) (x y : Tree �
   pub before : (j : ℕ) → j < at → SameWord x y j
   pub less : Before first_word second_word
 
-pub record LessByRow (x y : Tree ℕ) : Type 0 where
-  pub words : (j : ℕ) → SameWord x y j
-  pub less : LexLess (leaves x) (leaves y)
-
-abbrev pub PathLess : Tree ℕ → Tree ℕ → Type 0
-PathLess x y = LessByWords WordLess x y ⊎ LessByRow x y
-
+-- the labels from the root to the hole
 abbrev mutual
   pub hole_word : {A : Type 0} → Ctx A → List ℕ
   hole_word hole = []

@@ -18,16 +18,16 @@ use Rattle.shuffle_insertions.specs.Slots.{Slot, fill_slot, PartsRise}
 use Rattle.shuffle_insertions.proofs.PathWords.{HasWord}
 use Rattle.shuffle_insertions.specs.Keys.{words_at, words_below, weight, weight_row, word_cmp, short_cmp, Key, key, path, pathshort, leafpath, weightpath}
 use Rattle.shuffle_insertions.specs.Orders.{IsTreeOrder}
-use Rattle.shuffle_insertions.proofs.Counts.{same_sums}
+use Rattle.shuffle_insertions.proofs.LabelSums.{same_sums}
 use Rattle.labelled_trees.proofs.RangeSums.{by_counts}
 use Rattle.labelled_trees.specs.RangeSums.{range_sum}
 use Rattle.labelled_trees.proofs.Leaves.{by_leaf}
 use Rattle.shuffle_insertions.proofs.Insertions.{InRange, all_among, fill_slot-valid, once_of}
 use Rattle.shuffle_insertions.proofs.Paths.{word-occurs, WordLess-between, ShortLess-between, words_kept, same_after}
 use Rattle.shuffle_insertions.proofs.Orders.{rows, less-fill, leaves-graft, less_rows, all_in}
-use Rattle.shuffle_insertions.proofs.Comparing.{nat_less, nat_same, less_nat, same_nat, then_less, then_equal, then_first, then_second, list_same, itself, lex_of, of_lex, word_same, short_same, word_less_of, of_word_less, short_less_of, of_short_less, word_total, short_total, path_total, pathshort_total, leafpath_total, weightpath_total}
+use Rattle.shuffle_insertions.proofs.Comparing.{turn_greater, nat_less, nat_same, less_nat, same_nat, then_less, then_equal, then_first, then_second, list_same, itself, lex_of, of_lex, word_same, short_same, word_less_of, of_word_less, short_less_of, of_short_less, word_total, short_total, path_total, pathshort_total, leafpath_total, weightpath_total}
 use Rattle.shuffle_insertions.proofs.Keys.{has_at, all_same, below_of_same, less_of, of_less, at_all}
-use Rattle.shuffle_insertions.proofs.Determine.{words_tagged, determined, tag}
+use Rattle.shuffle_insertions.proofs.DeterminedByWords.{words_tagged, determined, tag}
 use Rattle.shuffle_insertions.proofs.Frames.{slot_of}
 
 -- insertion keeps what a comparison says, where it says less or equal
@@ -181,11 +181,6 @@ module _ (arity : ℕ → ℕ) (w : ℕ → ℕ) (C : Key → Key → Ordering) 
       word_is : (j : ℕ) (v : List ℕ) (z : Tree ℕ) → IsShuffle n z → HasWord z j v → words_at j x ≡ words_at j z → head (words_at j x) ≡ v
       word_is j v z hz h q = ap head (q ∙ has_at z j v (once_of n z hz j) h)
 
-  turn : (o p : Ordering) → o ≡ ordering_reverse p → o ≡ Greater → p ≡ Less
-  turn o Less e g = refl
-  turn o Equal e g = absurd (cc (e, g))
-  turn o Greater e g = absurd (cc (e, g))
-
   kept_at : (k n : ℕ) (f : Slot) (x y : Tree ℕ) → PartsRise k f.parts → IsShuffle k x → IsShuffle k y → IsShuffle n (fill_slot f x)
       → (o : Ordering) → C (key_at w k x) (key_at w k y) ≡ o → C (key_at w n (fill_slot f x)) (key_at w n (fill_slot f y)) ≡ o
   kept_at k n f x y r hx hy v Less e = keeps.less k n f x y r hx hy v e
@@ -193,7 +188,7 @@ module _ (arity : ℕ → ℕ) (w : ℕ → ℕ) (C : Key → Key → Ordering) 
   kept_at k n f x y r hx hy v Greater e =
       total.antisymm (key_at w n (fill_slot f x)) (key_at w n (fill_slot f y))
       ∙ ap ordering_reverse (keeps.less k n f y x r hy hx (fill_slot-valid k n f x y r hx hy v)
-      (turn (C (key_at w k x) (key_at w k y)) (C (key_at w k y) (key_at w k x)) (total.antisymm (key_at w k x) (key_at w k y)) e))
+      (turn_greater (C (key_at w k x) (key_at w k y)) (C (key_at w k y) (key_at w k x)) (total.antisymm (key_at w k x) (key_at w k y)) e))
 
   as_key : (n : ℕ) (x : Tree ℕ) → IsShuffle n x → key w x ≡ key_at w n x
   as_key n x h = ap (λ m. key_at w m x) (leaves_count n x h)

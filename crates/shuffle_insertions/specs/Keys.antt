@@ -7,6 +7,7 @@ use Rattle.std.specs.Cmp.Lexicographic.{slice_cmp}
 use native.Mathlib.Decide.{ℕ_discrete}
 use Rattle.labelled_trees.specs.Trees.{Tree, Row, leaf, node, none, more, leaves}
 
+-- the list of a alone where a decided fact holds, else none
 abbrev pub only_if : {A B : Type 0} → Dec B → A → List A
 only_if (yes _) a = a ∷ []
 only_if (no _) a = []
@@ -44,24 +45,30 @@ word_cmp v w = ordering_then (nat_cmp (length v) (length w)) (slice_cmp nat_cmp 
 abbrev pub short_cmp : List ℕ → List ℕ → Ordering
 short_cmp v w = ordering_then (nat_cmp (length w) (length v)) (slice_cmp nat_cmp v w)
 
--- what the orders see of a tree: the words of the leaves 1, 2 and so on, the leaf row and the weight
+-- What the orders see of a tree: the words of the leaves 1, 2 and so on, from the root to each leaf, the numbers at the leaves
+-- from left to right, and the weight (Dotsenko and Khoroshkin 2010, path sequences and permutations of tree monomials).
 pub record Key : Type 0 where
   pub words : List (List ℕ)
   pub row : List ℕ
   pub weight : ℕ
 
+-- By path: the words of leaf 1 are compared, then those of leaf 2 and so on, a longer word being greater; then the leaf rows
+-- (Dotsenko and Khoroshkin 2010, path-lexicographic ordering).
 abbrev pub path : Key → Key → Ordering
 path a b = ordering_then (slice_cmp word_cmp a.words b.words) (slice_cmp nat_cmp a.row b.row)
 
+-- By short paths: the same, but a shorter word is greater (Bremner and Dotsenko 2016, reverse path-lexicographic ordering).
 abbrev pub pathshort : Key → Key → Ordering
 pathshort a b = ordering_then (slice_cmp short_cmp a.words b.words) (slice_cmp nat_cmp a.row b.row)
 
+-- By leaves, then path: the leaf rows are compared first.
 abbrev pub leafpath : Key → Key → Ordering
 leafpath a b = ordering_then (slice_cmp nat_cmp a.row b.row) (slice_cmp word_cmp a.words b.words)
 
+-- By weight, then path: a heavier tree is greater.
 abbrev pub weightpath : Key → Key → Ordering
 weightpath a b = ordering_then (nat_cmp a.weight b.weight) (path a b)
 
--- the key of a tree whose leaves are 1 to their number
+-- the key of a tree whose leaves are numbered from 1 to their number
 abbrev pub key : (ℕ → ℕ) → Tree ℕ → Key
 key f t = record { words = words_below (suc (length (leaves t))) t; row = leaves t; weight = weight f t }

@@ -2,8 +2,7 @@
 use Rattle.std.proofs.Common.{◌≡◌, ℕ, ◌<◌, ◌≤◌, List, [], ◌∷◌, Bool, true, false, cond, refl, sym, ◌∙◌, ap, arith, subst, inl, inr, ◌⊎◌}
 use mathlib.Core.List.{◌++◌}
 use native.Mathlib.Decide.{dec_lt}
-use Rattle.std.specs.declared.cmp.Ordering.{Ordering}
-use Rattle.std.specs.declared.cmp.Ordering.TheVariants.{Less, Equal, Greater}
+use Rattle.std.specs.declared.cmp.Ordering.TheVariants.{Less}
 use Rattle.std.specs.Ordering.{nat_cmp, is_lt}
 use Rattle.std.specs.Cmp.Lexicographic.{slice_cmp}
 use Rattle.labelled_trees.specs.Trees.{Tree, IsNode, vertices}
@@ -18,13 +17,14 @@ use Rattle.shuffle_places.specs.Numberings.{numberings}
 use Rattle.shuffle_places.specs.AllPlaces.{places}
 use Rattle.shuffle_places.specs.Multiples.{IsMultiple}
 use Rattle.shuffle_places.specs.AllMultiples.{meet, cover, in_order, test, joined, different, multiples, only_where}
-use Rattle.modular_sums.proofs.Lists.{mem_has_by, has_by_mem, has_mem, mem_has, mem_either, mem_left, mem_right}
+use Rattle.modular_sums.proofs.Lists.{both_true, mem_has_by, has_by_mem, has_mem, mem_has, mem_either, mem_left, mem_right}
 use Rattle.shuffle_places.proofs.Overlays.{multiple_shape}
 use Rattle.shuffle_places.proofs.Numberings.{all_numbered}
 use Rattle.shuffle_places.proofs.AllPlaces.{listed_place, place_listed, places_distinct}
 use Rattle.shuffle_insertions.proofs.Counted.{mem_times, times_mem, distinct_times}
 use Rattle.shuffle_insertions.proofs.Upto.{in_upto, upto_mem}
 use Rattle.labelled_trees.specs.Leaves.{times}
+use Rattle.shuffle_insertions.proofs.Comparing.{is_less}
 
 when_true : (b c : Bool) → b ≡ true → cond b true c ≡ true
 when_true true c e = refl
@@ -37,10 +37,6 @@ when_second false c e = e
 one_true : (b c : Bool) → cond b true c ≡ true → (b ≡ true) ⊎ (c ≡ true)
 one_true true c e = inl refl
 one_true false c e = inr e
-
-both_true : (b c : Bool) → cond b c false ≡ true → (b ≡ true) × (c ≡ true)
-both_true true c e = (refl, e)
-both_true false c e = absurd (cc e)
 
 true_both : (b c : Bool) → b ≡ true → c ≡ true → cond b c false ≡ true
 true_both true c d e = e
@@ -87,16 +83,11 @@ is_cover (x ∷ m) k l h = step_cover (has k x) (has l x) (cover m k l) (go (h x
     go (inl p) = inl (mem_has k x p)
     go (inr p) = inr (mem_has l x p)
 
-less_is : (o : Ordering) → is_lt o ≡ true → o ≡ Less
-less_is Less e = refl
-less_is Equal e = absurd (cc e)
-less_is Greater e = absurd (cc e)
-
 ordered_of : (a b : Tree ℕ) (k l : List ℕ) → in_order a b k l ≡ true → a ≡ b → slice_cmp nat_cmp k l ≡ Less
 ordered_of a b k l e q = go (tree_discrete a b) e
   where
     go : (d : Dec (a ≡ b)) → only_where d (is_lt (slice_cmp nat_cmp k l)) ≡ true → slice_cmp nat_cmp k l ≡ Less
-    go (yes _) e = less_is (slice_cmp nat_cmp k l) e
+    go (yes _) e = is_less (slice_cmp nat_cmp k l) e
     go (no f) e = absurd (f q)
 
 of_ordered : (a b : Tree ℕ) (k l : List ℕ) → (a ≡ b → slice_cmp nat_cmp k l ≡ Less) → in_order a b k l ≡ true

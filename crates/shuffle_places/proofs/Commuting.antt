@@ -56,7 +56,7 @@ below_first i j node miss a = go (within i.at.parts i.tree a.rest (graft j.tree 
         let at : j.at.context ≡ compose i.at.context (graft_ctx w.front i.at.parts)
         = a.is ∙ ap (compose i.at.context) (w.hole_is ∙ ap (compose (graft_ctx w.front i.at.parts)) h.0 ∙ compose-hole (graft_ctx w.front i.at.parts)) in
         let top : ℕ = start (start 1 i.at.context) (graft_ctx w.front i.at.parts) in
-        let same : start 1 j.at.context ≡ top = ap (start 1) at ∙ Rattle.shuffle_places.proofs.Sets.start-compose 1 i.at.context (graft_ctx w.front i.at.parts) in
+        let same : start 1 j.at.context ≡ top = ap (start 1) at ∙ Rattle.shuffle_places.proofs.PatternSets.start-compose 1 i.at.context (graft_ctx w.front i.at.parts) in
         miss top
         (subst (λ x. Mem top (numbers i.at.parts (start 1 i.at.context) x)) (sym w.is) (numbers_fill i.at.parts (start 1 i.at.context) w.front w.part top (root_mem i.at.parts top w.part h.1)))
         (subst (λ k. Mem k (numbers j.at.parts (start 1 j.at.context) j.tree)) same (root_mem j.at.parts (start 1 j.at.context) j.tree node)))

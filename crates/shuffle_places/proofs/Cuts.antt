@@ -13,7 +13,7 @@ use Rattle.labelled_trees.proofs.Grafts.{graft_leaf}
 use Rattle.labelled_trees.proofs.Contexts.{node-eq, more-eq}
 use Rattle.modular_sums.proofs.Lists.{same_rising, mem_has, has_mem, tail_same, mem_left, mem_right, mem_either}
 use Rattle.shuffle_places.proofs.Vertices.{In, numbers_in, numbers_row_in, join-cut, join-cut_row, cut-numbers}
-use Rattle.shuffle_places.proofs.Sets.{At, vertex_at, edge_in, edge_row_in, edge_inside, start_in, start_row_in, node_has, numbers_rise, numbers_connected}
+use Rattle.shuffle_places.proofs.PatternSets.{At, vertex_at, edge_in, edge_row_in, edge_inside, start_in, start_row_in, node_has, numbers_rise, numbers_connected}
 
 both_members : (P : Type 0) (u : ℕ) (k l : List ℕ) → (Mem u k → P) → (Mem u l → P) → Mem u k ⊎ Mem u l → P
 both_members P u k l f g (inl m) = f m
@@ -236,9 +236,3 @@ cut_of_connected host set h =
 
 pub connected_of_cut : (host : Tree ℕ) (set : List ℕ) (divisor : Tree ℕ) → IsCut host set divisor → IsConnected host set
 connected_of_cut host set divisor p = connected_of host set record { context = p.context; pattern_at = p.pattern_at; is_node = p.is_node; host_is = p.host_is; set_is = p.set_is }
-
-pub one_divisor : (host : Tree ℕ) (set : List ℕ) (d e : Tree ℕ) → IsCut host set d → IsCut host set e → d ≡ e
-one_divisor host set d e p q =
-    let h = one_cut host set record { context = p.context; pattern_at = p.pattern_at; is_node = p.is_node; host_is = p.host_is; set_is = p.set_is }
-    record { context = q.context; pattern_at = q.pattern_at; is_node = q.is_node; host_is = q.host_is; set_is = q.set_is } in
-    p.divisor_is ∙ ap (λ x. standard (graft x (λ v. leaf (least v)))) h.1 ∙ sym q.divisor_is

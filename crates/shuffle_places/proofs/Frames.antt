@@ -1,3 +1,4 @@
+-- Slots and places: the place of a slot, the slot at a place, and the frame of both.
 use Rattle.std.proofs.Common.{[], map, inl, inr, ◌⊎◌, ◌≡◌, ℕ, zero, suc, ◌+◌, ◌<◌, ◌≤◌, List, ◌∷◌, refl, sym, ◌∙◌, ap, arith, subst}
 use mathlib.Core.List.{◌++◌}
 use mathlib.Core.Path.{ap₂}
@@ -91,7 +92,6 @@ module _ (m : ℕ) (f : Slot) (d : Tree ℕ) (hd : IsShuffle m d) (rise : PartsR
         ∙ graft_leaf d);
   }
 
-
   -- the rank of each part among the parts
   find : (l : List ℕ) (i : ℕ) → ((j : ℕ) → Mem j l → InRange m j) → Mem i l → of_rank (graft d (λ j. leaf (least (f.parts j)))) (map f.parts l) i ≡ f.parts i
   find [] i h mem = absurd mem
@@ -127,6 +127,7 @@ module _ (m : ℕ) (f : Slot) (d : Tree ℕ) (hd : IsShuffle m d) (rise : PartsR
       let host : fill_slot f d ≡ fill f.context (join (graft d (λ i. leaf (f.parts i)))) = ap (fill f.context) (sym (graft_assoc d (λ i. leaf (f.parts i)) (λ v. v))) in
       let set : numbers f.parts (start 1 f.context) d ≡ numbers (λ v. v) (start 1 f.context) (graft d (λ i. leaf (f.parts i))) = sym (numbers-graft d f.parts (λ v. v) (start 1 f.context)) in
       ap₂ frame_at set host ∙ ap₂ (λ h l. record { hole = h; inputs = l }) o.1 (ap inputs_of o.0 ∙ inputs_are)
+
 -- the frame at a place
 pub record SlotAt (host : Tree ℕ) (set : List ℕ) (divisor : Tree ℕ) : Type 0 where
   pub arity : ℕ

@@ -11,8 +11,8 @@ pub mod Laws
 pub mod Numberings
 pub mod Overlaps
 pub mod Overlays
+pub mod PatternSets
 pub mod Places
 pub mod RankedParts
-pub mod Sets
 pub mod Sizes
 pub mod Vertices

@@ -9,16 +9,19 @@ use Rattle.labelled_trees.specs.Equality.{row_discrete}
 use Rattle.modular_sums.specs.Lists.{Mem, Rises}
 use Rattle.shuffle_insertions.specs.Listing.{each_with_each, lone, upto}
 use Rattle.shuffle_places.specs.Overlays.{shape, shape_row}
-use Rattle.shuffle_places.specs.Numberings.{numberings, numberings_row, IsNumbering}
+use Rattle.shuffle_places.specs.Numberings.{numberings, numberings_row}
 use Rattle.labelled_trees.proofs.Leaves.{one_if-no, one_if-yes}
-use Rattle.shuffle_insertions.proofs.Rising.{least-occurs}
 use Rattle.modular_sums.proofs.Lists.{tail_same}
 use Rattle.labelled_trees.proofs.Contexts.{node-eq, more-eq}
 use Rattle.shuffle_insertions.proofs.Splits.{Split, count, split_count, mem_left_split, mem_right_split, left_rises, right_rises, times-splits, sum_zero, sum_some, sum_one}
 use Rattle.shuffle_insertions.proofs.Listing.{first_of, pos_left, pos_right}
-use Rattle.shuffle_insertions.proofs.ListedRows.{times_each, none_each, times_node, leaf_node}
+use Rattle.shuffle_insertions.proofs.ListedRows.{zero_times, empty_list, lead_occurs, one_times, times_each, none_each, times_node, leaf_node}
 use Rattle.shuffle_insertions.proofs.Upto.{upto_rises, upto_count}
-use Rattle.shuffle_insertions.proofs.Counted.{mem_times}
+
+-- the list has each shuffle tree of the shape once, and nothing else
+pub record IsNumbering (n : ℕ) (form : Tree (Unit {0})) (dec : Discrete (Tree ℕ)) (l : List (Tree ℕ)) : Type 0 where
+  pub only : (t : Tree ℕ) → 0 < times dec t l → IsShuffle n t × (shape t ≡ form)
+  pub each : (t : Tree ℕ) → IsShuffle n t → shape t ≡ form → times dec t l ≡ 1
 
 -- a tree over the leaf numbers of a list
 pub record Plain (l : List ℕ) (t : Tree ℕ) : Type 0 where
@@ -31,17 +34,6 @@ pub record PlainRow (l : List ℕ) (r : Row ℕ) : Type 0 where
   pub rising : IsRisingRow r
   pub counts : (i : ℕ) → occurs_row i r ≡ count i l
   pub first : HasInput r → (others : List ℕ) × (l ≡ least_row r ∷ others)
-
-lead_occurs : (a : ℕ) (t : Tree ℕ) → least t ≡ a → IsRising t → (i : ℕ) → one_if (ℕ_discrete a i) ≤ occurs i t
-lead_occurs a t e h i = go (ℕ_discrete a i)
-  where
-    go : (d : Dec (a ≡ i)) → one_if d ≤ occurs i t
-    go (yes k) = subst (λ j. 1 ≤ occurs j t) (e ∙ k) (least-occurs t h)
-    go (no _) = omega arith
-
-empty_list : (l : List ℕ) → ((i : ℕ) → 0 ≡ count i l) → l ≡ []
-empty_list [] h = refl
-empty_list (a ∷ l) h = absurd (let o = mem_times ℕ_discrete a (a ∷ l) (inl refl) in let e = h a in omega (arith, o, e))
 
 join_plain : (a : ℕ) (l b c : List ℕ) (t : Tree ℕ) (r : Row ℕ) → Rises (a ∷ l) → Split l b c → Plain (a ∷ b) t → PlainRow c r → PlainRow (a ∷ l) (more t r)
 join_plain a l b c t r h s g gr =
@@ -85,9 +77,6 @@ lone_once dec n (a ∷ (b ∷ l)) g = absurd (two (tail_same a n (b ∷ l) g.oth
         omega (arith, g.counts b, z, o)
 
 module _ (dec : Discrete (Tree ℕ)) (decr : Discrete (Row ℕ)) where
-  abbrev each_is : (t : Tree ℕ) (r : Row ℕ) (ts : List (Tree ℕ)) (rs : List (Row ℕ)) → times decr (more t r) (each_with_each ts rs) ≡ times dec t ts * times decr r rs
-  each_is t r ts rs = times_each dec decr t r ts rs
-
   node_in : (t : Tree ℕ) (g : ℕ) (rs : List (Row ℕ)) → 0 < times dec t (map (λ s. node g s) rs) → (r : Row ℕ) × (t ≡ node g r) × (0 < times decr r rs)
   node_in (leaf n) g rs p = absurd (let z = leaf_node dec decr n g rs in omega (arith, z, p))
   node_in (node h r) g rs p =
@@ -125,18 +114,12 @@ module _ (dec : Discrete (Tree ℕ)) (decr : Discrete (Row ℕ)) where
     only_plain_row (more f fs) (a ∷ l) (more t r) h p =
         let e = times-splits decr (more t r) l (λ b c. each_with_each (numberings f (a ∷ b)) (numberings_row fs c)) in
         let s = sum_some l (λ b c. times decr (more t r) (each_with_each (numberings f (a ∷ b)) (numberings_row fs c))) (omega (arith, e, p)) in
-        let m = each_is t r (numberings f (a ∷ s.first)) (numberings_row fs s.second) in
+        let m = times_each dec decr t r (numberings f (a ∷ s.first)) (numberings_row fs s.second) in
         let tp = pos_left (times dec t (numberings f (a ∷ s.first))) (times decr r (numberings_row fs s.second)) (times decr (more t r) (each_with_each (numberings f (a ∷ s.first)) (numberings_row fs s.second))) m s.some in
         let rp = pos_right (times dec t (numberings f (a ∷ s.first))) (times decr r (numberings_row fs s.second)) (times decr (more t r) (each_with_each (numberings f (a ∷ s.first)) (numberings_row fs s.second))) m s.some in
         let x = only_plain f (a ∷ s.first) t (λ u q. h.0 u (mem_left_split s.split u q), left_rises s.split h.1) tp in
         let y = only_plain_row fs s.second r (right_rises s.split h.1) rp in
         (join_plain a l s.first s.second t r h s.split x.0 y.0, ap₂ more x.1 y.1)
-
-  one_times : (m n c : ℕ) → c ≡ m * n → m ≡ 1 → n ≡ 1 → c ≡ 1
-  one_times m n c e f g = e ∙ ap₂ (λ j k. j * k) f g
-
-  zero_times : (m n c : ℕ) → c ≡ m * n → m ≡ 0 → c ≡ 0
-  zero_times m n c e z = e ∙ ap (λ k. k * n) z ∙ let k : 0 * n ≡ 0 = omega arith in k
 
   -- one way to divide the numbers among the first input and the rest
   at_more : (f : Tree (Unit {0})) (fs : Row (Unit {0})) (a : ℕ) (l : List ℕ) (t : Tree ℕ) (r : Row ℕ) → Rises (a ∷ l) → PlainRow (a ∷ l) (more t r) → least t ≡ a
@@ -149,11 +132,11 @@ module _ (dec : Discrete (Tree ℕ)) (decr : Discrete (Row ℕ)) where
       ∙ sum_one l h.1 (λ i. occurs i t - one_if (ℕ_discrete a i)) (λ i. occurs_row i r) (λ b c. times decr (more t r) (each_with_each (numberings f (a ∷ b)) (numberings_row fs c)))
       (λ i. omega (arith, g.counts i, le i))
       (λ b c s m n. one_times (times dec t (numberings f (a ∷ b))) (times decr r (numberings_row fs c)) (times decr (more t r) (each_with_each (numberings f (a ∷ b)) (numberings_row fs c)))
-      (each_is t r (numberings f (a ∷ b)) (numberings_row fs c))
+      (times_each dec decr t r (numberings f (a ∷ b)) (numberings_row fs c))
       (once b (λ u q. h.0 u (mem_left_split s u q), left_rises s h.1) record { rising = g.rising.0; counts = λ i. omega (arith, m i, le i); others = b; first_is = ap (λ x. x ∷ b) (sym e) })
       (rest c (right_rises s h.1) record { rising = g.rising.2; counts = λ i. sym (n i); first = λ p. first_of c r (right_rises s h.1) g.rising.2 p (λ i. sym (n i)) }))
       (λ b c s i ne. zero_times (times dec t (numberings f (a ∷ b))) (times decr r (numberings_row fs c)) (times decr (more t r) (each_with_each (numberings f (a ∷ b)) (numberings_row fs c)))
-      (each_is t r (numberings f (a ∷ b)) (numberings_row fs c)) (not_there b c s i ne (dec_lt 0 (times dec t (numberings f (a ∷ b))))))
+      (times_each dec decr t r (numberings f (a ∷ b)) (numberings_row fs c)) (not_there b c s i ne (dec_lt 0 (times dec t (numberings f (a ∷ b))))))
     where
       not_there : (b c : List ℕ) → Split l b c → (i : ℕ) → (count i b ≢ occurs i t - one_if (ℕ_discrete a i)) → Dec (0 < times dec t (numberings f (a ∷ b))) → times dec t (numberings f (a ∷ b)) ≡ 0
       not_there b c s i ne (yes p) =

@@ -16,75 +16,74 @@ use Rattle.labelled_trees.proofs.Factors.{refine, Refined}
 use Rattle.labelled_trees.proofs.Leaves.{AllLeaves-each, by_leaf, at_leaf, AllLeaves-imp, AllLeaves-and}
 use Rattle.labelled_trees.proofs.ContextLeaves.{all_of_fill, sum_of_fill}
 use Rattle.shuffle_insertions.proofs.Rising.{head, rising_change}
+use Rattle.shuffle_places.proofs.Independent.{Laid}
 use Rattle.shuffle_places.specs.Places.{divisor_of}
 use Rattle.shuffle_places.proofs.RankedParts.{rank, IsKey, rank_order, all_keys, divisor_is, Ranked, ranked}
 use Rattle.shuffle_insertions.proofs.Insertions.{InRange, once_of}
 
 -- the standardised union, and the parts of both places in it
-pub record Common (ka kb n : ℕ) (a b : Tree ℕ) (front : Ctx ℕ) (part : Tree ℕ) (s t : ℕ → Tree ℕ) : Type 0 where
+pub record Common (n : ℕ) (one other : Laid) (part : Tree ℕ) : Type 0 where
   pub size : ℕ
   pub size_le : size ≤ n
   pub first : ℕ → Tree ℕ
   pub second : ℕ → Tree ℕ
   pub hung : ℕ → Tree ℕ
-  pub first_rise : PartsRise ka first
-  pub second_rise : PartsRise kb second
+  pub first_rise : PartsRise one.size first
+  pub second_rise : PartsRise other.size second
   pub hung_rise : PartsRise size hung
-  pub valid : IsShuffle size (graft a first)
-  pub meets : graft part first ≡ graft b second
-  pub first_hung : (k : ℕ) → InRange ka k → graft (first k) hung ≡ s k
-  pub second_hung : (k : ℕ) → InRange kb k → graft (second k) hung ≡ t k
-  pub whole : graft (graft a first) hung ≡ graft a s
-  pub covers : AllLeaves (union (graft part (λ i. leaf (first i))) (graft b (λ i. leaf (second i)))) IsLeaf
+  pub valid : IsShuffle size (graft one.tree first)
+  pub meets : graft part first ≡ graft other.tree second
+  pub first_hung : (k : ℕ) → InRange one.size k → graft (first k) hung ≡ one.at.parts k
+  pub second_hung : (k : ℕ) → InRange other.size k → graft (second k) hung ≡ other.at.parts k
+  pub whole : graft (graft one.tree first) hung ≡ graft one.tree one.at.parts
+  pub covers : AllLeaves (union (graft part (λ i. leaf (first i))) (graft other.tree (λ i. leaf (second i)))) IsLeaf
   -- a part at a leaf that lies beside the second place is a leaf
   pub bare : (i : ℕ) → occurs i part ≡ 0 → IsLeaf (first i)
 
-module _ (ka kb n : ℕ) (a b : Tree ℕ) (front : Ctx ℕ) (part : Tree ℕ) (s t : ℕ → Tree ℕ)
-    (ha : IsShuffle ka a) (hb : IsShuffle kb b) (rs : PartsRise ka s) (rt : PartsRise kb t)
-    (a_is : a ≡ fill front part) (meet : graft part s ≡ graft b t)
-    (rise : IsRising (graft a s)) (once : (i : ℕ) → occurs i (graft a s) ≤ 1) (labels : (i : ℕ) → 0 < occurs i (graft a s) → InRange n i) where
+module _ (n : ℕ) (one other : Laid) (front : Ctx ℕ) (part : Tree ℕ) (lead_is : one.tree ≡ fill front part) (meet : graft part one.at.parts ≡ graft other.tree other.at.parts)
+    (rise : IsRising (graft one.tree one.at.parts)) (once : (i : ℕ) → occurs i (graft one.tree one.at.parts) ≤ 1) (labels : (i : ℕ) → 0 < occurs i (graft one.tree one.at.parts) → InRange n i) where
   first_pattern : Tree (Tree ℕ)
-  first_pattern = graft part (λ i. leaf (s i))
+  first_pattern = graft part (λ i. leaf (one.at.parts i))
 
   second_pattern : Tree (Tree ℕ)
-  second_pattern = graft b (λ i. leaf (t i))
+  second_pattern = graft other.tree (λ i. leaf (other.at.parts i))
 
   one_tree : join first_pattern ≡ join second_pattern
   unfolding first_pattern second_pattern
-  one_tree = graft_assoc part (λ i. leaf (s i)) (λ v. v) ∙ meet ∙ sym (graft_assoc b (λ i. leaf (t i)) (λ v. v))
+  one_tree = graft_assoc part (λ i. leaf (one.at.parts i)) (λ v. v) ∙ meet ∙ sym (graft_assoc other.tree (λ i. leaf (other.at.parts i)) (λ v. v))
 
   once_part : (i : ℕ) → occurs i part ≤ 1
   once_part i =
       let k : occurs i part ≤ occurs i (fill front part) = sum_of_fill front part (λ m. one_if (ℕ_discrete m i)) in
-      let e : occurs i (fill front part) ≡ occurs i a = ap (occurs i) (sym a_is) in
-      omega (arith, once_of ka a ha i)
+      let e : occurs i (fill front part) ≡ occurs i one.tree = ap (occurs i) (sym lead_is) in
+      omega (arith, once_of one.size one.tree one.valid i)
 
-  fine_first : Refined part s (over_first first_pattern second_pattern)
+  fine_first : Refined part one.at.parts (over_first first_pattern second_pattern)
   unfolding first_pattern
-  fine_first = refine part s (over_first first_pattern second_pattern) once_part
-      (parts-over_first (λ v. v) first_pattern second_pattern one_tree ∙ graft_assoc part (λ i. leaf (s i)) leaf)
+  fine_first = refine part one.at.parts (over_first first_pattern second_pattern) once_part
+      (parts-over_first (λ v. v) first_pattern second_pattern one_tree ∙ graft_assoc part (λ i. leaf (one.at.parts i)) leaf)
 
-  fine_second : Refined b t (over_first second_pattern first_pattern)
+  fine_second : Refined other.tree other.at.parts (over_first second_pattern first_pattern)
   unfolding second_pattern
-  fine_second = refine b t (over_first second_pattern first_pattern) (once_of kb b hb)
-      (parts-over_first (λ v. v) second_pattern first_pattern (sym one_tree) ∙ graft_assoc b (λ i. leaf (t i)) leaf)
+  fine_second = refine other.tree other.at.parts (over_first second_pattern first_pattern) (once_of other.size other.tree other.valid)
+      (parts-over_first (λ v. v) second_pattern first_pattern (sym one_tree) ∙ graft_assoc other.tree (λ i. leaf (other.at.parts i)) leaf)
 
   -- the union below the second place's top, as seen from each side
-  sides : graft part fine_first.by ≡ graft b fine_second.by
+  sides : graft part fine_first.by ≡ graft other.tree fine_second.by
   sides =
       sym (graft_assoc part (λ i. leaf (fine_first.by i)) (λ v. v)) ∙ ap join (sym fine_first.is)
       ∙ join-over_first (λ v. v) first_pattern second_pattern one_tree
       ∙ union_comm (λ v. v) (λ x y e. e) first_pattern second_pattern one_tree
       ∙ sym (join-over_first (λ v. v) second_pattern first_pattern (sym one_tree))
-      ∙ ap join fine_second.is ∙ graft_assoc b (λ i. leaf (fine_second.by i)) (λ v. v)
+      ∙ ap join fine_second.is ∙ graft_assoc other.tree (λ i. leaf (fine_second.by i)) (λ v. v)
 
   -- the whole union with its hanging parts
   all_parts : Tree (Tree ℕ)
-  all_parts = graft a fine_first.by
+  all_parts = graft one.tree fine_first.by
 
-  joined : join all_parts ≡ graft a s
+  joined : join all_parts ≡ graft one.tree one.at.parts
   unfolding all_parts
-  joined = graft_assoc a fine_first.by (λ v. v) ∙ graft_ext a (λ i. join (fine_first.by i)) s (by_leaf a (λ i. join (fine_first.by i) ≡ s i) (λ i o. fine_first.joins i))
+  joined = graft_assoc one.tree fine_first.by (λ v. v) ∙ graft_ext one.tree (λ i. join (fine_first.by i)) one.at.parts (by_leaf one.tree (λ i. join (fine_first.by i) ≡ one.at.parts i) (λ i o. fine_first.joins i))
 
   by_rank : Ranked n all_parts
   by_rank = ranked n all_parts (subst IsRising (sym joined) rise) (λ i. subst (λ x. occurs i x ≤ 1) (sym joined) (once i))
@@ -129,42 +128,42 @@ module _ (ka kb n : ℕ) (a b : Tree ℕ) (front : Ctx ℕ) (part : Tree ℕ) (s
         ∙ graft_ext (fine i) (λ v. by_rank.hung (rank all_parts v)) (λ v. v) (AllLeaves-imp (fine i) (λ v. IsKey all_parts v × (by_rank.hung (rank all_parts v) ≡ v)) (λ v. by_rank.hung (rank all_parts v) ≡ v) (λ v h. h.1) (shares i m))
         ∙ joins i
 
-  those_first : AllLeaves (graft a fine_first.by) (λ v. IsKey all_parts v × (by_rank.hung (rank all_parts v) ≡ v))
+  those_first : AllLeaves (graft one.tree fine_first.by) (λ v. IsKey all_parts v × (by_rank.hung (rank all_parts v) ≡ v))
   unfolding all_parts
   those_first = AllLeaves-and all_parts (IsKey all_parts) (λ v. by_rank.hung (rank all_parts v) ≡ v) (all_keys all_parts) by_rank.of_rank
 
-  those_second : AllLeaves (graft b fine_second.by) (λ v. IsKey all_parts v × (by_rank.hung (rank all_parts v) ≡ v))
+  those_second : AllLeaves (graft other.tree fine_second.by) (λ v. IsKey all_parts v × (by_rank.hung (rank all_parts v) ≡ v))
   those_second = subst (λ x. AllLeaves x (λ v. IsKey all_parts v × (by_rank.hung (rank all_parts v) ≡ v))) sides
       (all_of_fill (graft_ctx front fine_first.by) (graft part fine_first.by) (λ v. IsKey all_parts v × (by_rank.hung (rank all_parts v) ≡ v))
-      (subst (λ x. AllLeaves x (λ v. IsKey all_parts v × (by_rank.hung (rank all_parts v) ≡ v))) (ap (λ x. graft x fine_first.by) a_is ∙ graft-fill front part fine_first.by) those_first))
+      (subst (λ x. AllLeaves x (λ v. IsKey all_parts v × (by_rank.hung (rank all_parts v) ≡ v))) (ap (λ x. graft x fine_first.by) lead_is ∙ graft-fill front part fine_first.by) those_first))
 
-  first_is : graft a (λ i. graft (fine_first.by i) (λ v. leaf (rank all_parts v))) ≡ divisor_of all_parts
+  first_is : graft one.tree (λ i. graft (fine_first.by i) (λ v. leaf (rank all_parts v))) ≡ divisor_of all_parts
   unfolding all_parts
-  first_is = sym (graft_assoc a fine_first.by (λ v. leaf (rank all_parts v))) ∙ sym (divisor_is all_parts)
+  first_is = sym (graft_assoc one.tree fine_first.by (λ v. leaf (rank all_parts v))) ∙ sym (divisor_is all_parts)
 
-  coverings : AllLeaves (union (graft part (λ i. leaf (graft (fine_first.by i) (λ v. leaf (rank all_parts v))))) (graft b (λ i. leaf (graft (fine_second.by i) (λ v. leaf (rank all_parts v)))))) IsLeaf
+  coverings : AllLeaves (union (graft part (λ i. leaf (graft (fine_first.by i) (λ v. leaf (rank all_parts v))))) (graft other.tree (λ i. leaf (graft (fine_second.by i) (λ v. leaf (rank all_parts v)))))) IsLeaf
   coverings = subst (λ x. AllLeaves x IsLeaf) (sym
       (ap₂ union
       (sym (graft_assoc part (λ i. leaf (fine_first.by i)) (λ v. leaf (graft v (λ w. leaf (rank all_parts w))))) ∙ ap (λ x. graft x (λ v. leaf (graft v (λ w. leaf (rank all_parts w))))) (sym fine_first.is))
-      (sym (graft_assoc b (λ i. leaf (fine_second.by i)) (λ v. leaf (graft v (λ w. leaf (rank all_parts w))))) ∙ ap (λ x. graft x (λ v. leaf (graft v (λ w. leaf (rank all_parts w))))) (sym fine_second.is))
+      (sym (graft_assoc other.tree (λ i. leaf (fine_second.by i)) (λ v. leaf (graft v (λ w. leaf (rank all_parts w))))) ∙ ap (λ x. graft x (λ v. leaf (graft v (λ w. leaf (rank all_parts w))))) (sym fine_second.is))
       ∙ union-over_first (λ v. v) (λ x y e. e) (λ w. leaf (rank all_parts w)) first_pattern second_pattern one_tree))
       (AllLeaves-graft (union first_pattern second_pattern) (λ x. leaf (leaf (rank all_parts x))) IsLeaf (AllLeaves-each (union first_pattern second_pattern) (λ x. Unit {0}) (λ x. tt)))
 
-  pub common : Common ka kb n a b front part s t
+  pub common : Common n one other part
   unfolding placed
   common = record {
     size = by_rank.size;
     size_le = by_rank.size_le;
-    first = placed ka a s ha rs fine_first.by fine_first.joins those_first;
-    second = placed kb b t hb rt fine_second.by fine_second.joins those_second;
+    first = placed one.size one.tree one.at.parts one.valid one.rises fine_first.by fine_first.joins those_first;
+    second = placed other.size other.tree other.at.parts other.valid other.rises fine_second.by fine_second.joins those_second;
     hung = by_rank.hung;
-    first_rise = placed_rises ka a s ha rs fine_first.by fine_first.joins those_first;
-    second_rise = placed_rises kb b t hb rt fine_second.by fine_second.joins those_second;
+    first_rise = placed_rises one.size one.tree one.at.parts one.valid one.rises fine_first.by fine_first.joins those_first;
+    second_rise = placed_rises other.size other.tree other.at.parts other.valid other.rises fine_second.by fine_second.joins those_second;
     hung_rise = by_rank.rises;
     valid = subst (IsShuffle by_rank.size) (sym first_is) by_rank.valid;
-    meets = sym (graft_assoc part fine_first.by (λ v. leaf (rank all_parts v))) ∙ ap (λ x. graft x (λ v. leaf (rank all_parts v))) sides ∙ graft_assoc b fine_second.by (λ v. leaf (rank all_parts v));
-    first_hung = placed_hung ka a s ha rs fine_first.by fine_first.joins those_first;
-    second_hung = placed_hung kb b t hb rt fine_second.by fine_second.joins those_second;
+    meets = sym (graft_assoc part fine_first.by (λ v. leaf (rank all_parts v))) ∙ ap (λ x. graft x (λ v. leaf (rank all_parts v))) sides ∙ graft_assoc other.tree fine_second.by (λ v. leaf (rank all_parts v));
+    first_hung = placed_hung one.size one.tree one.at.parts one.valid one.rises fine_first.by fine_first.joins those_first;
+    second_hung = placed_hung other.size other.tree other.at.parts other.valid other.rises fine_second.by fine_second.joins those_second;
     whole = ap (λ x. graft x by_rank.hung) first_is ∙ by_rank.whole ∙ joined;
     covers = coverings;
     bare = λ i z. subst IsLeaf (ap (λ v. graft v (λ w. leaf (rank all_parts w))) (sym (fine_first.bare i z))) tt;

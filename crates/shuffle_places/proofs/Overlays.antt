@@ -18,7 +18,7 @@ use Rattle.labelled_trees.proofs.Contexts.{node-eq, more-eq, graft-fill, graft_r
 use Rattle.labelled_trees.proofs.Unions.{Within, within}
 use Rattle.modular_sums.proofs.Lists.{mem_right, mem_map, mem_left, mem_either}
 use Rattle.shuffle_places.proofs.Vertices.{In, numbers_in, numbers_row_in}
-use Rattle.shuffle_places.proofs.Sets.{start_in, start_row_in, start_row_from, start-compose}
+use Rattle.shuffle_places.proofs.PatternSets.{start_in, start_row_in, start_row_from, start-compose}
 
 mutual
   at_vertex : {X : Type 0} (c : Ctx X) (x b : Tree X) → IsNode x → Mem (fill c (union x b)) (overlays (fill c x) b)
@@ -225,7 +225,6 @@ at_top {A = A} (inside n c) h = absurd (no (start_row_low c))
 
     no : 2 ≤ start_row 2 c → ⊥
     no k = omega arith
-
 
 pub standard_shape : (p : Tree (Tree ℕ)) → shape (standard (graft p (λ v. leaf (least v)))) ≡ shape p
 standard_shape p =

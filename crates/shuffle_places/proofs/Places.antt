@@ -9,7 +9,7 @@ use Rattle.labelled_trees.specs.Contexts.{Ctx, RowCtx, hole, inside, here, past,
 use Rattle.shuffle_places.specs.Cuts.{cut, numbers, start, start_row, IsCut}
 use Rattle.shuffle_places.specs.Places.{cut_out, cut_out_row, first_or_leaf, at_place, divisor_of, hole_at, hole_at_row, IsPlace}
 use Rattle.shuffle_places.proofs.Vertices.{In, numbers_in}
-use Rattle.shuffle_places.proofs.Sets.{start_in, start_row_in}
+use Rattle.shuffle_places.proofs.PatternSets.{start_in, start_row_in}
 use Rattle.shuffle_places.proofs.Cuts.{cut_again, join_node, cut_of_connected, connected_of_cut}
 
 no_member : (set : List ℕ) (k : ℕ) → (Mem k set → ⊥) → has set k ≡ false

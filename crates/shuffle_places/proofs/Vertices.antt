@@ -1,4 +1,4 @@
--- Vertices
+-- The vertices of what a set cuts, and the numbers of a pattern.
 use Rattle.std.proofs.Common.{◌≡◌, ℕ, suc, ◌+◌, ◌<◌, ◌≤◌, List, [], ◌∷◌, Bool, true, false, refl, ap, arith, inl, inr, ◌⊎◌}
 use mathlib.Core.List.{◌++◌}
 use mathlib.Core.Path.{ap₂}

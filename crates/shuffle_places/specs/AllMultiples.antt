@@ -21,6 +21,7 @@ abbrev pub cover : List ℕ → List ℕ → List ℕ → Bool
 cover [] k l = true
 cover (v ∷ m) k l = cond (has k v) (cover m k l) (cond (has l v) (cover m k l) false)
 
+-- the test b where a decided fact holds, else true
 abbrev pub only_where : {A : Type 0} → Dec A → Bool → Bool
 only_where (yes _) t = t
 only_where (no _) t = true
@@ -29,6 +30,7 @@ only_where (no _) t = true
 abbrev pub in_order : Tree ℕ → Tree ℕ → List ℕ → List ℕ → Bool
 in_order a b k l = only_where (tree_discrete a b) (is_lt (slice_cmp nat_cmp k l))
 
+-- the two places share a vertex, hold all vertices, and stand in order
 abbrev pub test : Tree ℕ → Tree ℕ → Tree ℕ → List ℕ → List ℕ → Bool
 test a b tree k l = cond (meet k l) (cond (cover (upto (vertices tree)) k l) (in_order a b k l) false) false
 
@@ -42,6 +44,8 @@ abbrev pub different : List (Tree (Unit {0})) → List (Tree (Unit {0}))
 different [] = []
 different (x ∷ l) = cond (has_by shape_discrete l x) (different l) (x ∷ different l)
 
+-- The small common multiples of a and b of arity n, each with its two places: of each candidate for a shape the shuffle trees,
+-- and of each of these the places with divisors a and b that pass the test.
 abbrev pub multiples : Tree ℕ → Tree ℕ → ℕ → List (Tree ℕ × List ℕ × List ℕ)
 multiples a b n =
     joined (different (shapes_of a b)) (λ form. joined (numberings form (upto n)) (λ tree. joined (places a 1 tree) (λ k. joined (places b 1 tree) (λ l.

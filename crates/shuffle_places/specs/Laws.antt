@@ -21,6 +21,7 @@ pub record PlaceLaw (t : Tree ℕ) (set : List ℕ) : Type 0 where
   pub of_pattern : (d : Tree ℕ) → IsCut t set d → IsPlace t set d
   pub one_pattern : (d e : Tree ℕ) (p : IsCut t set d) (r : IsCut t set e) → (p.context ≡ r.context) × (p.pattern_at ≡ r.pattern_at)
 
+-- the same, for all trees and sets
 abbrev pub PlaceSets : Type 0
 PlaceSets = (t : Tree ℕ) (set : List ℕ) → PlaceLaw t set
 

@@ -1,10 +1,7 @@
 -- The shuffle trees of one shape.
-use Rattle.std.specs.Prelude.{ℕ, ◌≡◌, ◌<◌, List, [], ◌∷◌, map}
+use Rattle.std.specs.Prelude.{ℕ, List, [], ◌∷◌, map}
 use Rattle.labelled_trees.specs.Trees.{Tree, Row, leaf, node, none, more}
-use Rattle.shuffle_insertions.specs.ShuffleTrees.{IsShuffle}
 use Rattle.shuffle_insertions.specs.Listing.{joined_splits, each_with_each, lone}
-use Rattle.shuffle_places.specs.Overlays.{shape}
-use Rattle.labelled_trees.specs.Leaves.{times}
 
 -- the shuffle trees of the shape over the leaf numbers, which rise
 abbrev mutual
@@ -18,7 +15,3 @@ abbrev mutual
   numberings_row none (a ∷ l) = []
   numberings_row (more t r) [] = []
   numberings_row (more t r) (a ∷ l) = joined_splits l (λ b c. each_with_each (numberings t (a ∷ b)) (numberings_row r c))
-
-pub record IsNumbering (n : ℕ) (form : Tree (Unit {0})) (dec : Discrete (Tree ℕ)) (l : List (Tree ℕ)) : Type 0 where
-  pub only : (t : Tree ℕ) → 0 < times dec t l → IsShuffle n t × (shape t ≡ form)
-  pub each : (t : Tree ℕ) → IsShuffle n t → shape t ≡ form → times dec t l ≡ 1

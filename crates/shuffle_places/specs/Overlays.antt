@@ -9,6 +9,7 @@ use Rattle.labelled_trees.specs.Unions.{union}
 abbrev pub shape : {A : Type 0} → Tree A → Tree (Unit {0})
 shape t = graft t (λ a. leaf tt)
 
+-- the same for a row
 abbrev pub shape_row : {A : Type 0} → Row A → Row (Unit {0})
 shape_row r = graft_row r (λ a. leaf tt)
 
@@ -26,6 +27,7 @@ abbrev mutual
 abbrev pub shapes_of : Tree ℕ → Tree ℕ → List (Tree (Unit {0}))
 shapes_of a b = overlays (shape a) (shape b) ++ overlays (shape b) (shape a)
 
+-- any two units are one
 unfoldable pub one_unit : (a b : Unit {0}) → Dec (a ≡ b)
 one_unit a b = yes refl
 

@@ -24,7 +24,7 @@ use Rattle.labelled_trees.proofs.GraftLeaves.{graft_ext, agree_graft}
 use Rattle.labelled_trees.proofs.Leaves.{by_leaf, at_leaf}
 use Rattle.shuffle_insertions.proofs.Insertions.{fill_slot-valid}
 use Rattle.labelled_trees.proofs.Contexts.{compose-hole}
-use Rattle.shuffle_bases.proofs.Reduce.{meets_over}
+use Rattle.shuffle_bases.proofs.SharedVertices.{meets_over}
 use Rattle.shuffle_bases.proofs.Separate.{meets_apart}
 use Rattle.shuffle_places.proofs.Independent.{branches, nested}
 use Rattle.shuffle_bases.proofs.Placed.{laid}

@@ -8,7 +8,7 @@ use Rattle.labelled_trees.specs.Equality.{tree_discrete}
 use Rattle.shuffle_insertions.specs.Orders.{IsTreeOrder}
 use Rattle.shuffle_insertions.proofs.Insertions.{fill_slot-fits, fits_of_slot}
 use Rattle.shuffle_bases.specs.Elements.{terms, Setting, IsLess, AreMonic}
-use Rattle.shuffle_bases.proofs.Placed.{Placed, host, value, HostsLess, Meets, IsSmall, SmallMeet, lead_valid, terms_valid, less_kept}
+use Rattle.shuffle_bases.proofs.Placed.{laid, Placed, host, value, HostsLess, Meets, IsSmall, SmallMeet, lead_valid, terms_valid, less_kept}
 use Rattle.labelled_trees.specs.Trees.{IsNode, Tree, graft}
 use Rattle.labelled_trees.specs.Contexts.{compose, Ctx, hole, fill, graft_ctx}
 use Rattle.shuffle_insertions.specs.ShuffleTrees.{IsShuffle}
@@ -24,7 +24,7 @@ use Rattle.shuffle_insertions.proofs.Rising.{rising_of_fill}
 use Rattle.shuffle_insertions.proofs.Insertions.{fill_slot-valid}
 use Rattle.labelled_trees.proofs.ContextLeaves.{sum_of_fill}
 use Rattle.shuffle_places.proofs.Overlaps.{Common, common}
-use Rattle.shuffle_insertions.proofs.Into.{fill_slot-into, into_rises, into}
+use Rattle.shuffle_insertions.proofs.NestedSlots.{fill_slot-into, into_rises, into}
 
 module _ (base : Setting) (basis : AreMonic base) (order : IsTreeOrder base.arity base.compare)
     (most : ℕ) (reduce : SmallMeet base most) (n : ℕ) (n_le : n ≤ most) where
@@ -43,8 +43,8 @@ module _ (base : Setting) (basis : AreMonic base) (order : IsTreeOrder base.arit
         go (yes o) = let r = i.valid.only k o in let e : occurs k (host i) ≡ 1 = i.valid.each k r.0 r.1 in omega arith
         go (no z) = omega arith
 
-    c : Common i.of.arity j.of.arity n i.of.lead j.of.lead front part i.at.parts j.at.parts
-    c = common i.of.arity j.of.arity n i.of.lead j.of.lead front part i.at.parts j.at.parts (lead_valid base basis i.of i.member) (lead_valid base basis j.of j.member) i.rises j.rises lead_is inner
+    c : Common n (laid base basis n i) (laid base basis n j) part
+    c = common n (laid base basis n i) (laid base basis n j) front part lead_is inner
         (rising_of_fill i.at.context (graft i.of.lead i.at.parts) i.valid.rising)
         (λ k. omega (arith, low k, once k)) (λ k o. i.valid.only k (omega (arith, low k, o)))
 
