@@ -4,12 +4,12 @@ use mathlib.Core.Path.{ap₂}
 use mathlib.Core.List.{◌++◌, append-nil}
 use Rattle.labelled_trees.specs.Trees.{Tree, Row, leaf, node, none, more, graft, graft_row, leaves, leaves_row}
 use Rattle.labelled_trees.specs.Contexts.{Ctx, RowCtx, hole, inside, here, past, fill, fill_row}
-use Rattle.shuffle_insertions.specs.ShuffleTrees.{least, least_row, IsRising, IsRisingRow, HasInput, IsShuffle}
+use Rattle.shuffle_insertions.specs.ShuffleTrees.{least, least_row, IsRising, IsRisingRow, HasInput}
 use Rattle.labelled_trees.specs.Leaves.{AllLeaves, AllRow}
-use Rattle.shuffle_insertions.specs.Slots.{Slot, fill_slot, PartsRise}
-use Rattle.shuffle_insertions.proofs.PathWords.{LexLess, WordLess, PathLess}
-use Rattle.shuffle_insertions.proofs.Insertions.{InRange, all_among, fill_slot-valid}
-use Rattle.shuffle_insertions.proofs.Paths.{LexLess-under, LexLess-before, WordLess-between, words_kept, same_after}
+use Rattle.shuffle_insertions.specs.Slots.{PartsRise}
+use Rattle.shuffle_insertions.proofs.PathWords.{LexLess}
+use Rattle.shuffle_insertions.proofs.Insertions.{InRange}
+use Rattle.shuffle_insertions.proofs.Paths.{LexLess-under, LexLess-before}
 
 abbrev pub rows : List ℕ → (ℕ → Tree ℕ) → List ℕ
 rows [] s = []

@@ -2,7 +2,7 @@
 use Rattle.std.specs.Prelude.{ℕ, ◌≡◌, ◌<◌, List, [], ◌∷◌, length}
 use Rattle.std.proofs.Common.{◌⊎◌}
 use Rattle.std.specs.Prelude.{ℕ, List, [], ◌∷◌, ◌<◌}
-use Rattle.labelled_trees.specs.Trees.{Tree, Row, leaf, node, none, more, leaves}
+use Rattle.labelled_trees.specs.Trees.{Tree, Row, leaf, node, none, more}
 use Rattle.labelled_trees.specs.Contexts.{Ctx, RowCtx, hole, inside, here, past}
 
 -- w is the word of leaf j: the labels from the root to it
