@@ -11,7 +11,7 @@ use Rattle.labelled_trees.specs.Labelled.{Fits, IsLabelled}
 use Rattle.shuffle_insertions.specs.ShuffleTrees.{IsShuffle, IsShuffleTree}
 use Rattle.shuffle_insertions.specs.Slots.{Slot, fill_slot, PartsRise}
 use Rattle.shuffle_insertions.proofs.Insertions.{fill_slot-valid, fill_slot-fits}
-use Rattle.shuffle_insertions.proofs.Into.{into, fill_slot-into, into_rises}
+use Rattle.shuffle_insertions.proofs.NestedSlots.{into, fill_slot-into, into_rises}
 use Rattle.shuffle_bases.specs.Elements.{terms, Setting, AreMonic, value_of}
 use Rattle.shuffle_bases.proofs.Placed.{Placed, host, value, lead_valid, placed, placed_value, insertion, insertion_value}
 use Rattle.operad_ideals.specs.Presentations.{Presentation, arity_of, IsSound}
