@@ -1,0 +1,195 @@
+-- A certified list of elements, its insertions, and the trees that no leading tree divides.
+use Rattle.std.proofs.Common.{◌≡◌, ℕ, ◌<◌, ◌≤◌, List, [], ◌∷◌, refl, sym, ◌∙◌, ap, arith, subst, inl, inr, ◌⊎◌}
+use Rattle.std.specs.declared.cmp.Ordering.{Ordering}
+use Rattle.std.specs.declared.cmp.Ordering.TheVariants.{Less}
+use Rattle.modular_sums.specs.Lists.{Mem}
+use Rattle.modular_sums.specs.Sums.{Member, moved, AllTerms}
+use Rattle.modular_sums.proofs.Images.{moved_ext}
+use Rattle.labelled_trees.specs.Trees.{Tree, leaf, graft}
+use Rattle.labelled_trees.specs.Leaves.{sum_leaves, leaf_count, occurs, one_if}
+use Rattle.labelled_trees.specs.Equality.{tree_discrete}
+use Rattle.labelled_trees.specs.Labelled.{IsLabelled}
+use Rattle.labelled_trees.proofs.Leaves.{by_leaf, sum_leaves-≤, AllLeaves-each}
+use Rattle.labelled_trees.proofs.Counts.{leaf_count-labelled}
+use Rattle.labelled_trees.proofs.ContextLeaves.{sum_of_fill}
+use Rattle.labelled_trees.proofs.GraftLeaves.{sum_leaves-graft}
+use Rattle.shuffle_insertions.specs.ShuffleTrees.{least, IsRising, IsShuffleTree}
+use Rattle.shuffle_insertions.specs.Frames.{Frame, insert, IsFrame}
+use Rattle.shuffle_insertions.specs.Slots.{Slot, fill_slot, PartsRise}
+use Rattle.shuffle_insertions.specs.Orders.{IsTreeOrder}
+use Rattle.shuffle_insertions.proofs.Rising.{least-occurs}
+use Rattle.shuffle_insertions.proofs.Frames.{SlotOf, slot_of}
+use Rattle.shuffle_insertions.proofs.Laws.{keeps}
+use Rattle.shuffle_places.specs.Places.{frame_at, IsPlace}
+use Rattle.shuffle_places.specs.AllPlaces.{places}
+use Rattle.shuffle_places.proofs.Sizes.{one_size}
+use Rattle.shuffle_places.proofs.Laws.{place_frames, places_listed}
+use Rattle.shuffle_bases.specs.Elements.{Element, terms, Setting, IsMonic, Insertion, value_of}
+use Rattle.operad_ideals.specs.Presentations.{Relation, Presentation, arity_of, IsWide, IsSound}
+use Rattle.operad_ideals.specs.Ideals.{InIdeal}
+use Rattle.operad_ideals.proofs.Links.{member_zero, member_through}
+use Rattle.shuffle_transfer.specs.Orderings.{entry}
+use Rattle.shuffle_transfer.specs.Labels.{inputs_of, shuffle_form}
+use Rattle.shuffle_transfer.specs.Transfer.{relabelled, shuffled, RelationInsertion, inserted_relation, IsSumOfInsertions}
+use Rattle.shuffle_transfer.specs.Certified.{setting, IsCertified}
+use Rattle.shuffle_transfer.proofs.Orderings.{all_orderings}
+use Rattle.shuffle_transfer.proofs.Forth.{forth}
+use Rattle.shuffle_transfer.proofs.TransferLaw.{labelled-relabelled, transfer_law}
+use Rattle.shuffle_transfer.proofs.Carrying.{relations_carried, elements_carried}
+
+-- a presentation, an order of the shuffle trees over its labels, and elements that are certified through an arity
+pub record Given : Type 0 where
+  pub presentation : Presentation
+  pub sound : IsSound presentation
+  pub wide : IsWide presentation
+  pub compare : Tree ℕ → Tree ℕ → Ordering
+  pub order : IsTreeOrder (inputs_of presentation) compare
+  pub elements : List Element
+  pub most : ℕ
+  pub certified : IsCertified presentation compare elements most
+
+abbrev pub setting_of : Given → Setting
+setting_of c = setting c.presentation c.compare c.elements
+
+-- ---- arities
+
+leaves_of : (arity : ℕ → ℕ) (n : ℕ) (t : Tree ℕ) → IsShuffleTree arity n t → leaf_count t ≡ n
+leaves_of arity n t h = leaf_count-labelled arity n t record { fits = h.fits; each = h.shuffle.each; only = h.shuffle.only }
+
+some_leaf : (t : Tree ℕ) → IsRising t → 1 ≤ leaf_count t
+some_leaf t h =
+    let a : occurs (least t) t ≤ leaf_count t = sum_leaves-≤ t _ (λ i. 1) (AllLeaves-each t _ (λ k. at_most _)) in
+    let b : 0 < occurs (least t) t = least-occurs t h in
+    omega (arith, a, b)
+  where
+    at_most : {C : Type 0} (d : Dec C) → one_if d ≤ 1
+    at_most (yes _) = omega arith
+    at_most (no _) = omega arith
+
+-- what stands in a slot has no greater arity
+arity_le : (arity : ℕ → ℕ) (m n : ℕ) (f : Slot) → PartsRise m f.parts → (x : Tree ℕ) → IsShuffleTree arity m x → IsShuffleTree arity n (fill_slot f x) → m ≤ n
+arity_le arity m n f rises x hx v =
+    let k : leaf_count (graft x f.parts) ≤ leaf_count (fill_slot f x) = sum_of_fill f.context (graft x f.parts) (λ i. 1) in
+    let l : leaf_count x ≤ sum_leaves x (λ i. leaf_count (f.parts i))
+    = sum_leaves-≤ x (λ i. 1) (λ i. leaf_count (f.parts i)) (by_leaf x (λ i. 1 ≤ leaf_count (f.parts i)) (λ i o. let r = hx.shuffle.only i o in some_leaf (f.parts i) (rises.each i r.0 r.1))) in
+    omega (arith, k, l, sum_leaves-graft x f.parts (λ i. 1), leaves_of arity m x hx, leaves_of arity n (fill_slot f x) v)
+
+module _ (c : Given) (n : ℕ) (le : n ≤ c.most) where
+  abbrev p : Presentation
+  p = c.presentation
+
+  abbrev Shuffles : Tree ℕ → Type 0
+  Shuffles = IsShuffleTree (inputs_of c.presentation) n
+
+  abbrev pub InSpan : List (ℕ × Tree ℕ) → Type 0
+  InSpan e = Member tree_discrete (value_of {s = setting_of c} {n = n}) c.presentation.q e
+
+  -- ---- relations, inserted, are sums of insertions of the elements
+
+  by_terms : (j : RelationInsertion c.presentation n) (l : List (ℕ × Tree ℕ)) → j.relation.terms ≡ l → InSpan (moved (insert j.frame) (shuffled c.presentation (relabelled j.permutation l)))
+  by_terms j [] e = member_zero tree_discrete value_of c.presentation.q
+  by_terms j (x ∷ l) e =
+      let r : Relation = j.relation in
+      let s : SlotOf r.arity j.frame = slot_of r.arity j.frame j.is_frame in
+      let labels : AllTerms (relabelled j.permutation (x ∷ l)) (IsLabelled (arity_of p) r.arity)
+      = labelled-relabelled (arity_of p) r.arity j.permutation j.permutes (x ∷ l) (subst (λ t. AllTerms t (IsLabelled (arity_of p) r.arity)) e (c.sound r j.there)) in
+      let z : Tree ℕ = shuffle_form p (graft x.1 (λ i. leaf (entry j.permutation i))) in
+      let hz : IsShuffleTree (inputs_of p) r.arity z = forth p r.arity (graft x.1 (λ i. leaf (entry j.permutation i))) labels.0 in
+      let v : AllTerms (moved (insert j.frame) (shuffled p (relabelled j.permutation (x ∷ l)))) Shuffles
+      = subst (λ t. AllTerms (moved (insert j.frame) (shuffled p (relabelled j.permutation t))) Shuffles) e j.valid in
+      let vz : IsShuffleTree (inputs_of p) n (fill_slot s.slot z) = subst Shuffles (s.inserts z) v.0 in
+      let few : r.arity ≤ n = arity_le (inputs_of p) r.arity n s.slot s.rises z hz vz in
+      subst InSpan (sym (moved_ext (insert j.frame) (fill_slot s.slot) (shuffled p (relabelled j.permutation (x ∷ l))) s.inserts))
+      (elements_carried (setting_of c) c.certified.monic r.arity n s.slot s.rises z hz.shuffle vz (shuffled p (relabelled j.permutation (x ∷ l)))
+      (subst (λ t. Member tree_discrete (value_of {s = setting_of c} {n = r.arity}) p.q (shuffled p (relabelled j.permutation t))) e
+      (c.certified.relations r j.there (omega (arith, few, le)) j.permutation (((all_orderings r.arity).2 j.permutation).1 j.permutes))))
+
+  -- the shuffle form of an element of the ideal
+  pub ideal_span : (e : List (ℕ × Tree ℕ)) → AllTerms e (IsLabelled (arity_of c.presentation) n) → InIdeal c.presentation n e → InSpan (shuffled c.presentation e)
+  ideal_span e h m = member_through tree_discrete p.q (inserted_relation p n) value_of (λ j. by_terms j j.relation.terms refl) (shuffled p e) ((transfer_law p n e c.sound h).0 m)
+
+  -- ---- an insertion of an element
+
+  monic_of : (i : Insertion (setting_of c) n) → IsMonic (setting_of c) i.of
+  monic_of i = c.certified.monic.each i.of i.member
+
+  abbrev frame_of : Insertion (setting_of c) n → Frame
+  frame_of i = frame_at i.set i.tree
+
+  pub record Framed (i : Insertion (setting_of c) n) : Type 0 where
+    pub is_frame : IsFrame i.of.arity (frame_at i.set i.tree)
+    pub back : insert (frame_at i.set i.tree) i.of.lead ≡ i.tree
+
+  framed : (i : Insertion (setting_of c) n) → Framed i
+  framed i =
+      let k = place_frames.0 n i.tree i.set i.of.lead i.valid.shuffle i.place in
+      record { is_frame = subst (λ m. IsFrame m (frame_at i.set i.tree)) (one_size k.0 i.of.arity i.of.lead k.1 (monic_of i).lead_valid.shuffle) k.2; back = k.3 }
+
+  at_tail : (i : Insertion (setting_of c) n) (l : List (ℕ × Tree ℕ)) → AllTerms l (λ x. IsShuffleTree (inputs_of c.presentation) i.of.arity x × (c.compare x i.of.lead ≡ Less))
+      → AllTerms (moved (insert (frame_at i.set i.tree)) l) Shuffles × AllTerms (moved (insert (frame_at i.set i.tree)) l) (λ t. c.compare t i.tree ≡ Less)
+  at_tail i [] h = (tt, tt)
+  at_tail i (x ∷ l) h =
+      let f = framed i in
+      let lead = (monic_of i).lead_valid in
+      let v : Shuffles (insert (frame_of i) x.1) = (keeps i.of.arity n (frame_of i) i.of.lead x.1 f.is_frame).1 (inputs_of p) lead h.0.0 (subst Shuffles (sym f.back) i.valid) in
+      let lt : c.compare (insert (frame_of i) x.1) i.tree ≡ Less
+      = ap (c.compare (insert (frame_of i) x.1)) (sym f.back) ∙ c.order.kept i.of.arity n (frame_of i) x.1 i.of.lead f.is_frame h.0.0.shuffle lead.shuffle v.shuffle ∙ h.0.1 in
+      let r = at_tail i l h.1 in
+      ((v, r.0), (lt, r.1))
+
+  -- the other trees of an insertion
+  abbrev pub tail_of : Insertion (setting_of c) n → List (ℕ × Tree ℕ)
+  tail_of i = moved (insert (frame_at i.set i.tree)) i.of.tail
+
+  pub value_is : (i : Insertion (setting_of c) n) → value_of i ≡ (1, i.tree) ∷ tail_of i
+  value_is i = ap (λ t. (1, t) ∷ tail_of i) (framed i).back
+
+  pub tail_valid : (i : Insertion (setting_of c) n) → AllTerms (tail_of i) Shuffles
+  tail_valid i = (at_tail i i.of.tail (monic_of i).tail_valid).0
+
+  pub tail_less : (i : Insertion (setting_of c) n) → AllTerms (tail_of i) (λ t. c.compare t i.tree ≡ Less)
+  tail_less i = (at_tail i i.of.tail (monic_of i).tail_valid).1
+
+  -- an insertion lies in the ideal of the shuffle forms
+  pub insertion_in_ideal : (i : Insertion (setting_of c) n) → IsSumOfInsertions c.presentation n (value_of i)
+  insertion_in_ideal i =
+      let f = framed i in
+      let s : SlotOf i.of.arity (frame_of i) = slot_of i.of.arity (frame_of i) f.is_frame in
+      let v : Shuffles (fill_slot s.slot i.of.lead) = subst Shuffles (sym f.back ∙ s.inserts i.of.lead) i.valid in
+      subst (IsSumOfInsertions p n) (sym (moved_ext (insert (frame_of i)) (fill_slot s.slot) (terms i.of) s.inserts))
+      (relations_carried p c.sound i.of.arity n s.slot s.rises i.of.lead (monic_of i).lead_valid.shuffle v (terms i.of) (c.certified.in_ideal i.of i.member))
+
+  -- ---- a shuffle tree is the tree of an insertion, or no leading tree divides it
+
+  abbrev pub IsFree : Tree ℕ → Type 0
+  IsFree t = (g : Element) → Mem g c.elements → (set : List ℕ) → IsPlace t set g.lead → ⊥
+
+  pub free_tree : (t : Tree ℕ) → IsFree t → (i : Insertion (setting_of c) n) → i.tree ≡ t → ⊥
+  free_tree t f i e = f i.of i.member i.set (subst (λ u. IsPlace u i.set i.of.lead) e i.place)
+
+  has_place : (t : Tree ℕ) (g : Element) → Mem g c.elements → (l : List (List ℕ)) → l ≡ places g.lead 1 t → ((set : List ℕ) × IsPlace t set g.lead) ⊎ ((set : List ℕ) → IsPlace t set g.lead → ⊥)
+  has_place t g m [] e = inr (λ set h. subst (Mem set) (sym e) (((places_listed g.lead t (c.certified.monic.each g m).lead_node).0 set).1 h))
+  has_place t g m (set ∷ l) e = inl (set, ((places_listed g.lead t (c.certified.monic.each g m).lead_node).0 set).0 (subst (Mem set) e (inl refl)))
+
+  any_place : (t : Tree ℕ) (l : List Element) → ((g : Element) → Mem g l → Mem g c.elements)
+      → ((g : Element) × Mem g c.elements × ((set : List ℕ) × IsPlace t set g.lead)) ⊎ ((g : Element) → Mem g l → (set : List ℕ) → IsPlace t set g.lead → ⊥)
+  any_place t [] h = inr (λ g m. absurd m)
+  any_place t (g ∷ l) h = go (has_place t g (h g (inl refl)) (places g.lead 1 t) refl) (any_place t l (λ k m. h k (inr m)))
+    where
+      go : ((set : List ℕ) × IsPlace t set g.lead) ⊎ ((set : List ℕ) → IsPlace t set g.lead → ⊥)
+          → ((g : Element) × Mem g c.elements × ((set : List ℕ) × IsPlace t set g.lead)) ⊎ ((g : Element) → Mem g l → (set : List ℕ) → IsPlace t set g.lead → ⊥)
+          → ((g : Element) × Mem g c.elements × ((set : List ℕ) × IsPlace t set g.lead)) ⊎ ((k : Element) → Mem k (g ∷ l) → (set : List ℕ) → IsPlace t set k.lead → ⊥)
+      go (inl k) r = inl (g, h g (inl refl), k)
+      go (inr f) (inl r) = inl r
+      go (inr f) (inr r) = inr (λ k m. other k m)
+        where
+          other : (k : Element) → Mem k (g ∷ l) → (set : List ℕ) → IsPlace t set k.lead → ⊥
+          other k (inl e) = subst (λ x. (set : List ℕ) → IsPlace t set x.lead → ⊥) (sym e) f
+          other k (inr m) = r k m
+
+  pub tells : (t : Tree ℕ) → IsShuffleTree (inputs_of c.presentation) n t → ((i : Insertion (setting_of c) n) × (i.tree ≡ t)) ⊎ IsFree t
+  tells t h = go (any_place t c.elements (λ g m. m))
+    where
+      go : ((g : Element) × Mem g c.elements × ((set : List ℕ) × IsPlace t set g.lead)) ⊎ IsFree t → ((i : Insertion (setting_of c) n) × (i.tree ≡ t)) ⊎ IsFree t
+      go (inl k) = inl (record { of = k.0; member = k.1; tree = t; set = k.2.0; valid = h; place = k.2.1 }, refl)
+      go (inr f) = inr f

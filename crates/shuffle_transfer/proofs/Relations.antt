@@ -1,0 +1,223 @@
+-- Any inputs are rising inputs behind a permutation: an instance of a relation has, with its sign, the shuffle form of an insertion.
+use Rattle.std.proofs.Common.{◌≡◌, ℕ, zero, suc, ◌*◌, ◌<◌, ◌≤◌, List, refl, sym, ◌∙◌, ap, arith, subst}
+use native.Mathlib.Decide.{dec_lt, ℕ_discrete}
+use Rattle.labelled_trees.specs.Trees.{Tree, Row, leaf, node, none, more, graft}
+use Rattle.labelled_trees.specs.Leaves.{one_if, sum_leaves, sum_row, AllLeaves, AllRow, occurs}
+use Rattle.labelled_trees.specs.Labelled.{Fits, IsLabelled}
+use Rattle.labelled_trees.specs.Ranks.{below, standard}
+use Rattle.labelled_trees.specs.RangeSums.{range_sum}
+use Rattle.labelled_trees.proofs.Grafts.{graft_assoc, graft_leaf}
+use Rattle.labelled_trees.proofs.Leaves.{by_leaf, at_leaf, sum_leaves-≤}
+use Rattle.labelled_trees.proofs.GraftLeaves.{graft_ext, agree, AllLeaves-graft, AllLeaves_of_graft, sum_leaves-graft}
+use Rattle.labelled_trees.proofs.Factors.{factor}
+use Rattle.labelled_trees.proofs.Fitting.{fits_parts}
+use Rattle.labelled_trees.proofs.RangeSums.{range_sum_ext, by_counts}
+use Rattle.labelled_trees.proofs.Ranks.{below-mono, standard_each, standard_only}
+use Rattle.shuffle_insertions.specs.ShuffleTrees.{least, IsRising}
+use Rattle.shuffle_insertions.specs.Slots.{PartsRise}
+use Rattle.shuffle_insertions.proofs.Insertions.{InRange}
+use Rattle.shuffle_insertions.proofs.Rising.{least-occurs, least-le}
+use Rattle.shuffle_transfer.specs.ShuffleForms.{form}
+use Rattle.shuffle_transfer.proofs.Forms.{form_rises, occurs-form}
+
+module _ (arity : ℕ → ℕ) (m : ℕ) where
+  pub among_leaves : (x : Tree ℕ) → IsLabelled arity m x → AllLeaves x (InRange m)
+  among_leaves x h = by_leaf x (InRange m) h.only
+
+  low_leaves : (x : Tree ℕ) → IsLabelled arity m x → AllLeaves x (λ i. i < suc m)
+  low_leaves x h = by_leaf x (λ i. i < suc m) (λ i o. let r = h.only i o in omega (arith, r.1))
+
+  labelled_counts : (x y : Tree ℕ) → IsLabelled arity m x → IsLabelled arity m y → (i : ℕ) → occurs i x ≡ occurs i y
+  labelled_counts x y hx hy i = go (dec_lt 0 (occurs i x)) (dec_lt 0 (occurs i y))
+    where
+      go : Dec (0 < occurs i x) → Dec (0 < occurs i y) → occurs i x ≡ occurs i y
+      go (yes a) d = let r = hx.only i a in hx.each i r.0 r.1 ∙ sym (hy.each i r.0 r.1)
+      go (no a) (yes b) = let r = hy.only i b in hx.each i r.0 r.1 ∙ sym (hy.each i r.0 r.1)
+      go (no a) (no b) = omega (arith, a, b)
+
+  -- a sum over the leaves depends on their numbers alone
+  pub labelled_sums : (x y : Tree ℕ) → IsLabelled arity m x → IsLabelled arity m y → (f : ℕ → ℕ) → sum_leaves x f ≡ sum_leaves y f
+  labelled_sums x y hx hy f =
+      by_counts (suc m) x f (low_leaves x hx) ∙ range_sum_ext (suc m) (λ i. occurs i x * f i) (λ i. occurs i y * f i) (λ i. ap (λ k. k * f i) (labelled_counts x y hx hy i))
+      ∙ sym (by_counts (suc m) y f (low_leaves y hy))
+
+  no_zero : (x : Tree ℕ) → IsLabelled arity m x → occurs 0 x ≡ 0
+  no_zero x h = go (dec_lt 0 (occurs 0 x))
+    where
+      go : Dec (0 < occurs 0 x) → occurs 0 x ≡ 0
+      go (yes o) = let r = h.only 0 o in absurd (omega (arith, r.0))
+      go (no z) = omega arith
+
+  pub below_labelled : (x : Tree ℕ) → IsLabelled arity m x → (k : ℕ) → k ≤ m → below (suc k) x ≡ k
+  below_labelled x h zero le = let z : occurs 0 x ≡ 0 = no_zero x h in omega (arith, z)
+  below_labelled x h (suc k) le = let o : occurs (suc k) x ≡ 1 = h.each (suc k) (omega arith) le in omega (arith, o, below_labelled x h k (omega arith))
+
+below_range : (b : ℕ) (t : Tree ℕ) → below b t ≡ range_sum b (λ i. occurs i t * 1)
+below_range zero t = refl
+below_range (suc b) t = omega (arith, below_range b t)
+
+-- how many leaves
+pub below_all : (b : ℕ) (t : Tree ℕ) → AllLeaves t (λ x. x < b) → below b t ≡ sum_leaves t (λ i. 1)
+below_all b t h = below_range b t ∙ sym (by_counts b t (λ i. 1) h)
+
+mutual
+  leaf_le : (t : Tree ℕ) (f : ℕ → ℕ) (k : ℕ) → sum_leaves t f ≤ k → AllLeaves t (λ a. f a ≤ k)
+  leaf_le (leaf a) f k h = h
+  leaf_le (node g r) f k h = leaf_le_row r f k h
+
+  leaf_le_row : (r : Row ℕ) (f : ℕ → ℕ) (k : ℕ) → sum_row r f ≤ k → AllRow r (λ a. f a ≤ k)
+  leaf_le_row none f k h = tt
+  leaf_le_row (more t r) f k h = (leaf_le t f k (omega (arith, h)), leaf_le_row r f k (omega (arith, h)))
+
+one_if_le : (i : ℕ) (t : Tree ℕ) (d : Dec (least t ≡ i)) → 0 < occurs (least t) t → one_if d ≤ occurs i t
+one_if_le i t (yes e) h = subst (λ k. 1 ≤ occurs k t) e h
+one_if_le i t (no _) h = omega arith
+
+-- rising trees with the same leaves have the same least leaf
+pub least_same : (x y : Tree ℕ) → IsRising x → IsRising y → ((i : ℕ) → occurs i x ≡ occurs i y) → least x ≡ least y
+least_same x y hx hy e =
+    let a : least y ≤ least x = at_leaf y (λ i. least y ≤ i) (least x) (least-le y hy) (subst (λ n. 0 < n) (e (least x)) (least-occurs x hx)) in
+    let b : least x ≤ least y = at_leaf x (λ i. least x ≤ i) (least y) (least-le x hx) (subst (λ n. 0 < n) (sym (e (least y))) (least-occurs y hy)) in
+    omega arith
+
+-- inputs s of a labelled tree x whose graft holds no number twice
+module _ (label : ℕ → List ℕ → ℕ) (arity : ℕ → ℕ) (m n : ℕ) (x : Tree ℕ) (s : ℕ → Tree ℕ) (hx : IsLabelled arity m x)
+    (fits : Fits arity (graft x s)) (single : (i : ℕ) → occurs i (graft x s) ≤ 1) (range : (i : ℕ) → 0 < occurs i (graft x s) → i ≤ n) where
+  G : ℕ → Tree ℕ
+  G i = form label (s i)
+
+  here : (i : ℕ) → InRange m i → 0 < occurs i x
+  here i a = let e : occurs i x ≡ 1 = hx.each i a.0 a.1 in omega (arith, e)
+
+  fits_at : (i : ℕ) → InRange m i → Fits arity (s i)
+  fits_at i a = at_leaf x (λ k. Fits arity (s k)) i (fits_parts arity x s fits) (here i a)
+
+  single_at : (i : ℕ) → InRange m i → (j : ℕ) → occurs j (s i) ≤ 1
+  single_at i a j = at_leaf x (λ k. occurs j (s k) ≤ 1) i
+      (leaf_le x (λ k. occurs j (s k)) 1 (subst (λ k. k ≤ 1) (sum_leaves-graft x s (λ l. one_if (ℕ_discrete l j))) (single j))) (here i a)
+
+  rises_at : (i : ℕ) → InRange m i → IsRising (G i)
+  unfolding G
+  rises_at i a = form_rises label arity (s i) (fits_at i a) (single_at i a)
+
+  keys : Tree ℕ
+  keys = graft x (λ i. leaf (least (G i)))
+
+  key_le : (i : ℕ) → occurs i keys ≤ occurs i (graft x s)
+  unfolding keys G
+  key_le i =
+      rw (sum_leaves-graft x (λ a. leaf (least (form label (s a)))) (λ l. one_if (ℕ_discrete l i)), sum_leaves-graft x s (λ l. one_if (ℕ_discrete l i)))
+      (sum_leaves-≤ x (λ a. one_if (ℕ_discrete (least (form label (s a))) i)) (λ a. occurs i (s a))
+      (by_leaf x (λ a. one_if (ℕ_discrete (least (form label (s a))) i) ≤ occurs i (s a)) (λ a o. let r = hx.only a o in one a r)))
+    where
+      one : (a : ℕ) → InRange m a → one_if (ℕ_discrete (least (form label (s a))) i) ≤ occurs i (s a)
+      one a r = subst (λ k. one_if (ℕ_discrete (least (form label (s a))) i) ≤ k) (occurs-form label i (s a))
+          (one_if_le i (form label (s a)) (ℕ_discrete (least (form label (s a))) i) (least-occurs (form label (s a)) (rises_at a r)))
+
+  once_keys : (i : ℕ) → occurs i keys ≤ 1
+  once_keys i = omega (arith, key_le i, single i)
+
+  keys_low : AllLeaves keys (λ k. k < suc n)
+  keys_low = by_leaf keys (λ k. k < suc n) (λ k o. let r : k ≤ n = range k (omega (arith, key_le k, o)) in omega (arith, r))
+
+  pub ranked : ℕ → ℕ
+  ranked i = suc (below (least (G i)) keys)
+
+  -- the tree with ranks for its leaves
+  abbrev pub relabel : Tree ℕ → Tree ℕ
+  relabel y = graft y (λ i. leaf (ranked i))
+
+  relabel_is : relabel x ≡ standard keys
+  unfolding ranked keys
+  relabel_is = sym (graft_assoc x (λ i. leaf (least (G i))) (λ i. leaf (suc (below i (graft x (λ j. leaf (least (G j))))))))
+
+  number : below (suc n) keys ≡ m
+  unfolding keys
+  number =
+      below_all (suc n) keys keys_low ∙ sum_leaves-graft x (λ i. leaf (least (G i))) (λ i. 1)
+      ∙ sym (below_all (suc m) x (by_leaf x (λ i. i < suc m) (λ i o. let r = hx.only i o in omega (arith, r.1)))) ∙ below_labelled arity m x hx m (omega arith)
+
+  each_rank : (i : ℕ) → 0 < i → i ≤ m → occurs i (relabel x) ≡ 1
+  each_rank i p le = ap (occurs i) relabel_is ∙ standard_each (suc n) keys keys_low once_keys i p (omega (arith, le, number))
+
+  only_rank : (i : ℕ) → 0 < occurs i (relabel x) → InRange m i
+  only_rank i o = let r = standard_only (suc n) keys keys_low once_keys i (subst (λ k. 0 < k) (ap (occurs i) relabel_is) o) in (r.0, omega (arith, r.1, number))
+
+  pub rank_within : (i : ℕ) → InRange m i → InRange m (ranked i)
+  rank_within i a = at_leaf x (λ k. InRange m (ranked k)) i (AllLeaves_of_graft x (λ k. leaf (ranked k)) (InRange m) (by_leaf (relabel x) (InRange m) only_rank)) (here i a)
+
+  once_rank : (i : ℕ) → occurs i (relabel x) ≤ 1
+  once_rank i = go (dec_lt 0 (occurs i (relabel x)))
+    where
+      go : Dec (0 < occurs i (relabel x)) → occurs i (relabel x) ≤ 1
+      go (yes o) = let r = only_rank i o in let e : occurs i (relabel x) ≡ 1 = each_rank i r.0 r.1 in omega (arith, e)
+      go (no z) = omega arith
+
+  found : (f : ℕ → ℕ) × (x ≡ graft (relabel x) (λ i. leaf (f i)))
+  found = factor (relabel x) x ranked (λ i. i) 0 once_rank (sym (graft_leaf (relabel x)))
+
+  pub behind : ℕ → ℕ
+  behind = found.0
+
+  pub behind_rank : (i : ℕ) → InRange m i → i ≡ behind (ranked i)
+  unfolding behind
+  behind_rank i a = at_leaf x (λ k. k ≡ found.0 (ranked k)) i
+      (agree x (λ k. k) (λ k. found.0 (ranked k)) (graft_leaf x ∙ found.1 ∙ graft_assoc x (λ k. leaf (ranked k)) (λ k. leaf (found.0 k)))) (here i a)
+
+  there : (j : ℕ) → InRange m j → 0 < occurs j (relabel x)
+  there j a = let e : occurs j (relabel x) ≡ 1 = each_rank j a.0 a.1 in omega (arith, e)
+
+  rank_behind : (j : ℕ) → InRange m j → ranked (behind j) ≡ j
+  unfolding behind
+  rank_behind j a = at_leaf (relabel x) (λ k. ranked (found.0 k) ≡ k) j
+      (agree (relabel x) (λ k. ranked (found.0 k)) (λ k. k)
+      (sym (graft_assoc (relabel x) (λ k. leaf (found.0 k)) (λ k. leaf (ranked k))) ∙ ap (λ y. graft y (λ k. leaf (ranked k))) (sym found.1) ∙ sym (graft_leaf (relabel x)))) (there j a)
+
+  pub behind_within : (j : ℕ) → InRange m j → InRange m (behind j)
+  unfolding behind
+  behind_within j a = at_leaf (relabel x) (λ k. InRange m (found.0 k)) j
+      (AllLeaves_of_graft (relabel x) (λ k. leaf (found.0 k)) (InRange m) (subst (λ y. AllLeaves y (InRange m)) found.1 (by_leaf x (InRange m) hx.only))) (there j a)
+
+  pub rank_apart : (i j : ℕ) → InRange m i → InRange m j → ranked i ≡ ranked j → i ≡ j
+  rank_apart i j a b e = behind_rank i a ∙ ap behind e ∙ sym (behind_rank j b)
+
+  -- the inputs in rising order
+  pub lined : ℕ → Tree ℕ
+  lined j = s (behind j)
+
+  in_order : (i j : ℕ) → InRange m i → InRange m j → i < j → Dec (least (G (behind i)) < least (G (behind j))) → least (G (behind i)) < least (G (behind j))
+  unfolding ranked
+  in_order i j a b lt (yes h) = h
+  in_order i j a b lt (no h) =
+      let k : below (least (G (behind j))) keys ≤ below (least (G (behind i))) keys = below-mono (least (G (behind j))) (least (G (behind i))) keys (omega (arith, h)) in
+      let u : suc (below (least (G (behind i))) keys) ≡ i = rank_behind i a in
+      let v : suc (below (least (G (behind j))) keys) ≡ j = rank_behind j b in
+      absurd (omega (arith, k, u, v, lt))
+
+  pub lined_order : (i j : ℕ) → InRange m i → InRange m j → i < j → least (form label (lined i)) < least (form label (lined j))
+  unfolding lined G
+  lined_order i j a b lt = in_order i j a b lt (dec_lt (least (G (behind i))) (least (G (behind j))))
+
+  pub lined_back : (i j : ℕ) → InRange m i → InRange m j → least (form label (lined i)) < least (form label (lined j)) → i < j
+  lined_back i j a b lt = go (dec_lt i j) (ℕ_discrete i j)
+    where
+      go : Dec (i < j) → Dec (i ≡ j) → i < j
+      go (yes h) e = h
+      go (no h) (yes e) = let l : least (form label (lined i)) ≡ least (form label (lined j)) = ap (λ k. least (form label (lined k))) e in absurd (omega (arith, l, lt))
+      go (no h) (no f) = let l : least (form label (lined j)) < least (form label (lined i)) = lined_order j i b a (omega (arith, h, f)) in absurd (omega (arith, l, lt))
+
+  pub lined_rise : PartsRise m (λ j. form label (lined j))
+  unfolding lined G
+  lined_rise = record {
+    each = λ i p le. rises_at (behind i) (behind_within i (p, le));
+    order = λ i j p lt le. lined_order i j (p, omega arith) (omega arith, le) lt;
+  }
+
+  -- a labelled tree with these inputs
+  pub lined_graft : (y : Tree ℕ) → IsLabelled arity m y → graft y s ≡ graft (relabel y) lined
+  unfolding lined
+  lined_graft y hy = graft_ext y s (λ i. s (behind (ranked i))) (by_leaf y (λ i. s i ≡ s (behind (ranked i))) (λ i o. ap s (behind_rank i (hy.only i o))))
+      ∙ sym (graft_assoc y (λ i. leaf (ranked i)) (λ j. s (behind j)))
+
+  pub relabel_among : (y : Tree ℕ) → IsLabelled arity m y → AllLeaves (relabel y) (InRange m)
+  relabel_among y hy = AllLeaves-graft y (λ i. leaf (ranked i)) (InRange m) (by_leaf y (λ i. InRange m (ranked i)) (λ i o. rank_within i (hy.only i o)))

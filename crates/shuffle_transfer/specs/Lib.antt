@@ -1,0 +1,8 @@
+pub mod Orderings
+pub mod ShuffleForms
+pub mod Labels
+pub mod Transfer
+pub mod Laws
+pub mod Certified
+pub mod NormalTrees
+pub mod NormalLaws

@@ -1,0 +1,80 @@
+-- Normal trees and normal forms.
+use Rattle.std.specs.Prelude.{ℕ, ◌≡◌, List, [], ◌∷◌, ◌++◌, map}
+use Rattle.std.proofs.Common.{Bool, true, false, cond}
+use Rattle.std.specs.declared.cmp.Ordering.{Ordering}
+use Rattle.std.specs.declared.cmp.Ordering.TheVariants.{Less}
+use Rattle.modular_sums.specs.Residues.{Alike}
+use Rattle.modular_sums.specs.Lists.{Mem, Distinct}
+use Rattle.modular_sums.specs.Sums.{coef, Same, scale, AllTerms}
+use Rattle.labelled_trees.specs.Trees.{Tree}
+use Rattle.labelled_trees.specs.Equality.{tree_discrete}
+use Rattle.labelled_trees.specs.Labelled.{IsLabelled}
+use Rattle.shuffle_insertions.specs.ShuffleTrees.{IsShuffleTree}
+use Rattle.shuffle_insertions.specs.Keys.{key, path, pathshort, leafpath, weightpath}
+use Rattle.shuffle_insertions.specs.Listing.{all_trees}
+use Rattle.shuffle_places.specs.AllPlaces.{places}
+use Rattle.shuffle_bases.specs.Elements.{Element}
+use Rattle.operad_ideals.specs.Spelling.{IsSorted}
+use Rattle.operad_ideals.specs.Presentations.{Presentation, parts, arity_of}
+use Rattle.operad_ideals.specs.Ideals.{InIdeal}
+use Rattle.shuffle_transfer.specs.Labels.{labels, gen, inputs_of, shuffle_form, symmetric_tree}
+use Rattle.shuffle_transfer.specs.Transfer.{shuffled}
+
+-- the four orders; the weights are those of the generators
+pub data OneOrder : Type 0 where
+  by_path : OneOrder
+  by_pathshort : OneOrder
+  by_leafpath : OneOrder
+  by_weightpath : (ℕ → ℕ) → OneOrder
+
+-- the comparison of shuffle trees over the labels of a presentation
+abbrev pub compare : Presentation → OneOrder → Tree ℕ → Tree ℕ → Ordering
+compare p by_path x y = path (key (λ l. 0) x) (key (λ l. 0) y)
+compare p by_pathshort x y = pathshort (key (λ l. 0) x) (key (λ l. 0) y)
+compare p by_leafpath x y = leafpath (key (λ l. 0) x) (key (λ l. 0) y)
+compare p (by_weightpath weights) x y = weightpath (key (λ l. weights (gen p l)) x) (key (λ l. weights (gen p l)) y)
+
+abbrev pub is_empty : List (List ℕ) → Bool
+is_empty [] = true
+is_empty (x ∷ l) = false
+
+-- whether no leading tree of the elements is the divisor at a place of the tree
+abbrev pub is_free : List Element → Tree ℕ → Bool
+is_free [] t = true
+is_free (g ∷ elements) t = cond (is_empty (places g.lead 1 t)) (is_free elements t) false
+
+abbrev pub free_trees : List Element → List (Tree ℕ) → List (Tree ℕ)
+free_trees elements [] = []
+free_trees elements (t ∷ ts) = cond (is_free elements t) (t ∷ free_trees elements ts) (free_trees elements ts)
+
+module _ (p : Presentation) where
+  -- The listing of arity n: the trees of all shuffle trees over the labels that no leading tree divides.
+  abbrev pub normal_list : List Element → ℕ → List (Tree ℕ)
+  normal_list elements n = map (symmetric_tree p) (free_trees elements (all_trees (labels p) (inputs_of p) n))
+
+  -- The list is independent modulo the ideal: no tree stands twice, and an element of the ideal on trees of the list is zero.
+  pub record IsIndependent (n : ℕ) (l : List (Tree ℕ)) : Type 0 where
+    pub distinct : Distinct l
+    pub zero : (e : List (ℕ × Tree ℕ)) → AllTerms e (λ t. Mem t l) → InIdeal p n e → Same tree_discrete p.q e []
+
+  -- The list is spanning modulo the ideal: each labelled tree less some element on trees of the list is in the ideal.
+  abbrev pub IsSpanning : ℕ → List (Tree ℕ) → Type 0
+  IsSpanning n l = (t : Tree ℕ) → IsLabelled (arity_of p) n t → (e : List (ℕ × Tree ℕ)) × AllTerms e (λ u. Mem u l) × InIdeal p n ((1, t) ∷ scale p.q e)
+
+  -- f is a normal form of e: it is an element on trees of the list, and e less f is in the ideal.
+  pub record IsNormalForm (n : ℕ) (l : List (Tree ℕ)) (e f : List (ℕ × Tree ℕ)) : Type 0 where
+    pub normal : AllTerms f (λ t. Mem t l)
+    pub rest : InIdeal p n (e ++ scale p.q f)
+
+  module _ (cmp : Tree ℕ → Tree ℕ → Ordering) (n : ℕ) where
+    -- t is the leading tree of the element: its shuffle form stands in that of the element, and no greater tree does.
+    pub record IsLead (e : List (ℕ × Tree ℕ)) (t : Tree ℕ) : Type 0 where
+      pub there : Alike p.q (coef tree_discrete (shuffled p e) (shuffle_form p t)) 0 → ⊥
+      pub above : (s : Tree ℕ) → IsShuffleTree (inputs_of p) n s → cmp (shuffle_form p t) s ≡ Less → Alike p.q (coef tree_discrete (shuffled p e) s) 0
+
+    -- A normal tree: a sorted labelled tree that is the leading tree of no element of the ideal
+    -- (Bremner and Dotsenko 2016, normal monomials).
+    pub record IsNormalTree (t : Tree ℕ) : Type 0 where
+      pub labelled : IsLabelled (arity_of p) n t
+      pub sorted : IsSorted (parts p) t
+      pub leads_none : (e : List (ℕ × Tree ℕ)) → AllTerms e (IsLabelled (arity_of p) n) → InIdeal p n e → IsLead e t → ⊥
