@@ -1,21 +1,18 @@
 -- An example: the Jacobi element over one binary label, its free trees and the laws for it, through arity 4.
-use Rattle.std.proofs.Common.{◌≡◌, ℕ, ◌≤◌, List, [], ◌∷◌, true, refl, sym, ◌∙◌, subst, inl, inr, arith}
+use Rattle.std.proofs.Common.{◌≡◌, ℕ, ◌≤◌, List, [], ◌∷◌, refl, sym, subst, inl, inr, arith}
 use native.Mathlib.Decide.{ℕ_discrete}
-use Rattle.modular_sums.specs.Lists.{Mem, has_by}
+use Rattle.modular_sums.specs.Lists.{Mem}
 use Rattle.modular_sums.specs.Sums.{coef, scale, expand, AllTerms, Same}
-use Rattle.modular_sums.proofs.Lists.{has_by_mem}
 use Rattle.modular_sums.proofs.Sameness.{same_if_agree}
 use mathlib.Core.List.{◌++◌}
 use Rattle.labelled_trees.specs.Trees.{Tree, leaf}
 use Rattle.labelled_trees.specs.Equality.{same_leaf, same_node, same_more, tree_discrete_by, row_discrete_by, tree_discrete}
 use Rattle.shuffle_insertions.specs.ShuffleTrees.{IsShuffleTree}
-use Rattle.shuffle_insertions.specs.Listing.{all_trees}
-use Rattle.shuffle_insertions.proofs.Laws.{listed}
-use Rattle.shuffle_insertions.proofs.Examples.{by_path, l, t1, t2, t3, one_binary, one_label}
+use Rattle.shuffle_insertions.proofs.Examples.{valid_at, by_path, l, t1, t2, t3, one_binary, one_label}
 use Rattle.shuffle_places.proofs.Laws.{places_listed}
 use Rattle.shuffle_places.proofs.Examples.{top_two}
-use Rattle.shuffle_bases.specs.Elements.{Element, IsMonic, AreMonic, Insertion, value_of}
-use Rattle.shuffle_bases.proofs.Examples.{jacobi, setting, reduces, monic, valid_at}
+use Rattle.shuffle_bases.specs.Elements.{Insertion, value_of}
+use Rattle.shuffle_bases.proofs.Examples.{jacobi, setting, reduces, monic}
 use Rattle.shuffle_normal_forms.specs.FreeTrees.{IsFree, IsFreeTree, free_trees}
 use Rattle.shuffle_normal_forms.specs.NormalForms.{InSpan, IsNormalForm, LeadsNone, IsAtMost}
 use Rattle.shuffle_normal_forms.proofs.Laws.{all_listed, independent, spanning, lead_none, one_form}
