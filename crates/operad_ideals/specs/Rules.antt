@@ -11,6 +11,7 @@ abbrev pub numbered : ℕ → ℕ → Row ℕ
 numbered a zero = none
 numbered a (suc k) = more (leaf (suc a)) (numbered (suc a) k)
 
+-- the first two inputs in each other's place
 abbrev pub exchanged_first : {A : Type 0} → Row A → Row A
 exchanged_first none = none
 exchanged_first (more t none) = more t none

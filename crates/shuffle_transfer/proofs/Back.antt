@@ -1,4 +1,5 @@
 -- The tree of a shuffle tree has it as its shuffle form, and no turns.
+use Rattle.std.proofs.lemmas.Simd.{map-map}
 use Rattle.std.proofs.Common.{◌≡◌, ℕ, zero, suc, ◌≤◌, List, [], ◌∷◌, map, length, refl, sym, ◌∙◌, ap, arith, subst}
 use mathlib.Core.Path.{ap₂}
 use Rattle.std.specs.List.{AllByRecursion}
@@ -13,7 +14,7 @@ use Rattle.operad_ideals.specs.Sorting.{sort_by}
 use Rattle.operad_ideals.proofs.SortedLists.{Ascends}
 use Rattle.shuffle_transfer.specs.Orderings.{IsOrdering}
 use Rattle.shuffle_transfer.specs.ShuffleForms.{ranks, form, form_row, to_symmetric, to_symmetric_row}
-use Rattle.shuffle_transfer.proofs.Ranks.{map-map, map_same, ranks-arranged, sort-arranged}
+use Rattle.shuffle_transfer.proofs.Ranks.{map_same, ranks-arranged, sort-arranged}
 use Rattle.shuffle_transfer.proofs.FormGrafts.{turns, turns_row}
 use Rattle.shuffle_transfer.proofs.Forms.{fits_row, row_ascends, occurs-form}
 
@@ -122,12 +123,12 @@ module _ (arity : ℕ → ℕ) (label twist : ℕ → List ℕ → ℕ) (gen : �
       forms_are : form_row label (row (map (item (to_symmetric_row gen word r)) (word l))) ≡ map (item (inputs_list r)) (word l)
       forms_are =
           form_row-row label (map (item (to_symmetric_row gen word r)) (word l))
-          ∙ map-map (item (to_symmetric_row gen word r)) (form label) (word l)
+          ∙ map-map (form label) (item (to_symmetric_row gen word r)) (word l)
           ∙ map_same (λ i. form label (item (to_symmetric_row gen word r) i)) (item (inputs_list r)) (word l)
           (λ i m.
           ap (λ xs. form label (item xs i)) (to_symmetric_row-map gen word r)
           ∙ sym (item-map (form label) refl (map (to_symmetric gen word) (inputs_list r)) i)
-          ∙ ap (λ xs. item xs i) (map-map (to_symmetric gen word) (form label) (inputs_list r) ∙ formed (inputs_list r) k))
+          ∙ ap (λ xs. item xs i) (map-map (form label) (to_symmetric gen word) (inputs_list r) ∙ formed (inputs_list r) k))
 
   mutual
     pub back : (s : Tree ℕ) → IsRising s → Fits inputs_of s → Back s

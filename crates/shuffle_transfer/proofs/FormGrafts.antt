@@ -1,4 +1,5 @@
 -- The shuffle form of a graft whose parts rise is the graft of the shuffle forms.
+use Rattle.std.proofs.lemmas.Simd.{map-map}
 use Rattle.std.proofs.Common.{◌≡◌, ℕ, suc, ◌+◌, ◌<◌, List, [], ◌∷◌, map, length, refl, sym, ◌∙◌, ap, arith}
 use mathlib.Core.Path.{ap₂}
 use Rattle.std.specs.List.{AllByRecursion}
@@ -10,7 +11,7 @@ use Rattle.operad_ideals.specs.Sorting.{sort_by}
 use Rattle.operad_ideals.proofs.SortedLists.{every_sort_by, length-sort_by, map-sort_by}
 use Rattle.operad_ideals.proofs.SameOrder.{sort_by-order}
 use Rattle.shuffle_transfer.specs.ShuffleForms.{ranks, form, form_row}
-use Rattle.shuffle_transfer.proofs.Ranks.{map-map, ranks-order}
+use Rattle.shuffle_transfer.proofs.Ranks.{ranks-order}
 
 -- how often skew inputs change places, summed over the vertices; `twist g w` counts it for a generator with a word
 module _ (label twist : ℕ → List ℕ → ℕ) where
@@ -68,7 +69,7 @@ module _ (arity : ℕ → ℕ) (label : ℕ → List ℕ → ℕ) (P : ℕ → T
     kept_row (more t r) f h = (kept t f.0 h.0, kept_row r f.1 h.1)
 
   ranks-grafted : (ts : List (Tree ℕ)) → AllByRecursion Keeps ts → ranks (map least (map grafted ts)) ≡ ranks (map least ts)
-  ranks-grafted ts h = ap ranks (map-map grafted least ts) ∙ sym (ranks-order Keeps least (λ x. least (grafted x)) fore back ts h)
+  ranks-grafted ts h = ap ranks (map-map least grafted ts) ∙ sym (ranks-order Keeps least (λ x. least (grafted x)) fore back ts h)
 
   sorted-grafted : (ts : List (Tree ℕ)) → AllByRecursion Keeps ts → row (sort_by least (map grafted ts)) ≡ graft_row (row (sort_by least ts)) parts
   sorted-grafted ts h =

@@ -35,7 +35,7 @@ use Rattle.shuffle_transfer.proofs.Forth.{forth}
 use Rattle.shuffle_transfer.proofs.Turned.{turns_of, turned, Same-turned, member_turned}
 use Rattle.shuffle_transfer.proofs.Vanish.{once_inside, symmetry_gone}
 use Rattle.shuffle_transfer.proofs.SlotInsertions.{SlotInsertion, slot_inserted}
-use Rattle.shuffle_transfer.proofs.Relations.{labelled_sums, least_same, ranked, rank_within, rank_apart, lined, lined_order, lined_back, lined_rise, lined_graft, relabel_among}
+use Rattle.shuffle_transfer.proofs.Relations.{Inputs, labelled_sums, least_same, ranked, rank_within, rank_apart, lined, lined_order, lined_back, lined_rise, lined_graft, relabel_among}
 
 -- relabellings that agree on 1 to m
 pub same_relabelled : (arity : ℕ → ℕ) (m : ℕ) (v : List ℕ) (f : ℕ → ℕ) → ((i : ℕ) → 0 < i → i ≤ m → entry v i ≡ f i) → (l : List (ℕ × Tree ℕ)) → AllTerms l (IsLabelled arity m)
@@ -71,11 +71,14 @@ module _ (p : Presentation) (n : ℕ) where
     range0 i o = let k : occurs i (graft x0 s) ≤ occurs i (fill c (graft x0 s)) = sum_of_fill c (graft x0 s) (λ l. one_if (ℕ_discrete l i)) in
         let r = v0.only i (omega (arith, k, o)) in omega (arith, r.1)
 
+    abbrev given : Inputs arity m n
+    given = record { tree = x0; parts = s; labelled = h0; fits = fits0; single = single0; range = range0 }
+
     abbrev rank : ℕ → ℕ
-    rank = ranked lab arity m n x0 s h0 fits0 single0 range0
+    rank = ranked lab arity m n given
 
     abbrev lines : ℕ → Tree ℕ
-    lines = lined lab arity m n x0 s h0 fits0 single0 range0
+    lines = lined lab arity m n given
 
     abbrev named : Tree ℕ → Tree ℕ
     named y = graft y (λ i. leaf (rank i))
@@ -112,15 +115,15 @@ module _ (p : Presentation) (n : ℕ) where
 
     part_form : (y : Tree ℕ) → IsLabelled arity m y → shuffle_form p (graft y s) ≡ graft (shuffle_form p (named y)) (λ j. shuffle_form p (lines j))
     part_form y h =
-        ap (shuffle_form p) (lined_graft lab arity m n x0 s h0 fits0 single0 range0 y h)
-        ∙ form-graft arity lab (InRange m) lines (lined_order lab arity m n x0 s h0 fits0 single0 range0) (lined_back lab arity m n x0 s h0 fits0 single0 range0)
-        (named y) (named_fits y h) (relabel_among lab arity m n x0 s h0 fits0 single0 range0 y h)
+        ap (shuffle_form p) (lined_graft lab arity m n given y h)
+        ∙ form-graft arity lab (InRange m) lines (lined_order lab arity m n given) (lined_back lab arity m n given)
+        (named y) (named_fits y h) (relabel_among lab arity m n given y h)
 
     part_turns : (y : Tree ℕ) → IsLabelled arity m y → turns_of p (graft y s) ≡ turns_of p (named y) + inner
     part_turns y h =
-        ap (turns_of p) (lined_graft lab arity m n x0 s h0 fits0 single0 range0 y h)
-        ∙ turns-graft arity lab (InRange m) lines (lined_order lab arity m n x0 s h0 fits0 single0 range0) (lined_back lab arity m n x0 s h0 fits0 single0 range0) turn
-        (named y) (named_fits y h) (relabel_among lab arity m n x0 s h0 fits0 single0 range0 y h)
+        ap (turns_of p) (lined_graft lab arity m n given y h)
+        ∙ turns-graft arity lab (InRange m) lines (lined_order lab arity m n given) (lined_back lab arity m n given) turn
+        (named y) (named_fits y h) (relabel_among lab arity m n given y h)
         ∙ ap (λ k. turns_of p (named y) + k) (inner_is y h)
 
     form_at : (y : Tree ℕ) → IsLabelled arity m y → IsLabelled arity n (fill c (graft y s)) → shuffle_form p (fill c (graft y s)) ≡ fill_slot slot (shuffle_form p (named y))
@@ -149,8 +152,8 @@ module _ (p : Presentation) (n : ℕ) where
     -- the permutation as a list
     ordering : (v : List ℕ) × IsOrdering m v × ((i : ℕ) → 0 < i → i ≤ m → entry v i ≡ rank i)
     ordering = as_list m rank
-        (λ i a b. let r = rank_within lab arity m n x0 s h0 fits0 single0 range0 i (a, b) in (r.0, r.1))
-        (λ i j a b c' d e. rank_apart lab arity m n x0 s h0 fits0 single0 range0 i j (a, b) (c', d) e)
+        (λ i a b. let r = rank_within lab arity m n given i (a, b) in (r.0, r.1))
+        (λ i j a b c' d e. rank_apart lab arity m n given i j (a, b) (c', d) e)
 
     pub relation_inserted : (r : Relation) → Mem r p.relations → r.arity ≡ m → AllTerms r.terms (IsLabelled arity m) → AllTerms (moved (λ x. fill c (graft x s)) r.terms) (IsLabelled arity n)
         → InSpan (turned p (moved (λ x. fill c (graft x s)) r.terms))
@@ -167,7 +170,7 @@ module _ (p : Presentation) (n : ℕ) where
           permutation = ordering.0;
           permutes = subst (λ k. IsOrdering k ordering.0) (sym e) ordering.1;
           slot = slot;
-          rises = subst (λ k. PartsRise k (λ j. shuffle_form p (lines j))) (sym e) (lined_rise lab arity m n x0 s h0 fits0 single0 range0);
+          rises = subst (λ k. PartsRise k (λ j. shuffle_form p (lines j))) (sym e) (lined_rise lab arity m n given);
           valid = subst (λ k. AllTerms (moved (fill_slot slot) (turned p k)) Shuffles) (sym same) (all_valid r.terms h v);
         }
 

@@ -1,4 +1,5 @@
 -- The way back keeps grafts, sums over leaves, and insertions.
+use Rattle.std.proofs.lemmas.Simd.{map-map}
 use Rattle.std.proofs.Common.{◌≡◌, ℕ, zero, suc, ◌+◌, ◌<◌, ◌≤◌, List, [], ◌∷◌, map, length, refl, sym, ◌∙◌, ap, arith, subst}
 use mathlib.Core.Path.{ap₂}
 use native.Mathlib.Decide.{ℕ_discrete}
@@ -16,7 +17,7 @@ use Rattle.shuffle_transfer.specs.Labels.{gen, word, inputs_of, symmetric_tree}
 use Rattle.shuffle_transfer.specs.Laws.{FramesBack}
 use Rattle.shuffle_transfer.proofs.Permutes.{Picked, now, later, Permutes, done, begin}
 use Rattle.shuffle_transfer.proofs.Orderings.{ordering_permutes}
-use Rattle.shuffle_transfer.proofs.Ranks.{map-map, map_same, items_all}
+use Rattle.shuffle_transfer.proofs.Ranks.{map_same, items_all}
 use Rattle.shuffle_transfer.proofs.Labels.{word_of_label}
 use Rattle.shuffle_transfer.proofs.FormGrafts.{graft_row-row}
 use Rattle.shuffle_transfer.proofs.Back.{item-map}
@@ -64,7 +65,7 @@ module _ (p : Presentation) where
         ∙ ap (λ us. node (gen p l) (row us))
         (map_same (item (map (λ u. graft u (λ i. symmetric_tree p (s i))) (S_row r))) (λ i. graft (item (S_row r) i) (λ j. symmetric_tree p (s j))) (word p l)
         (λ i m. let k = o.within i m in item_within (λ u. graft u (λ j. symmetric_tree p (s j))) (S_row r) i k.0 k.1)
-        ∙ sym (map-map (item (S_row r)) (λ u. graft u (λ j. symmetric_tree p (s j))) (word p l)))
+        ∙ sym (map-map (λ u. graft u (λ j. symmetric_tree p (s j))) (item (S_row r)) (word p l)))
         ∙ ap (node (gen p l)) (sym (graft_row-row (map (item (S_row r)) (word p l)) (λ j. symmetric_tree p (s j))))
 
     back-graft_row : (r : Row ℕ) (s : ℕ → Tree ℕ) → FitsRow (inputs_of p) r → S_row (graft_row r s) ≡ map (λ u. graft u (λ i. symmetric_tree p (s i))) (S_row r)

@@ -1,5 +1,5 @@
 -- The list of all permutations, in lexicographic order.
-use Rattle.std.proofs.Common.{◌≡◌, ℕ, zero, suc, ◌+◌, ◌<◌, ◌≤◌, List, [], ◌∷◌, map, length, refl, sym, ◌∙◌, ap, arith, subst, inl, inr, ◌⊎◌}
+use Rattle.std.proofs.Common.{◌≡◌, ℕ, zero, suc, ◌+◌, ◌<◌, ◌≤◌, List, [], ◌∷◌, map, length, refl, sym, ◌∙◌, ap, arith, subst, inl, inr, ◌⊎◌, length-append}
 use Rattle.std.specs.Prelude.{flat_map}
 use mathlib.Core.List.{◌++◌}
 use Rattle.std.specs.declared.cmp.Ordering.TheVariants.{Less}
@@ -14,13 +14,9 @@ use Rattle.shuffle_transfer.specs.Orderings.{IsOrdering, entry, Pick, behind, pi
 use Rattle.shuffle_transfer.specs.Laws.{AllOrderings}
 use Rattle.shuffle_transfer.proofs.Permutes.{mem_of_flat, mem_of_behind, picked, Permutes, pick_mem, rest_rises, permutes_within, permutes_distinct, permutes_length, permutes_of, mem_permutations, permutations_mem}
 
-length-snoc : (l : List ℕ) (x : ℕ) → length (l ++ (x ∷ [])) ≡ suc (length l)
-length-snoc [] x = refl
-length-snoc (y ∷ l) x = ap suc (length-snoc l x)
-
 pub length-upto : (n : ℕ) → length (upto n) ≡ n
 length-upto zero = refl
-length-upto (suc n) = length-snoc (upto n) (suc n) ∙ ap suc (length-upto n)
+length-upto (suc n) = length-append (upto n) (suc n ∷ []) ∙ omega (arith, length-upto n)
 
 pub ordering_permutes : (m : ℕ) (v : List ℕ) → IsOrdering m v → Permutes (upto m) v
 ordering_permutes m v h = permutes_of v (upto m) (h.length_is ∙ sym (length-upto m)) h.distinct (λ u k. let w = h.within u k in in_upto m u w.0 w.1)

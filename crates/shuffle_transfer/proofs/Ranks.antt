@@ -3,7 +3,8 @@ use Rattle.std.proofs.Common.{◌≡◌, ◌≢◌, inl, inr, ⊎_elim, ℕ, zer
 use mathlib.Core.List.{◌++◌}
 use Rattle.std.specs.List.{AllByRecursion}
 use Rattle.std.proofs.Math.ListN.{length-map}
-use Rattle.std.proofs.lemmas.List.{map-append}
+use Rattle.std.proofs.lemmas.List.{map-append, map-id}
+use Rattle.std.proofs.lemmas.Simd.{map-map}
 use Rattle.modular_sums.specs.Lists.{Mem, Distinct, Rises}
 use Rattle.modular_sums.proofs.Lists.{mem_of_map, same_rising}
 use Rattle.labelled_trees.specs.Trees.{Tree}
@@ -33,10 +34,6 @@ sort_mem key xs x m = every_in (λ z. Mem z xs) (sort_by key xs) x (every_sort_b
 pub map_same : {X Y : Type 0} (f g : X → Y) (xs : List X) → ((x : X) → Mem x xs → f x ≡ g x) → map f xs ≡ map g xs
 map_same f g [] h = refl
 map_same f g (x ∷ xs) h = ap₂ (λ y ys. y ∷ ys) (h x (inl refl)) (map_same f g xs (λ y m. h y (inr m)))
-
-pub map-map : {X Y Z : Type 0} (f : X → Y) (g : Y → Z) (xs : List X) → map g (map f xs) ≡ map (λ x. g (f x)) xs
-map-map f g [] = refl
-map-map f g (x ∷ xs) = ap (λ ys. g (f x) ∷ ys) (map-map f g xs)
 
 -- ---- how many keys are smaller
 
@@ -110,15 +107,11 @@ item_rank key (t ∷ ts) x h (inr m) =
 -- a list is its sorted list, arranged by the ranks of its keys
 pub arranged_back : (key : Tree ℕ → ℕ) (ts : List (Tree ℕ)) → Apart key ts → map (item (sort_by key ts)) (ranks (map key ts)) ≡ ts
 arranged_back key ts h =
-    map-map (λ k. suc (below k (map key ts))) (item (sort_by key ts)) (map key ts)
-    ∙ map-map key (λ k. item (sort_by key ts) (suc (below k (map key ts)))) ts
+    map-map (item (sort_by key ts)) (λ k. suc (below k (map key ts))) (map key ts)
+    ∙ map-map (λ k. item (sort_by key ts) (suc (below k (map key ts)))) key ts
     ∙ map_same (λ t. item (sort_by key ts) (suc (below (key t) (map key ts)))) (λ t. t) ts
     (λ t m. ap (λ n. item (sort_by key ts) (suc n)) (sym (below_sort key (key t) ts)) ∙ item_rank key (sort_by key ts) t (sort_by-ascends key ts h) (mem_sort key ts t m))
-    ∙ same ts
-  where
-    same : (us : List (Tree ℕ)) → map (λ t. t) us ≡ us
-    same [] = refl
-    same (u ∷ us) = ap (λ vs. u ∷ vs) (same us)
+    ∙ map-id ts
 
 -- ---- the ranks are a permutation
 
@@ -153,9 +146,9 @@ ranks_ordering key xs h = record {
 pub ranks-order : {X : Type 0} (P : X → Type 0) (key other : X → ℕ) → ((x y : X) → P x → P y → key x < key y → other x < other y) → ((x y : X) → P x → P y → other x < other y → key x < key y)
     → (xs : List X) → AllByRecursion P xs → ranks (map key xs) ≡ ranks (map other xs)
 ranks-order P key other up down xs h =
-    map-map key (λ k. suc (below k (map key xs))) xs
+    map-map (λ k. suc (below k (map key xs))) key xs
     ∙ map_same (λ x. suc (below (key x) (map key xs))) (λ x. suc (below (other x) (map other xs))) xs (λ x m. ap suc (below-order P key other up down x xs (every_in P xs x h m) h))
-    ∙ sym (map-map other (λ k. suc (below k (map other xs))) xs)
+    ∙ sym (map-map (λ k. suc (below k (map other xs))) other xs)
 
 -- ---- permutations of 1 to m
 
@@ -168,7 +161,7 @@ pub items_all : (ts : List (Tree ℕ)) → map (item ts) (upto (length ts)) ≡ 
 items_all [] = refl
 items_all (t ∷ ts) =
     ap (map (item (t ∷ ts))) (upto_first (length ts))
-    ∙ ap (λ us. t ∷ us) (map-map suc (item (t ∷ ts)) (upto (length ts)) ∙ map_same (λ i. item (t ∷ ts) (suc i)) (item ts) (upto (length ts)) (λ i m. at i (upto_mem (length ts) i m).0) ∙ items_all ts)
+    ∙ ap (λ us. t ∷ us) (map-map (item (t ∷ ts)) suc (upto (length ts)) ∙ map_same (λ i. item (t ∷ ts) (suc i)) (item ts) (upto (length ts)) (λ i m. at i (upto_mem (length ts) i m).0) ∙ items_all ts)
   where
     at : (i : ℕ) → 0 < i → item (t ∷ ts) (suc i) ≡ item ts i
     at zero l = absurd (omega arith)
@@ -207,19 +200,15 @@ below_upto (suc n) k le =
     all zero k l = refl
     all (suc n) k l = below_append k (upto n) (suc n ∷ []) ∙ (let a : below k (upto n) ≡ n = all n k (omega (arith, l)) in let b : below k (suc n ∷ []) ≡ 1 = below_less k (suc n) [] l in omega (arith, a, b))
 
-map_id : (v : List ℕ) → map (λ n. n) v ≡ v
-map_id [] = refl
-map_id (x ∷ v) = ap (λ w. x ∷ w) (map_id v)
-
 -- the ranks of a permutation are the permutation
 pub ranks-ordering : (m : ℕ) (v : List ℕ) → IsOrdering m v → ranks v ≡ v
-ranks-ordering m v h = map_same (λ k. suc (below k v)) (λ k. k) v (λ k i. let w = h.within k i in at k w.0 w.1) ∙ map_id v
+ranks-ordering m v h = map_same (λ k. suc (below k v)) (λ k. k) v (λ k i. let w = h.within k i in at k w.0 w.1) ∙ map-id v
   where
     at : (k : ℕ) → 0 < k → k ≤ m → suc (below k v) ≡ k
     at zero l le = absurd (omega (arith, l))
     at (suc k) l le =
         let a : below (suc k) (map (λ n. n) (sort_by (λ n. n) v)) ≡ below (suc k) (map (λ n. n) v) = below_sort (λ n. n) (suc k) v in
-        ap suc (ap (below (suc k)) (sym (map_id v)) ∙ sym a ∙ ap (below (suc k)) (map_id (sort_by (λ n. n) v) ∙ sort-ordering m v h) ∙ below_upto m k (omega (arith, le)))
+        ap suc (ap (below (suc k)) (sym (map-id v)) ∙ sym a ∙ ap (below (suc k)) (map-id (sort_by (λ n. n) v) ∙ sort-ordering m v h) ∙ below_upto m k (omega (arith, le)))
 
 -- ---- ascending trees, arranged by a permutation
 
@@ -257,9 +246,9 @@ module _ (key : Tree ℕ → ℕ) (ts : List (Tree ℕ)) (h : Ascends key ts) wh
     -- its ranks are the permutation
     pub ranks-arranged : ranks (map key (map (item ts) w)) ≡ w
     ranks-arranged =
-        ap ranks (map-map (item ts) key w)
+        ap ranks (map-map key (item ts) w)
         ∙ sym (ranks-order (InRange (length ts)) (λ n. n) (λ n. key (item ts n)) items_up items_down w in_range)
-        ∙ ap ranks (map_id w) ∙ ranks-ordering (length ts) w o
+        ∙ ap ranks (map-id w) ∙ ranks-ordering (length ts) w o
 
     -- and sorted it is the ascending list
     pub sort-arranged : sort_by key (map (item ts) w) ≡ ts

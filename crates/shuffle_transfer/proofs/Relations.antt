@@ -1,18 +1,17 @@
 -- Any inputs are rising inputs behind a permutation: an instance of a relation has, with its sign, the shuffle form of an insertion.
-use Rattle.std.proofs.Common.{◌≡◌, ℕ, zero, suc, ◌*◌, ◌<◌, ◌≤◌, List, refl, sym, ◌∙◌, ap, arith, subst}
+use Rattle.std.proofs.Common.{◌≡◌, ℕ, zero, suc, ◌*◌, ◌<◌, ◌≤◌, List, sym, ◌∙◌, ap, arith, subst}
 use native.Mathlib.Decide.{dec_lt, ℕ_discrete}
 use Rattle.labelled_trees.specs.Trees.{Tree, Row, leaf, node, none, more, graft}
-use Rattle.labelled_trees.specs.Leaves.{one_if, sum_leaves, sum_row, AllLeaves, AllRow, occurs}
+use Rattle.labelled_trees.specs.Leaves.{one_if, leaf_count, sum_leaves, sum_row, AllLeaves, AllRow, occurs}
 use Rattle.labelled_trees.specs.Labelled.{Fits, IsLabelled}
 use Rattle.labelled_trees.specs.Ranks.{below, standard}
-use Rattle.labelled_trees.specs.RangeSums.{range_sum}
 use Rattle.labelled_trees.proofs.Grafts.{graft_assoc, graft_leaf}
-use Rattle.labelled_trees.proofs.Leaves.{by_leaf, at_leaf, sum_leaves-≤}
+use Rattle.labelled_trees.proofs.Leaves.{by_leaf, at_leaf, one_if-yes, AllLeaves-imp, sum_leaves-≤, sum_leaves-same}
 use Rattle.labelled_trees.proofs.GraftLeaves.{graft_ext, agree, AllLeaves-graft, AllLeaves_of_graft, sum_leaves-graft}
 use Rattle.labelled_trees.proofs.Factors.{factor}
 use Rattle.labelled_trees.proofs.Fitting.{fits_parts}
 use Rattle.labelled_trees.proofs.RangeSums.{range_sum_ext, by_counts}
-use Rattle.labelled_trees.proofs.Ranks.{below-mono, standard_each, standard_only}
+use Rattle.labelled_trees.proofs.Ranks.{below-mono, below_sum, standard_each, standard_only}
 use Rattle.shuffle_insertions.specs.ShuffleTrees.{least, IsRising}
 use Rattle.shuffle_insertions.specs.Slots.{PartsRise}
 use Rattle.shuffle_insertions.proofs.Insertions.{InRange}
@@ -52,13 +51,9 @@ module _ (arity : ℕ → ℕ) (m : ℕ) where
   below_labelled x h zero le = let z : occurs 0 x ≡ 0 = no_zero x h in omega (arith, z)
   below_labelled x h (suc k) le = let o : occurs (suc k) x ≡ 1 = h.each (suc k) (omega arith) le in omega (arith, o, below_labelled x h k (omega arith))
 
-below_range : (b : ℕ) (t : Tree ℕ) → below b t ≡ range_sum b (λ i. occurs i t * 1)
-below_range zero t = refl
-below_range (suc b) t = omega (arith, below_range b t)
-
--- how many leaves
-pub below_all : (b : ℕ) (t : Tree ℕ) → AllLeaves t (λ x. x < b) → below b t ≡ sum_leaves t (λ i. 1)
-below_all b t h = below_range b t ∙ sym (by_counts b t (λ i. 1) h)
+-- all leaves are below a bound
+below_all : (b : ℕ) (t : Tree ℕ) → AllLeaves t (λ x. x < b) → below b t ≡ leaf_count t
+below_all b t h = below_sum b t ∙ sum_leaves-same t (λ a. one_if (dec_lt a b)) (λ a. 1) (AllLeaves-imp t (λ x. x < b) (λ x. one_if (dec_lt x b) ≡ 1) (λ x l. one_if-yes (dec_lt x b) l) h)
 
 mutual
   leaf_le : (t : Tree ℕ) (f : ℕ → ℕ) (k : ℕ) → sum_leaves t f ≤ k → AllLeaves t (λ a. f a ≤ k)
@@ -80,21 +75,34 @@ least_same x y hx hy e =
     let b : least x ≤ least y = at_leaf x (λ i. least x ≤ i) (least y) (least-le x hx) (subst (λ n. 0 < n) (sym (e (least y))) (least-occurs y hy)) in
     omega arith
 
--- inputs s of a labelled tree x whose graft holds no number twice
-module _ (label : ℕ → List ℕ → ℕ) (arity : ℕ → ℕ) (m n : ℕ) (x : Tree ℕ) (s : ℕ → Tree ℕ) (hx : IsLabelled arity m x)
-    (fits : Fits arity (graft x s)) (single : (i : ℕ) → occurs i (graft x s) ≤ 1) (range : (i : ℕ) → 0 < occurs i (graft x s) → i ≤ n) where
+-- A labelled tree of arity m with a tree for each of its leaves, whose graft fits and holds no number twice and none above n.
+pub record Inputs (arity : ℕ → ℕ) (m n : ℕ) : Type 0 where
+  pub tree : Tree ℕ
+  pub parts : ℕ → Tree ℕ
+  pub labelled : IsLabelled arity m tree
+  pub fits : Fits arity (graft tree parts)
+  pub single : (i : ℕ) → occurs i (graft tree parts) ≤ 1
+  pub range : (i : ℕ) → 0 < occurs i (graft tree parts) → i ≤ n
+
+module _ (label : ℕ → List ℕ → ℕ) (arity : ℕ → ℕ) (m n : ℕ) (given : Inputs arity m n) where
+  abbrev x : Tree ℕ
+  x = given.tree
+
+  abbrev s : ℕ → Tree ℕ
+  s = given.parts
+
   G : ℕ → Tree ℕ
   G i = form label (s i)
 
   here : (i : ℕ) → InRange m i → 0 < occurs i x
-  here i a = let e : occurs i x ≡ 1 = hx.each i a.0 a.1 in omega (arith, e)
+  here i a = let e : occurs i x ≡ 1 = given.labelled.each i a.0 a.1 in omega (arith, e)
 
   fits_at : (i : ℕ) → InRange m i → Fits arity (s i)
-  fits_at i a = at_leaf x (λ k. Fits arity (s k)) i (fits_parts arity x s fits) (here i a)
+  fits_at i a = at_leaf x (λ k. Fits arity (s k)) i (fits_parts arity x s given.fits) (here i a)
 
   single_at : (i : ℕ) → InRange m i → (j : ℕ) → occurs j (s i) ≤ 1
   single_at i a j = at_leaf x (λ k. occurs j (s k) ≤ 1) i
-      (leaf_le x (λ k. occurs j (s k)) 1 (subst (λ k. k ≤ 1) (sum_leaves-graft x s (λ l. one_if (ℕ_discrete l j))) (single j))) (here i a)
+      (leaf_le x (λ k. occurs j (s k)) 1 (subst (λ k. k ≤ 1) (sum_leaves-graft x s (λ l. one_if (ℕ_discrete l j))) (given.single j))) (here i a)
 
   rises_at : (i : ℕ) → InRange m i → IsRising (G i)
   unfolding G
@@ -108,17 +116,17 @@ module _ (label : ℕ → List ℕ → ℕ) (arity : ℕ → ℕ) (m n : ℕ) (x
   key_le i =
       rw (sum_leaves-graft x (λ a. leaf (least (form label (s a)))) (λ l. one_if (ℕ_discrete l i)), sum_leaves-graft x s (λ l. one_if (ℕ_discrete l i)))
       (sum_leaves-≤ x (λ a. one_if (ℕ_discrete (least (form label (s a))) i)) (λ a. occurs i (s a))
-      (by_leaf x (λ a. one_if (ℕ_discrete (least (form label (s a))) i) ≤ occurs i (s a)) (λ a o. let r = hx.only a o in one a r)))
+      (by_leaf x (λ a. one_if (ℕ_discrete (least (form label (s a))) i) ≤ occurs i (s a)) (λ a o. let r = given.labelled.only a o in one a r)))
     where
       one : (a : ℕ) → InRange m a → one_if (ℕ_discrete (least (form label (s a))) i) ≤ occurs i (s a)
       one a r = subst (λ k. one_if (ℕ_discrete (least (form label (s a))) i) ≤ k) (occurs-form label i (s a))
           (one_if_le i (form label (s a)) (ℕ_discrete (least (form label (s a))) i) (least-occurs (form label (s a)) (rises_at a r)))
 
   once_keys : (i : ℕ) → occurs i keys ≤ 1
-  once_keys i = omega (arith, key_le i, single i)
+  once_keys i = omega (arith, key_le i, given.single i)
 
   keys_low : AllLeaves keys (λ k. k < suc n)
-  keys_low = by_leaf keys (λ k. k < suc n) (λ k o. let r : k ≤ n = range k (omega (arith, key_le k, o)) in omega (arith, r))
+  keys_low = by_leaf keys (λ k. k < suc n) (λ k o. let r : k ≤ n = given.range k (omega (arith, key_le k, o)) in omega (arith, r))
 
   pub ranked : ℕ → ℕ
   ranked i = suc (below (least (G i)) keys)
@@ -135,7 +143,7 @@ module _ (label : ℕ → List ℕ → ℕ) (arity : ℕ → ℕ) (m n : ℕ) (x
   unfolding keys
   number =
       below_all (suc n) keys keys_low ∙ sum_leaves-graft x (λ i. leaf (least (G i))) (λ i. 1)
-      ∙ sym (below_all (suc m) x (by_leaf x (λ i. i < suc m) (λ i o. let r = hx.only i o in omega (arith, r.1)))) ∙ below_labelled arity m x hx m (omega arith)
+      ∙ sym (below_all (suc m) x (by_leaf x (λ i. i < suc m) (λ i o. let r = given.labelled.only i o in omega (arith, r.1)))) ∙ below_labelled arity m x given.labelled m (omega arith)
 
   each_rank : (i : ℕ) → 0 < i → i ≤ m → occurs i (relabel x) ≡ 1
   each_rank i p le = ap (occurs i) relabel_is ∙ standard_each (suc n) keys keys_low once_keys i p (omega (arith, le, number))
@@ -176,7 +184,7 @@ module _ (label : ℕ → List ℕ → ℕ) (arity : ℕ → ℕ) (m n : ℕ) (x
   pub behind_within : (j : ℕ) → InRange m j → InRange m (behind j)
   unfolding behind
   behind_within j a = at_leaf (relabel x) (λ k. InRange m (found.0 k)) j
-      (AllLeaves_of_graft (relabel x) (λ k. leaf (found.0 k)) (InRange m) (subst (λ y. AllLeaves y (InRange m)) found.1 (by_leaf x (InRange m) hx.only))) (there j a)
+      (AllLeaves_of_graft (relabel x) (λ k. leaf (found.0 k)) (InRange m) (subst (λ y. AllLeaves y (InRange m)) found.1 (by_leaf x (InRange m) given.labelled.only))) (there j a)
 
   pub rank_apart : (i j : ℕ) → InRange m i → InRange m j → ranked i ≡ ranked j → i ≡ j
   rank_apart i j a b e = behind_rank i a ∙ ap behind e ∙ sym (behind_rank j b)

@@ -140,11 +140,25 @@ module _ (p : Presentation) (n : ℕ) where
             turns_is = λ y l. let u : turns_of p (fill k0.around y) ≡ k.count + turns_of p y = k.turns_is y l in omega (arith, u, t, z0);
           }
 
-  -- a relation of arity m, relabelled by a permutation, with the first term x0
-  module _ (m : ℕ) (order : List ℕ) (f : Slot) (rises : PartsRise m f.parts) (w_within : (i : ℕ) → InRange m i → InRange m (entry order i)) (x0 : Tree ℕ) (h0 : IsLabelled arity m x0)
-      (v0 : Shuffles (fill_slot f (F (graft x0 (λ i. leaf (entry order i)))))) where
+  -- a relation of arity m, relabelled by a permutation and inserted into a slot, where its first tree gives a shuffle tree
+  record Laid (m : ℕ) : Type 0 where
+    order : List ℕ
+    slot : Slot
+    rises : PartsRise m slot.parts
+    within : (i : ℕ) → InRange m i → InRange m (entry order i)
+    first : Tree ℕ
+    labelled : IsLabelled arity m first
+    valid : Shuffles (fill_slot slot (F (graft first (λ i. leaf (entry order i)))))
+
+  module _ (m : ℕ) (laid : Laid m) where
     abbrev w : ℕ → ℕ
-    w = entry order
+    w = entry laid.order
+
+    abbrev f : Slot
+    f = laid.slot
+
+    abbrev x0 : Tree ℕ
+    x0 = laid.first
 
     abbrev named : Tree ℕ → Tree ℕ
     named y = graft y (λ i. leaf (w i))
@@ -157,7 +171,7 @@ module _ (p : Presentation) (n : ℕ) where
     all_named y h = AllLeaves-graft y (λ i. leaf (w i)) Named (by_leaf y (λ i. Named (w i)) (λ i o. (i, h.only i o, refl)))
 
     among : (j : ℕ) → Named j → InRange m j
-    among j k = subst (InRange m) k.2 (w_within k.0 k.1)
+    among j k = subst (InRange m) k.2 (laid.within k.0 k.1)
 
     of_form : (t : Tree ℕ) (Q : ℕ → Type 0) → AllLeaves (F t) Q → AllLeaves t Q
     of_form t Q h = by_leaf t Q (λ i o. at_leaf (F t) Q i h (subst (λ k. 0 < k) (sym (occurs-form lab i t)) o))
@@ -169,11 +183,11 @@ module _ (p : Presentation) (n : ℕ) where
     part_fits j k = subst (λ i. Fits' (f.parts i)) k.2
         (at_leaf x0 (λ i. Fits' (f.parts (w i))) k.0
         (AllLeaves_of_graft x0 (λ i. leaf (w i)) (λ i. Fits' (f.parts i))
-        (of_form (named x0) (λ i. Fits' (f.parts i)) (fits_parts (inputs_of p) (F (named x0)) f.parts (fits_of_fill (inputs_of p) f.context (graft (F (named x0)) f.parts) v0.fits))))
-        (let e : occurs k.0 x0 ≡ 1 = h0.each k.0 k.1.0 k.1.1 in omega (arith, e)))
+        (of_form (named x0) (λ i. Fits' (f.parts i)) (fits_parts (inputs_of p) (F (named x0)) f.parts (fits_of_fill (inputs_of p) f.context (graft (F (named x0)) f.parts) laid.valid.fits))))
+        (let e : occurs k.0 x0 ≡ 1 = laid.labelled.each k.0 k.1.0 k.1.1 in omega (arith, e)))
 
     part_back : (j : ℕ) → Named j → Returned (f.parts j)
-    part_back j k = let a = among j k in back_of p (f.parts j) (rises.each j a.0 a.1) (part_fits j k)
+    part_back j k = let a = among j k in back_of p (f.parts j) (laid.rises.each j a.0 a.1) (part_fits j k)
 
     abbrev lifts : ℕ → Tree ℕ
     lifts j = S (f.parts j)
@@ -182,7 +196,7 @@ module _ (p : Presentation) (n : ℕ) where
     forth i j a b lt =
         let u : least (F (lifts i)) ≡ least (f.parts i) = ap least (part_back i a).form_is in
         let v : least (F (lifts j)) ≡ least (f.parts j) = ap least (part_back j b).form_is in
-        let k : least (f.parts i) < least (f.parts j) = rises.order i j (among i a).0 lt (among j b).1 in
+        let k : least (f.parts i) < least (f.parts j) = laid.rises.order i j (among i a).0 lt (among j b).1 in
         omega (arith, u, v, k)
 
     back_again : (i j : ℕ) → Named i → Named j → least (F (lifts i)) < least (F (lifts j)) → i < j
@@ -215,12 +229,12 @@ module _ (p : Presentation) (n : ℕ) where
         ap (turns_of p) (sym (graft_assoc y (λ i. leaf (w i)) lifts)) ∙ (omega (arith, z, e))
 
     lifted : Lifted (least (graft (F (named x0)) f.parts)) f.context
-    lifted = lift f.context (graft (F (named x0)) f.parts) v0
+    lifted = lift f.context (graft (F (named x0)) f.parts) laid.valid
 
     low_is : (y : Tree ℕ) → IsLabelled arity m y → Shuffles (fill_slot f (F (named y))) → least (F (graft y inputs)) ≡ least (graft (F (named x0)) f.parts)
     low_is y h v = ap least (part_form y h) ∙ least_same (graft (F (named y)) f.parts) (graft (F (named x0)) f.parts)
-        (rising_of_fill f.context (graft (F (named y)) f.parts) v.shuffle.rising) (rising_of_fill f.context (graft (F (named x0)) f.parts) v0.shuffle.rising)
-        (λ i. counts y i ∙ labelled_sums arity m y x0 h h0 (λ a. occurs i (f.parts (w a))) ∙ sym (counts x0 i))
+        (rising_of_fill f.context (graft (F (named y)) f.parts) v.shuffle.rising) (rising_of_fill f.context (graft (F (named x0)) f.parts) laid.valid.shuffle.rising)
+        (λ i. counts y i ∙ labelled_sums arity m y x0 h laid.labelled (λ a. occurs i (f.parts (w a))) ∙ sym (counts x0 i))
       where
         counts : (t : Tree ℕ) (i : ℕ) → occurs i (graft (F (named t)) f.parts) ≡ sum_leaves t (λ a. occurs i (f.parts (w a)))
         counts t i = sum_leaves-graft (F (named t)) f.parts (λ k. one_if (ℕ_discrete k i)) ∙ sum-form lab (named t) (λ a. occurs i (f.parts a)) ∙ sum_leaves-graft t (λ a. leaf (w a)) (λ a. occurs i (f.parts a))
@@ -242,12 +256,12 @@ module _ (p : Presentation) (n : ℕ) where
         counts : (i : ℕ) → occurs i (fill_slot f (F (named y))) ≡ occurs i (fill lifted.context (graft y inputs))
         counts i = ap (occurs i) (sym (form_at y h v)) ∙ occurs-form lab i (fill lifted.context (graft y inputs))
 
-    all_labelled : (l : List (ℕ × Tree ℕ)) → AllTerms l (IsLabelled arity m) → AllTerms (moved (fill_slot f) (turned p (relabelled order l))) Shuffles → AllTerms (moved (λ x. fill lifted.context (graft x inputs)) l) (IsLabelled arity n)
+    all_labelled : (l : List (ℕ × Tree ℕ)) → AllTerms l (IsLabelled arity m) → AllTerms (moved (fill_slot f) (turned p (relabelled laid.order l))) Shuffles → AllTerms (moved (λ x. fill lifted.context (graft x inputs)) l) (IsLabelled arity n)
     all_labelled [] h v = tt
     all_labelled (y ∷ l) h v = (labelled_at y.1 h.0 v.0, all_labelled l h.1 v.1)
 
-    all_forms : (l : List (ℕ × Tree ℕ)) → AllTerms l (IsLabelled arity m) → AllTerms (moved (fill_slot f) (turned p (relabelled order l))) Shuffles
-        → turned p (moved (λ x. fill lifted.context (graft x inputs)) l) ≡ moved (fill_slot f) (turned p (relabelled order l))
+    all_forms : (l : List (ℕ × Tree ℕ)) → AllTerms l (IsLabelled arity m) → AllTerms (moved (fill_slot f) (turned p (relabelled laid.order l))) Shuffles
+        → turned p (moved (λ x. fill lifted.context (graft x inputs)) l) ≡ moved (fill_slot f) (turned p (relabelled laid.order l))
     all_forms [] h v = refl
     all_forms (y ∷ l) h v = ap₂ (λ x k. x ∷ k) (ap₂ (λ e t. (y.0 * q ^ e, t)) (turns_at y.1 h.0 v.0) (form_at y.1 h.0 v.0)) (all_forms l h.1 v.1)
 
@@ -309,10 +323,11 @@ module _ (p : Presentation) (n : ℕ) where
       → AllTerms l (IsLabelled arity r.arity) → AllTerms (moved (fill_slot f) (turned p (relabelled order l))) Shuffles → InSpan (moved S (moved (fill_slot f) (turned p (relabelled order l))))
   lifts_at r there order f rises within [] e h v = member_zero tree_discrete (hole_element p n) q
   lifts_at r there order f rises within (x ∷ l) e h v =
-      let c = lifted r.arity order f rises within x.1 h.0 v.0 in
-      let u = inputs r.arity order f rises within x.1 h.0 v.0 in
-      let ok = all_labelled r.arity order f rises within x.1 h.0 v.0 (x ∷ l) h v in
-      let same = all_forms r.arity order f rises within x.1 h.0 v.0 (x ∷ l) h v in
+      let laid : Laid r.arity = record { order = order; slot = f; rises = rises; within = within; first = x.1; labelled = h.0; valid = v.0 } in
+      let c = lifted r.arity laid in
+      let u = inputs r.arity laid in
+      let ok = all_labelled r.arity laid (x ∷ l) h v in
+      let same = all_forms r.arity laid (x ∷ l) h v in
       subst (λ k. InSpan (moved S k)) same
       (back_member (moved (λ y. fill c.context (graft y u)) (x ∷ l)) ok
       (subst (λ k. InSpan (moved (λ y. fill c.context (graft y u)) k)) e

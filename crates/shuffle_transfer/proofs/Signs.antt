@@ -1,6 +1,7 @@
 -- The turns of a tree count for the sign of its sorted spelling.
-use Rattle.std.proofs.Common.{◌≡◌, ⊎_elim, ℕ, zero, suc, ◌^◌, ◌<◌, ◌≤◌, List, [], ◌∷◌, map, min, refl, sym, ◌∙◌, ap, arith, subst}
+use Rattle.std.proofs.Common.{◌≡◌, ⊎_elim, ℕ, zero, suc, ◌^◌, ◌<◌, ◌≤◌, List, ◌∷◌, map, min, refl, sym, ◌∙◌, ap, arith, subst}
 use mathlib.Core.Path.{ap₂}
+use Rattle.std.proofs.lemmas.List.{map-id}
 use native.Mathlib.Decide.{dec_lt}
 use Rattle.std.proofs.Math.Nat.{pow-zero, pow-succ'}
 use Rattle.modular_sums.specs.Residues.{Alike}
@@ -93,11 +94,7 @@ module _ (ps : ℕ → List Part) (label : ℕ → List ℕ → ℕ) where
       (λ x y a b l. ⊎_elim (λ m. m) (λ m. ⊎_elim
       (λ n. (let c = below_less_mem y x ks n b in absurd (omega (arith, c, l)))) (λ n. (let e : x ≡ y = omega (arith, m, n) in let c : below x ks ≡ below y ks = ap (λ k. below k ks) e in absurd (omega (arith, c, l)))) (tested y x)) (tested x y))
       qs ks (in_itself ks))
-      ∙ ap (parts_sign qs) (same ks)
-    where
-      same : (ls : List ℕ) → map (λ k. k) ls ≡ ls
-      same [] = refl
-      same (l ∷ ls) = ap (λ m. l ∷ m) (same ls)
+      ∙ ap (parts_sign qs) (map-id ks)
 
   mutual
     -- the sign of the sorted spelling

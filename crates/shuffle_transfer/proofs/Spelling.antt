@@ -1,4 +1,5 @@
 -- The tree of the shuffle form is the sorted spelling.
+use Rattle.std.proofs.lemmas.Simd.{map-map}
 use Rattle.std.proofs.Common.{◌≡◌, ℕ, ◌≤◌, List, [], ◌∷◌, map, length, refl, sym, ◌∙◌, ap, arith, subst}
 use mathlib.Core.Path.{ap₂}
 use Rattle.std.specs.List.{AllByRecursion}
@@ -17,7 +18,7 @@ use Rattle.operad_ideals.proofs.SameOrder.{sort_parts-order}
 use Rattle.shuffle_transfer.specs.Orderings.{IsOrdering}
 use Rattle.shuffle_transfer.specs.ShuffleForms.{ranks, form_row}
 use Rattle.shuffle_transfer.specs.Labels.{label, gen, word, inputs_of, shuffle_form, symmetric_tree}
-use Rattle.shuffle_transfer.proofs.Ranks.{map-map, map_same, arranged_back, items_up, items_down, in_range, InRange}
+use Rattle.shuffle_transfer.proofs.Ranks.{map_same, arranged_back, items_up, items_down, in_range, InRange}
 use Rattle.shuffle_transfer.proofs.Words.{parts_plus}
 use Rattle.shuffle_transfer.proofs.Labels.{sorted_word, label_gen, label_word, word_of_label, label_is}
 use Rattle.shuffle_transfer.proofs.FormGrafts.{length-form_row}
@@ -72,7 +73,7 @@ module _ (p : Presentation) where
       (ap₂ (λ us v. map (item us) v) (to_symmetric_row-map (gen p) (word p) (row ts) ∙ ap (map (symmetric_tree p)) (inputs-row ts)) (label_word p g w f.0 o)
       ∙ map_same (item (map (symmetric_tree p) ts)) (λ i. symmetric_tree p (item ts i)) (sorted_word p g w) (λ i m. item-map (symmetric_tree p) refl ts i)
       ∙ arranged_parts g ts w rising fine (subst (λ m. IsOrdering m w) (sym size) o)
-      ∙ ap (sort_parts least_leaf (parts p g)) (sym (map-map (item ts) (symmetric_tree p) w) ∙ ap (map (symmetric_tree p)) (arranged_back least xs apart) ∙ ih))
+      ∙ ap (sort_parts least_leaf (parts p g)) (sym (map-map (symmetric_tree p) (item ts) w) ∙ ap (map (symmetric_tree p)) (arranged_back least xs apart) ∙ ih))
     where
       xs : List (Tree ℕ)
       xs = form_row (label p) r

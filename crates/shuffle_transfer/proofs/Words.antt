@@ -1,5 +1,6 @@
 -- Words that rise within the parts of a generator.
-use Rattle.std.proofs.Common.{◌≡◌, inl, inr, ⊎_elim, ℕ, zero, suc, ◌<◌, ◌≤◌, Bool, true, false, cond, List, [], ◌∷◌, ◌++◌, length, take, drop, refl, sym, ap, ap₂, ◌∙◌, subst, arith, lt-ltb, le-ltb, length-take, length-drop, take-append-drop}
+use Rattle.std.proofs.Common.{◌≡◌, inl, inr, ⊎_elim, ℕ, ◌<◌, ◌≤◌, Bool, true, false, cond, List, [], ◌∷◌, ◌++◌, length, take, drop, refl, sym, ap, ap₂, ◌∙◌, subst, arith, lt-ltb, le-ltb, length-take, length-drop, take-append-drop}
+use Rattle.std.proofs.Math.Seq.{take-append_seam, drop-append_seam}
 use Rattle.modular_sums.specs.Lists.{Mem, Distinct}
 use Rattle.modular_sums.proofs.Lists.{mem_either, mem_left, mem_right}
 use Rattle.operad_ideals.specs.Parts.{Kind, symmetric, skew, free, Part, plus, times, total}
@@ -65,17 +66,12 @@ parts_plus (p ∷ ps) w h =
     let k = both_true (part_rises p.kind (take p.size w)) (parts_rise ps (drop p.size w)) h in
     ap₂ times (part_plus p.kind (take p.size w) k.0) (parts_plus ps (drop p.size w) k.1)
 
+-- the first as many, and the others
 take_whole : (z : ℕ) (l u : List ℕ) → length l ≡ z → take z (l ++ u) ≡ l
-take_whole zero [] u h = refl
-take_whole zero (x ∷ l) u h = absurd (omega (arith, h))
-take_whole (suc z) [] u h = absurd (omega (arith, h))
-take_whole (suc z) (x ∷ l) u h = ap (λ w. x ∷ w) (take_whole z l u (omega (arith, h)))
+take_whole z l u h = subst (λ k. take k (l ++ u) ≡ l) h (take-append_seam l u)
 
 drop_whole : (z : ℕ) (l u : List ℕ) → length l ≡ z → drop z (l ++ u) ≡ u
-drop_whole zero [] u h = refl
-drop_whole zero (x ∷ l) u h = absurd (omega (arith, h))
-drop_whole (suc z) [] u h = absurd (omega (arith, h))
-drop_whole (suc z) (x ∷ l) u h = drop_whole z l u (omega (arith, h))
+drop_whole z l u h = subst (λ k. drop k (l ++ u) ≡ u) h (drop-append_seam l u)
 
 part_rises_sorted : (kind : Kind) (w : List ℕ) → Apart (λ n. n) w → part_rises kind (sort_part (λ n. n) kind w) ≡ true
 part_rises_sorted symmetric w h = ascends_rises (sort_by (λ n. n) w) (sort_by-ascends (λ n. n) w h)

@@ -16,16 +16,18 @@ rises [] = true
 rises (x ∷ []) = true
 rises (x ∷ (y ∷ w)) = cond (nat_lt x y) (rises (y ∷ w)) false
 
+-- whether a part of this kind lets the numbers stand so
 abbrev pub part_rises : Kind → List ℕ → Bool
 part_rises symmetric w = rises w
 part_rises skew w = rises w
 part_rises free w = true
 
--- whether the list rises within each symmetric and each skew part
+-- Whether a word rises within each symmetric and each skew part.
 abbrev pub parts_rise : List Part → List ℕ → Bool
 parts_rise [] w = true
 parts_rise (p ∷ ps) w = cond (part_rises p.kind (take p.size w)) (parts_rise ps (drop p.size w)) false
 
+-- those of the words that rise within the parts
 abbrev pub rising_words : List Part → List (List ℕ) → List (List ℕ)
 rising_words ps [] = []
 rising_words ps (w ∷ ws) = cond (parts_rise ps w) (w ∷ rising_words ps ws) (rising_words ps ws)
@@ -40,6 +42,7 @@ pub record Letter : Type 0 where
   pub gen : ℕ
   pub word : List ℕ
 
+-- whether two words are one, where it is known of their first numbers and of the others
 unfoldable pub same_cons : (x y : ℕ) (v w : List ℕ) → Dec (x ≡ y) → Dec (v ≡ w) → Dec (x ∷ v ≡ y ∷ w)
 same_cons x y v w (yes e) (yes f) = yes (ap₂ (λ a b. a ∷ b) e f)
 same_cons x y v w (no e) d = no (λ p. e (cc p))
@@ -53,6 +56,7 @@ word_discrete [] (y ∷ w) = no (λ e. cc e)
 word_discrete (x ∷ v) [] = no (λ e. cc e)
 word_discrete (x ∷ v) (y ∷ w) = same_cons x y v w (ℕ_discrete x y) (word_discrete v w)
 
+-- whether two letters are one, where it is known of their generators and of their words
 unfoldable pub same_letter : (x y : Letter) → Dec (x.gen ≡ y.gen) → Dec (x.word ≡ y.word) → Dec (x ≡ y)
 same_letter x y (yes e) (yes f) = yes (ap₂ (λ g w. record { gen = g; word = w }) e f)
 same_letter x y (no e) d = no (λ p. e (ap (λ z. z.gen) p))

@@ -20,7 +20,7 @@ use Rattle.operad_ideals.specs.Ideals.{InIdeal}
 use Rattle.shuffle_transfer.specs.Labels.{labels, gen, inputs_of, shuffle_form, symmetric_tree}
 use Rattle.shuffle_transfer.specs.Transfer.{shuffled}
 
--- the four orders; the weights are those of the generators
+-- The four orders; the weights of `by_weightpath` are those of the generators.
 pub data OneOrder : Type 0 where
   by_path : OneOrder
   by_pathshort : OneOrder
@@ -34,6 +34,7 @@ compare p by_pathshort x y = pathshort (key (λ l. 0) x) (key (λ l. 0) y)
 compare p by_leafpath x y = leafpath (key (λ l. 0) x) (key (λ l. 0) y)
 compare p (by_weightpath weights) x y = weightpath (key (λ l. weights (gen p l)) x) (key (λ l. weights (gen p l)) y)
 
+-- whether there is nothing in the list
 abbrev pub is_empty : List (List ℕ) → Bool
 is_empty [] = true
 is_empty (x ∷ l) = false
@@ -43,6 +44,7 @@ abbrev pub is_free : List Element → Tree ℕ → Bool
 is_free [] t = true
 is_free (g ∷ elements) t = cond (is_empty (places g.lead 1 t)) (is_free elements t) false
 
+-- those of the trees that no leading tree divides
 abbrev pub free_trees : List Element → List (Tree ℕ) → List (Tree ℕ)
 free_trees elements [] = []
 free_trees elements (t ∷ ts) = cond (is_free elements t) (t ∷ free_trees elements ts) (free_trees elements ts)

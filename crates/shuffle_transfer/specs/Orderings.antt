@@ -25,15 +25,17 @@ pub record Pick : Type 0 where
   pub first : ℕ
   pub others : List ℕ
 
+-- the picks of a list with x put before the other entries
 abbrev pub behind : ℕ → List Pick → List Pick
 behind x [] = []
 behind x (p ∷ l) = record { first = p.first; others = x ∷ p.others } ∷ behind x l
 
+-- each entry of a list in turn, with the other entries
 abbrev pub picks : List ℕ → List Pick
 picks [] = []
 picks (x ∷ l) = record { first = x; others = l } ∷ behind x (picks l)
 
--- the lists that begin with one of the k numbers, followed by the others in any order
+-- the permutations of a list of k numbers: each number in turn, followed by the permutations of the others
 abbrev pub permutations : ℕ → List ℕ → List (List ℕ)
 permutations zero l = [] ∷ []
 permutations (suc k) l = flat_map (λ p. map (λ w. p.first ∷ w) (permutations k p.others)) (picks l)
@@ -42,7 +44,7 @@ permutations (suc k) l = flat_map (λ p. map (λ w. p.first ∷ w) (permutations
 abbrev pub orderings : ℕ → List (List ℕ)
 orderings m = permutations m (upto m)
 
--- each list is less than those after it, by the first numbers that differ
+-- Lexicographic order: each list is less than those after it, by the first numbers that differ.
 abbrev pub Ascending : List (List ℕ) → Type 0
 Ascending [] = Unit {0}
 Ascending (v ∷ l) = ((w : List ℕ) → Mem w l → slice_cmp nat_cmp v w ≡ Less) × Ascending l
