@@ -1,5 +1,5 @@
 -- The listing of a certified list of elements has the normal trees.
-use Rattle.std.proofs.Common.{◌≡◌, ℕ, suc, ◌%◌, ◌<◌, ◌≤◌, List, [], ◌∷◌, map, refl, sym, ◌∙◌, ap, arith, subst, inl, inr, ◌⊎◌, Bool, true, false, cond}
+use Rattle.std.proofs.Common.{◌≡◌, ◌↔◌, ℕ, suc, ◌%◌, ◌<◌, ◌≤◌, List, [], ◌∷◌, map, refl, sym, ◌∙◌, ap, arith, subst, inl, inr, ◌⊎◌, Bool, true, false, cond}
 use Rattle.std.proofs.Math.Nat.{mod-eq_of_lt}
 use Rattle.std.specs.declared.cmp.Ordering.{Ordering}
 use Rattle.std.specs.declared.cmp.Ordering.TheVariants.{Less, Equal, Greater}
@@ -20,13 +20,15 @@ use Rattle.shuffle_places.specs.AllPlaces.{places}
 use Rattle.shuffle_places.proofs.Laws.{places_listed}
 use Rattle.shuffle_bases.specs.Elements.{Element, Insertion, value_of}
 use Rattle.shuffle_bases.specs.Reductions.{IsLed}
+use Rattle.shuffle_normal_forms.specs.FreeTrees.{IsFreeTree, free_trees}
+use Rattle.shuffle_normal_forms.proofs.Laws.{all_listed}
 use Rattle.operad_ideals.specs.Spelling.{IsSorted}
 use Rattle.operad_ideals.specs.Presentations.{Presentation, parts, arity_of}
 use Rattle.operad_ideals.specs.Ideals.{InIdeal}
 use Rattle.operad_ideals.proofs.Spellings.{sorted_spelling, is_sorted_spelled, labelled_once}
 use Rattle.shuffle_transfer.specs.Labels.{labels, gen, inputs_of, shuffle_form, symmetric_tree}
 use Rattle.shuffle_transfer.specs.Transfer.{shuffled}
-use Rattle.shuffle_transfer.specs.NormalTrees.{OneOrder, by_path, by_pathshort, by_leafpath, by_weightpath, compare, is_empty, is_free, free_trees, normal_list, IsLead, IsNormalTree}
+use Rattle.shuffle_transfer.specs.NormalTrees.{OneOrder, by_path, by_pathshort, by_leafpath, by_weightpath, compare, normal_list, IsLead, IsNormalTree}
 use Rattle.shuffle_transfer.proofs.Labels.{are_labels}
 use Rattle.shuffle_transfer.proofs.Forth.{forth, back_law, spelling}
 use Rattle.shuffle_transfer.proofs.Given.{Given, setting_of, InSpan, ideal_span, tail_of, value_is, tail_less, IsFree, free_tree, tells}
@@ -38,60 +40,6 @@ order_of p by_path = (orders (inputs_of p) (λ l. 0)).0
 order_of p by_pathshort = (orders (inputs_of p) (λ l. 0)).1
 order_of p by_leafpath = (orders (inputs_of p) (λ l. 0)).2
 order_of p (by_weightpath weights) = (orders (inputs_of p) (λ l. weights (gen p l))).3
-
--- ---- the test
-
-empty_free : (t a : Tree ℕ) → IsNode a → (l : List (List ℕ)) → places a 1 t ≡ l → is_empty l ≡ true → (set : List ℕ) → IsPlace t set a → ⊥
-empty_free t a node [] e h set place = subst (Mem set) e (((places_listed a t node).0 set).1 place)
-empty_free t a node (x ∷ l) e h set place = absurd (cc h)
-
-free_empty : (t a : Tree ℕ) → IsNode a → ((set : List ℕ) → IsPlace t set a → ⊥) → (l : List (List ℕ)) → places a 1 t ≡ l → is_empty l ≡ true
-free_empty t a node f [] e = refl
-free_empty t a node f (x ∷ l) e = absurd (f x (((places_listed a t node).0 x).0 (subst (Mem x) (sym e) (inl refl))))
-
-of_test : (l : List Element) (t : Tree ℕ) → ((g : Element) → Mem g l → IsNode g.lead) → is_free l t ≡ true → (g : Element) → Mem g l → (set : List ℕ) → IsPlace t set g.lead → ⊥
-of_test [] t nodes h g m = absurd m
-of_test (x ∷ l) t nodes h g m = go (is_empty (places x.lead 1 t)) refl h (of_test l t (λ k i. nodes k (inr i))) m
-  where
-    go : (b : Bool) → is_empty (places x.lead 1 t) ≡ b → cond b (is_free l t) false ≡ true
-        → (is_free l t ≡ true → (g : Element) → Mem g l → (set : List ℕ) → IsPlace t set g.lead → ⊥)
-        → Mem g (x ∷ l) → (set : List ℕ) → IsPlace t set g.lead → ⊥
-    go true e k ih (inl s) = subst (λ y. (set : List ℕ) → IsPlace t set y.lead → ⊥) (sym s) (empty_free t x.lead (nodes x (inl refl)) (places x.lead 1 t) refl e)
-    go true e k ih (inr i) = ih k g i
-    go false e k ih i = absurd (cc k)
-
-to_test : (l : List Element) (t : Tree ℕ) → ((g : Element) → Mem g l → IsNode g.lead) → ((g : Element) → Mem g l → (set : List ℕ) → IsPlace t set g.lead → ⊥) → is_free l t ≡ true
-to_test [] t nodes f = refl
-to_test (x ∷ l) t nodes f =
-    ap (λ b. cond b (is_free l t) false) (free_empty t x.lead (nodes x (inl refl)) (f x (inl refl)) (places x.lead 1 t) refl) ∙ to_test l t (λ k i. nodes k (inr i)) (λ g i. f g (inr i))
-
-module _ (elements : List Element) where
-  free_mem : (l : List (Tree ℕ)) (t : Tree ℕ) → Mem t (free_trees elements l) → Mem t l × (is_free elements t ≡ true)
-  free_mem [] t h = absurd h
-  free_mem (x ∷ l) t h = go (is_free elements x) refl h (free_mem l t)
-    where
-      go : (b : Bool) → is_free elements x ≡ b → Mem t (cond b (x ∷ free_trees elements l) (free_trees elements l)) → (Mem t (free_trees elements l) → Mem t l × (is_free elements t ≡ true)) → Mem t (x ∷ l) × (is_free elements t ≡ true)
-      go true e (inl s) ih = (inl s, ap (is_free elements) s ∙ e)
-      go true e (inr m) ih = let k = ih m in (inr k.0, k.1)
-      go false e m ih = let k = ih m in (inr k.0, k.1)
-
-  mem_free : (l : List (Tree ℕ)) (t : Tree ℕ) → Mem t l → is_free elements t ≡ true → Mem t (free_trees elements l)
-  mem_free [] t m h = absurd m
-  mem_free (x ∷ l) t m h = go (is_free elements x) refl m (λ k. mem_free l t k h)
-    where
-      go : (b : Bool) → is_free elements x ≡ b → Mem t (x ∷ l) → (Mem t l → Mem t (free_trees elements l)) → Mem t (cond b (x ∷ free_trees elements l) (free_trees elements l))
-      go true e (inl s) ih = inl s
-      go true e (inr k) ih = inr (ih k)
-      go false e (inl s) ih = absurd (let k : true ≡ false = sym h ∙ ap (is_free elements) s ∙ e in cc)
-      go false e (inr k) ih = ih k
-
-  distinct_free : (l : List (Tree ℕ)) → Distinct l → Distinct (free_trees elements l)
-  distinct_free [] h = tt
-  distinct_free (x ∷ l) h = go (is_free elements x) (distinct_free l h.1)
-    where
-      go : (b : Bool) → Distinct (free_trees elements l) → Distinct (cond b (x ∷ free_trees elements l) (free_trees elements l))
-      go true ih = (λ m. h.0 (free_mem l x m).0, ih)
-      go false ih = ih
 
 distinct_image : {A B : Type 0} (f : A → B) (g : B → A) (P : A → Type 0) → ((x : A) → P x → g (f x) ≡ x) → (l : List A) → ((x : A) → Mem x l → P x) → Distinct l → Distinct (map f l)
 distinct_image f g P back [] h d = tt
@@ -105,29 +53,26 @@ distinct_image f g P back (x ∷ l) h d = (
 -- ---- the listing
 
 module _ (c : Given) (n : ℕ) (le : n ≤ c.most) where
-  abbrev all : List (Tree ℕ)
-  all = all_trees (labels c.presentation) (inputs_of c.presentation) n
+  abbrev free : List (Tree ℕ)
+  free = free_trees (labels c.presentation) (setting_of c) n
 
-  listing : IsListing (inputs_of c.presentation) n all
-  listing = (listed (labels c.presentation) (inputs_of c.presentation) (are_labels c.presentation c.wide) n).0
-
-  nodes : (g : Element) → Mem g c.elements → IsNode g.lead
-  nodes g m = (c.certified.monic.each g m).lead_node
+  free_listed : Distinct free × ((t : Tree ℕ) → Mem t free ↔ IsFreeTree (setting_of c) n t)
+  free_listed = all_listed (labels c.presentation) (setting_of c) (are_labels c.presentation c.wide) c.certified.monic n
 
   pub listed_normal : (t : Tree ℕ) → Mem t (normal_list c.presentation c.elements n) → Normal c n le t
   listed_normal t m =
-      let k = mem_of_map (symmetric_tree c.presentation) t (free_trees c.elements all) m in
-      let f = free_mem c.elements all k.0 k.1 in
-      subst (Normal c n le) (sym k.2) (normal_tree c n le k.0 (listing.only k.0 f.0) (of_test c.elements k.0 nodes f.1))
+      let k = mem_of_map (symmetric_tree c.presentation) t free m in
+      let f = (free_listed.1 k.0).0 k.1 in
+      subst (Normal c n le) (sym k.2) (normal_tree c n le k.0 f.valid f.free)
 
   pub normal_listed : (t : Tree ℕ) → Normal c n le t → Mem t (normal_list c.presentation c.elements n)
   normal_listed t h = subst (λ x. Mem x (normal_list c.presentation c.elements n)) ((spelling c.presentation n t h.labelled).0 ∙ h.sorted)
-      (mem_map (symmetric_tree c.presentation) (shuffle_form c.presentation t) (free_trees c.elements all)
-      (mem_free c.elements all (shuffle_form c.presentation t) (listing.each (shuffle_form c.presentation t) (forth c.presentation n t h.labelled)) (to_test c.elements (shuffle_form c.presentation t) nodes h.free)))
+      (mem_map (symmetric_tree c.presentation) (shuffle_form c.presentation t) free
+      ((free_listed.1 (shuffle_form c.presentation t)).1 (record { valid = forth c.presentation n t h.labelled; free = h.free })))
 
   pub listed_once : Distinct (normal_list c.presentation c.elements n)
   listed_once = distinct_image (symmetric_tree c.presentation) (shuffle_form c.presentation) (IsShuffleTree (inputs_of c.presentation) n) (λ s h. (back_law c.presentation n s h).1)
-      (free_trees c.elements all) (λ s m. listing.only s (free_mem c.elements all s m).0) (distinct_free c.elements all listing.distinct)
+      free (λ s m. ((free_listed.1 s).0 m).valid) free_listed.0
 
 -- ---- normal trees lead no element of the ideal, and no other sorted tree does so
 
