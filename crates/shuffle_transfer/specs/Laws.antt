@@ -46,10 +46,12 @@ abbrev pub Back : Type 0
 Back = (p : Presentation) (n : ℕ) (s : Tree ℕ) → IsShuffleTree (inputs_of p) n s
     → IsLabelled (arity_of p) n (symmetric_tree p s) × (shuffle_form p (symmetric_tree p s) ≡ s) × (spelled_sign (parts p) (symmetric_tree p s) ≡ plus)
 
--- That tree is the sorted spelling of each tree with this shuffle form.
+-- That tree is the sorted spelling of each tree with this shuffle form, so two labelled trees have one shuffle form exactly
+-- where they have one sorted spelling.
 abbrev pub Spelling : Type 0
 Spelling = (p : Presentation) (n : ℕ) (t : Tree ℕ) → IsLabelled (arity_of p) n t
     → (symmetric_tree p (shuffle_form p t) ≡ spelled (parts p) t) × (shuffle_form p (spelled (parts p) t) ≡ shuffle_form p t)
+    × ((u : Tree ℕ) → IsLabelled (arity_of p) n u → shuffle_form p t ≡ shuffle_form p u ↔ (spelled (parts p) t ≡ spelled (parts p) u))
 
 -- An element is a sum of instances of symmetry rules exactly where its shuffle form is zero.
 abbrev pub Kernel : Type 0
