@@ -6,7 +6,7 @@ use Rattle.labelled_trees.specs.Trees.{Tree, Row, leaf, node, none, more, graft,
 use Rattle.labelled_trees.specs.Contexts.{Ctx, RowCtx, hole, inside, here, past, fill, fill_row}
 use Rattle.shuffle_insertions.specs.ShuffleTrees.{least}
 use Rattle.labelled_trees.specs.Ranks.{standard}
-use Rattle.shuffle_places.specs.Cuts.{cut, cut_row, numbers, numbers_row, start, start_row, IsCut}
+use Rattle.shuffle_places.specs.Cuts.{numbers, numbers_row, start, start_row, IsCut}
 use Rattle.modular_sums.specs.Lists.{has, Mem}
 use Rattle.shuffle_places.specs.Connected.{Edge, EdgeRow, IsConnected}
 use Rattle.labelled_trees.proofs.Grafts.{graft_leaf}
@@ -14,6 +14,7 @@ use Rattle.labelled_trees.proofs.Contexts.{node-eq, more-eq}
 use Rattle.modular_sums.proofs.Lists.{same_rising, mem_has, has_mem, tail_same, mem_left, mem_right, mem_either}
 use Rattle.shuffle_places.proofs.Vertices.{In, numbers_in, numbers_row_in, join-cut, join-cut_row, cut-numbers}
 use Rattle.shuffle_places.proofs.PatternSets.{At, vertex_at, edge_in, edge_row_in, edge_inside, start_in, start_row_in, node_has, numbers_rise, numbers_connected}
+use Rattle.shuffle_places.specs.Places.{cut, cut_row}
 
 both_members : (P : Type 0) (u : ℕ) (k l : List ℕ) → (Mem u k → P) → (Mem u l → P) → Mem u k ⊎ Mem u l → P
 both_members P u k l f g (inl m) = f m

@@ -6,8 +6,8 @@ use Rattle.modular_sums.specs.Lists.{Mem, has}
 use Rattle.modular_sums.proofs.Lists.{has_mem, mem_has}
 use Rattle.labelled_trees.specs.Trees.{Tree, Row, leaf, node, none, more, join, vertices, vertices_row, IsNode}
 use Rattle.labelled_trees.specs.Contexts.{Ctx, RowCtx, hole, inside, here, past, fill, fill_row}
-use Rattle.shuffle_places.specs.Cuts.{cut, numbers, start, start_row, IsCut}
-use Rattle.shuffle_places.specs.Places.{cut_out, cut_out_row, first_or_leaf, at_place, divisor_of, hole_at, hole_at_row, IsPlace}
+use Rattle.shuffle_places.specs.Cuts.{numbers, start, start_row, IsCut}
+use Rattle.shuffle_places.specs.Places.{cut, cut_out, cut_out_row, first_or_leaf, at_place, divisor_of, hole_at, hole_at_row, IsPlace}
 use Rattle.shuffle_places.proofs.Vertices.{In, numbers_in}
 use Rattle.shuffle_places.proofs.PatternSets.{start_in, start_row_in}
 use Rattle.shuffle_places.proofs.Cuts.{cut_again, join_node, cut_of_connected, connected_of_cut}

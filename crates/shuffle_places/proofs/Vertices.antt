@@ -4,8 +4,9 @@ use mathlib.Core.List.{◌++◌}
 use mathlib.Core.Path.{ap₂}
 use Rattle.labelled_trees.specs.Trees.{Tree, Row, leaf, node, none, more, graft, graft_row, join, vertices, vertices_row}
 use Rattle.modular_sums.specs.Lists.{Mem}
-use Rattle.shuffle_places.specs.Cuts.{cut, cut_row, numbers, numbers_row}
+use Rattle.shuffle_places.specs.Cuts.{numbers, numbers_row}
 use Rattle.modular_sums.proofs.Lists.{mem_left, mem_right, mem_either}
+use Rattle.shuffle_places.specs.Places.{cut, cut_row}
 
 cut_here : {A : Type 0} (b : ℕ → Bool) (k l : ℕ) (r : Row A) (d : Bool) → graft_row (cut_row b (suc k) r) (λ v. v) ≡ r
     → join (elim d as (λ _. Tree (Tree A)) [ true ↦ node l (cut_row b (suc k) r) | false ↦ leaf (node l r) ]) ≡ node l r

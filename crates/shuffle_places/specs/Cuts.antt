@@ -1,20 +1,10 @@
 -- Places as patterns: a form that serves the proofs.
 use Rattle.std.specs.Prelude.{ℕ, ◌+◌, ◌≡◌, List, [], ◌∷◌, ◌++◌}
-use Rattle.std.proofs.Common.{suc, Bool, true, false}
+use Rattle.std.proofs.Common.{suc}
 use Rattle.labelled_trees.specs.Trees.{vertices, Tree, Row, leaf, node, none, more, graft, join, IsNode}
 use Rattle.labelled_trees.specs.Contexts.{Ctx, RowCtx, hole, inside, here, past, fill}
 use Rattle.shuffle_insertions.specs.ShuffleTrees.{least}
 use Rattle.labelled_trees.specs.Ranks.{standard}
-
--- the pattern that a set of numbers cuts from a tree whose root has number k
-abbrev mutual
-  pub cut : {A : Type 0} → (ℕ → Bool) → ℕ → Tree A → Tree (Tree A)
-  cut b k (leaf a) = leaf (leaf a)
-  cut b k (node l r) = elim (b k) [ true ↦ node l (cut_row b (suc k) r) | false ↦ leaf (node l r) ]
-
-  pub cut_row : {A : Type 0} → (ℕ → Bool) → ℕ → Row A → Row (Tree A)
-  cut_row b k none = none
-  cut_row b k (more t r) = more (cut b k t) (cut_row b (k + vertices t) r)
 
 -- the numbers of a pattern's vertices, where its root has number k and s tells the hanging parts
 abbrev mutual

@@ -1,6 +1,6 @@
 -- Places in a tree, their divisors and their frames.
 use Rattle.std.specs.Prelude.{ℕ, ◌+◌, ◌≡◌, List, [], ◌∷◌, ◌++◌}
-use Rattle.std.proofs.Common.{suc, cond}
+use Rattle.std.proofs.Common.{Bool, true, false, suc, cond}
 use native.Mathlib.Decide.{ℕ_discrete}
 use Rattle.modular_sums.specs.Lists.{has}
 use Rattle.labelled_trees.specs.Trees.{Tree, Row, leaf, node, none, more, graft, leaves, vertices}
@@ -10,7 +10,17 @@ use Rattle.labelled_trees.specs.Ranks.{below, standard}
 use Rattle.shuffle_insertions.specs.ShuffleTrees.{least}
 use Rattle.shuffle_insertions.specs.Frames.{Frame}
 use Rattle.shuffle_places.specs.Connected.{IsConnected}
-use Rattle.shuffle_places.specs.Cuts.{cut}
+
+-- the vertices of a tree, whose root has number k, that pass the test and are reached from the root through such vertices:
+-- a tree of them, with what hangs below them at its leaves
+abbrev mutual
+  pub cut : {A : Type 0} → (ℕ → Bool) → ℕ → Tree A → Tree (Tree A)
+  cut b k (leaf a) = leaf (leaf a)
+  cut b k (node l r) = elim (b k) [ true ↦ node l (cut_row b (suc k) r) | false ↦ leaf (node l r) ]
+
+  pub cut_row : {A : Type 0} → (ℕ → Bool) → ℕ → Row A → Row (Tree A)
+  cut_row b k none = none
+  cut_row b k (more t r) = more (cut b k t) (cut_row b (k + vertices t) r)
 
 -- What a set of vertices cuts from a tree whose root has number k: a tree of the vertices of the set, with the trees
 -- that hang below them at its leaves; a connected set cuts one.
