@@ -12,4 +12,5 @@ pub mod Exchanged
 pub mod Ideals
 pub mod HoleInstances
 pub mod AgreementLinks
+pub mod ArityOne
 pub mod Examples

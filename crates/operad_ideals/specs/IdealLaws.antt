@@ -7,7 +7,7 @@ use Rattle.labelled_trees.specs.Labelled.{IsLabelled}
 use Rattle.operad_ideals.specs.Parts.{Sign, minus, times}
 use Rattle.operad_ideals.specs.Spelling.{Agrees}
 use Rattle.operad_ideals.specs.Sorting.{spelled, spelled_sign}
-use Rattle.operad_ideals.specs.Presentations.{Presentation, residue_of, parts, arity_of, IsSound, without_relations}
+use Rattle.operad_ideals.specs.Presentations.{Presentation, residue_of, parts, arity_of, IsSound, IsProper, without_relations}
 use Rattle.operad_ideals.specs.Ideals.{Instance, element, InIdeal}
 use Rattle.operad_ideals.specs.HoleInstances.{InHoleIdeal}
 
@@ -25,6 +25,10 @@ pub record IdealLaw (p : Presentation) (n : ℕ) : Type 0 where
 
 abbrev pub IdealIsClosed : Type 0
 IdealIsClosed = (p : Presentation) (n : ℕ) → IdealLaw p n
+
+-- In arity one the ideal holds zero alone.
+abbrev pub OnlyZeroInArityOne : Type 0
+OnlyZeroInArityOne = (p : Presentation) → IsSound p → IsProper p → (e : List (ℕ × Tree ℕ)) → InIdeal p 1 e → Same tree_discrete p.q e []
 
 -- the tree t less the sign times the tree u
 abbrev pub less_signed : ℕ → Tree ℕ → Sign → Tree ℕ → List (ℕ × Tree ℕ)

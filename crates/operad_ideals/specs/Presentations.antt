@@ -1,5 +1,5 @@
 -- Presentations of symmetric operads.
-use Rattle.std.specs.Prelude.{ℕ, ◌<◌, ◌≤◌, List, [], length}
+use Rattle.std.specs.Prelude.{ℕ, ◌≡◌, ◌⊎◌, ◌<◌, ◌≤◌, List, [], length}
 use Rattle.modular_sums.specs.Lists.{Mem}
 use Rattle.modular_sums.specs.Sums.{AllTerms}
 use Rattle.labelled_trees.specs.Trees.{Tree}
@@ -39,6 +39,10 @@ module _ (p : Presentation) where
   -- The trees of each relation are labelled by 1 to its arity.
   abbrev pub IsSound : Type 0
   IsSound = (r : Relation) → Mem r p.relations → AllTerms r.terms (IsLabelled arity_of r.arity)
+
+  -- Each relation has no terms, or an arity of two or more.
+  abbrev pub IsProper : Type 0
+  IsProper = (r : Relation) → Mem r p.relations → (r.terms ≡ []) ⊎ (2 ≤ r.arity)
 
   -- the same generators without relations, so that symmetry rules alone are left
   abbrev pub without_relations : Presentation

@@ -1,7 +1,7 @@
 //! Presentations of symmetric operads: definitions and laws, without code.
 #![tactic(auto)]
 
-ghost use Rattle.operad_ideals.specs.IdealLaws.{AgreementIsInIdeal, IdealIsClosed, OneIdeal};
+ghost use Rattle.operad_ideals.specs.IdealLaws.{AgreementIsInIdeal, IdealIsClosed, OneIdeal, OnlyZeroInArityOne};
 ghost use Rattle.operad_ideals.specs.Laws.{AgreementKeepsLabels, OneSpelling};
 
 /// Law: a labelled tree has exactly one sorted spelling, with exactly one sign.
@@ -22,6 +22,11 @@ pub fn one_ideal()
 /// Law: the ideal holds the element of each instance and is closed under sums, multiples and sameness.
 pub fn ideal_is_closed()
     ensures law { IdealIsClosed }
+{}
+
+/// Law: in arity one the ideal holds zero alone, since each rule with terms has two inputs or more.
+pub fn only_zero_in_arity_one()
+    ensures law { OnlyZeroInArityOne }
 {}
 
 /// Law: a labelled tree less its sign times its sorted spelling is a sum of instances of symmetry rules, and so is a

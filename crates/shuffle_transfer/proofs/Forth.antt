@@ -5,6 +5,7 @@ use Rattle.labelled_trees.specs.Leaves.{occurs}
 use Rattle.labelled_trees.specs.Labelled.{IsLabelled}
 use Rattle.shuffle_insertions.specs.ShuffleTrees.{IsShuffleTree}
 use Rattle.operad_ideals.specs.Parts.{sign_of}
+use Rattle.operad_ideals.specs.Sorting.{spelled}
 use Rattle.operad_ideals.specs.Presentations.{Presentation, parts, arity_of}
 use Rattle.operad_ideals.proofs.Spellings.{labelled_once}
 use Rattle.shuffle_transfer.specs.Labels.{label, gen, inputs_of, shuffle_form, symmetric_tree}
@@ -48,4 +49,13 @@ pub spelling : Spelling
 spelling p n t h =
     let e = spelled_is p t h.fits (labelled_once h) in
     let f = forth p n t h in
-    (e, ap (shuffle_form p) (sym e) ∙ (back_of p (shuffle_form p t) f.shuffle.rising f.fits).form_is)
+    let back : shuffle_form p (spelled (parts p) t) ≡ shuffle_form p t = ap (shuffle_form p) (sym e) ∙ (back_of p (shuffle_form p t) f.shuffle.rising f.fits).form_is in (
+      e,
+      back,
+      λ u k.
+          let d : symmetric_tree p (shuffle_form p u) ≡ spelled (parts p) u = spelled_is p u k.fits (labelled_once k) in
+          let g = forth p n u k in (
+            λ s. sym e ∙ ap (symmetric_tree p) s ∙ d,
+            λ s. sym back ∙ ap (shuffle_form p) s ∙ ap (shuffle_form p) (sym d) ∙ (back_of p (shuffle_form p u) g.shuffle.rising g.fits).form_is,
+          ),
+    )

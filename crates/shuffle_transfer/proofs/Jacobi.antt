@@ -1,9 +1,9 @@
 -- An example: one skew bracket with the Jacobi relation, its one certified element, and its normal trees.
-use Rattle.std.proofs.Common.{◌≡◌, inl, inr, ℕ, zero, suc, ◌≤◌, List, [], ◌∷◌, true, refl, sym, ap, ◌∙◌, subst, arith}
+use Rattle.std.proofs.Common.{◌≡◌, ◌⊎◌, inl, inr, ℕ, zero, suc, ◌≤◌, List, [], ◌∷◌, true, refl, sym, ap, ◌∙◌, subst, arith}
 use mathlib.Core.Path.{fun_ext}
 use native.Mathlib.Decide.{ℕ_discrete}
 use Rattle.modular_sums.specs.Lists.{Mem, has_by}
-use Rattle.modular_sums.specs.Sums.{coef, scale, expand, Member, AllTerms}
+use Rattle.modular_sums.specs.Sums.{coef, scale, expand, Member, AllTerms, Same}
 use Rattle.modular_sums.proofs.Lists.{has_by_mem}
 use Rattle.modular_sums.proofs.Sameness.{same_if_agree}
 use Rattle.labelled_trees.specs.Trees.{Tree, leaf}
@@ -19,7 +19,7 @@ use Rattle.shuffle_bases.specs.Elements.{Element, terms, Setting, IsMonic, AreMo
 use Rattle.shuffle_bases.specs.Reductions.{SElementsReduce}
 use Rattle.shuffle_bases.proofs.Examples.{jacobi, setting as bracket_setting, reduces}
 use Rattle.operad_ideals.specs.Parts.{skew}
-use Rattle.operad_ideals.specs.Presentations.{Relation, Presentation, arity_of, IsWide, IsSound}
+use Rattle.operad_ideals.specs.Presentations.{Relation, Presentation, arity_of, IsWide, IsSound, IsProper}
 use Rattle.shuffle_transfer.specs.Orderings.{IsOrdering, orderings}
 use Rattle.shuffle_transfer.specs.Labels.{labels, inputs_of, word_discrete, same_cons, letter_discrete, same_letter}
 use Rattle.shuffle_transfer.specs.Transfer.{relabelled, shuffled, RelationInsertion, inserted_relation, IsSumOfInsertions}
@@ -33,6 +33,7 @@ use Rattle.shuffle_transfer.proofs.Forth.{back_labelled}
 use Rattle.std.specs.Prelude.{◌↔◌}
 use Rattle.operad_ideals.specs.Ideals.{InIdeal}
 use Rattle.operad_ideals.specs.HoleInstances.{InHoleIdeal}
+use Rattle.operad_ideals.proofs.ArityOne.{only_zero}
 use Rattle.operad_ideals.proofs.HoleInstances.{ideals_are_one}
 use Rattle.shuffle_transfer.proofs.TransferLaw.{labelled-renamed, transfer_law}
 use Rattle.shuffle_transfer.proofs.NormalForms.{normal_trees_listed}
@@ -196,6 +197,14 @@ lie_transfer e h = transfer_law lie 3 e sound h
 -- the ideal, by contexts that are trees and by contexts with a hole
 pub lie_one_ideal : (n : ℕ) (e : List (ℕ × Tree ℕ)) → InIdeal lie n e ↔ InHoleIdeal lie n e
 lie_one_ideal n e = ideals_are_one lie n e sound
+
+-- in arity one the ideal holds zero alone
+pub lie_arity_one : (e : List (ℕ × Tree ℕ)) → InIdeal lie 1 e → Same tree_discrete 100 e []
+lie_arity_one = only_zero lie sound proper
+  where
+    proper : IsProper lie
+    proper r (inl e) = subst (λ x. (x.terms ≡ []) ⊎ (2 ≤ x.arity)) (sym e) (inr (omega arith))
+    proper r (inr m) = absurd m
 
 -- the relation is in the ideal
 pub relation_in_ideal : InIdeal lie 3 jacobi_relation.terms

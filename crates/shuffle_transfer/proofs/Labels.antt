@@ -1,5 +1,8 @@
 -- Labels stand one to one for the generators with their words.
-use Rattle.std.proofs.Common.{◌≡◌, ◌⊎◌, inl, inr, ⊎_elim, ℕ, zero, suc, ◌+◌, ◌<◌, ◌≤◌, List, [], ◌∷◌, map, length, refl, sym, ap, ◌∙◌, subst, arith}
+use Rattle.std.proofs.Common.{◌≡◌, ◌⊎◌, inl, inr, ⊎_elim, ℕ, zero, suc, ◌+◌, ◌<◌, ◌≤◌, List, [], ◌∷◌, ◌++◌, map, length, refl, sym, ap, ◌∙◌, subst, arith}
+use Rattle.std.specs.declared.cmp.Ordering.TheVariants.{Less}
+use Rattle.std.specs.Ordering.{nat_cmp}
+use Rattle.std.specs.Cmp.Lexicographic.{slice_cmp}
 use Rattle.modular_sums.specs.Lists.{Mem, Distinct}
 use Rattle.modular_sums.proofs.Lists.{mem_left, mem_right, mem_either, mem_map, mem_of_map}
 use Rattle.operad_ideals.specs.Parts.{Part, total, parts_of}
@@ -7,7 +10,7 @@ use Rattle.operad_ideals.specs.Sorting.{sort_parts}
 use Rattle.operad_ideals.specs.Presentations.{Presentation, parts, arity_of, IsWide}
 use Rattle.operad_ideals.proofs.SortedLists.{tested}
 use Rattle.shuffle_insertions.specs.Labels.{AreLabels}
-use Rattle.shuffle_transfer.specs.Orderings.{IsOrdering}
+use Rattle.shuffle_transfer.specs.Orderings.{IsOrdering, Ascending}
 use Rattle.shuffle_transfer.specs.Labels.{words_of, Letter, letter_discrete, letters, zero_if, place_of, letter_at, labels, label, letter, gen, word, inputs_of}
 use Rattle.shuffle_transfer.specs.Laws.{IsWordOf, LabelsAreWords}
 use Rattle.shuffle_transfer.proofs.Orderings.{ascending_distinct}
@@ -61,6 +64,34 @@ distinct_letters g (ps ∷ gens) = distinct_append (map (lettered g) (words_of p
     let e : x.gen ≡ g = ap (λ z. z.gen) a.2 in
     let b = letters_found (suc g) gens x j in let f : x.gen ≡ suc g + b.at = b.gen_is in absurd (omega (arith, e, f)))
 
+-- the letters stand in order: by generators, and then by words
+abbrev Before : Letter → Letter → Type 0
+Before x y = (x.gen < y.gen) ⊎ ((x.gen ≡ y.gen) × (slice_cmp nat_cmp x.word y.word ≡ Less))
+
+abbrev InOrder : List Letter → Type 0
+InOrder [] = Unit {0}
+InOrder (x ∷ l) = ((y : Letter) → Mem y l → Before x y) × InOrder l
+
+in_order_append : (k l : List Letter) → InOrder k → InOrder l → ((x y : Letter) → Mem x k → Mem y l → Before x y) → InOrder (k ++ l)
+in_order_append [] l a b h = b
+in_order_append (x ∷ k) l a b h = (λ y m. ⊎_elim (λ i. a.0 y i) (λ i. h x y (inl refl) i) (mem_either y k l m), in_order_append k l a.1 b (λ y z i j. h y z (inr i) j))
+
+words_in_order : (g : ℕ) (ws : List (List ℕ)) → Ascending ws → InOrder (map (lettered g) ws)
+words_in_order g [] h = tt
+words_in_order g (w ∷ ws) h = (
+  λ y m. let k = mem_of_map (lettered g) y ws m in
+      inr (sym (ap (λ z. z.gen) k.2), ap (slice_cmp nat_cmp w) (ap (λ z. z.word) k.2) ∙ h.0 k.0 k.1),
+  words_in_order g ws h.1,
+)
+
+letters_in_order : (g : ℕ) (gens : List (List Part)) → InOrder (letters g gens)
+letters_in_order g [] = tt
+letters_in_order g (ps ∷ gens) = in_order_append (map (lettered g) (words_of ps)) (letters (suc g) gens) (words_in_order g (words_of ps) (words_ascend ps)) (letters_in_order (suc g) gens)
+    (λ x y i j.
+    let a = mem_of_map (lettered g) x (words_of ps) i in
+    let e : x.gen ≡ g = ap (λ z. z.gen) a.2 in
+    let b = letters_found (suc g) gens y j in let f : y.gen ≡ suc g + b.at = b.gen_is in inl (omega (arith, e, f)))
+
 -- ---- places in a list
 
 at_place : (d x : Letter) (l : List Letter) → Mem x l → letter_at d (place_of x l) l ≡ x
@@ -103,6 +134,12 @@ place_at d (suc i) (x ∷ l) o h = go (letter_discrete x (letter_at d i l)) (pla
     go : (c : Dec (x ≡ letter_at d i l)) → place_of (letter_at d i l) l ≡ i → zero_if c (suc (place_of (letter_at d i l) l)) ≡ suc i
     go (yes e) ih = absurd (o.0 (subst (λ y. Mem y l) (sym e) (mem_at d i l (omega (arith, h)))))
     go (no f) ih = ap suc ih
+
+at_in_order : (d : Letter) (i j : ℕ) (l : List Letter) → InOrder l → i < j → j < length l → Before (letter_at d i l) (letter_at d j l)
+at_in_order d i j [] o lt h = absurd (omega (arith, h))
+at_in_order d i zero (x ∷ l) o lt h = absurd (omega (arith, lt))
+at_in_order d zero (suc j) (x ∷ l) o lt h = o.0 (letter_at d j l) (mem_at d j l (omega (arith, h)))
+at_in_order d (suc i) (suc j) (x ∷ l) o lt h = at_in_order d i j l o.1 (omega (arith, lt)) (omega (arith, h))
 
 no_parts : (gens : List (List Part)) → parts_of gens (length gens) ≡ []
 no_parts [] = refl
@@ -170,7 +207,6 @@ module _ (p : Presentation) where
 
 pub labels_are_words : LabelsAreWords
 labels_are_words p = record {
-  ascending = λ g. words_ascend (parts p g);
   of_word = λ g w h.
       let e = letter_of p g w h.generator h.ordering in (
         label_lt p g w h.generator h.ordering,
@@ -178,4 +214,5 @@ labels_are_words p = record {
         ap (λ x. x.word) e ∙ parts_same (parts p g) w h.rises,
       );
   of_label = λ l h. (word_at p l h, label_of p l h);
+  in_order = λ l m lt h. at_in_order (lettered (length p.generators) []) l m (letters 0 p.generators) (letters_in_order 0 p.generators) lt h;
 }

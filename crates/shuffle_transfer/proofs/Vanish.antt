@@ -1,5 +1,5 @@
 -- The shuffle form of an instance of a symmetry rule is zero.
-use Rattle.std.proofs.Common.{◌≡◌, inl, inr, ⊎_elim, ℕ, zero, suc, ◌+◌, ◌*◌, ◌^◌, ◌%◌, ◌<◌, ◌≤◌, List, [], ◌∷◌, map, length, refl, sym, ◌∙◌, ap, arith, subst}
+use Rattle.std.proofs.Common.{◌≡◌, ⊎_elim, ℕ, zero, suc, ◌+◌, ◌*◌, ◌^◌, ◌%◌, ◌≤◌, List, [], ◌∷◌, map, length, refl, sym, ◌∙◌, ap, arith, subst}
 use mathlib.Core.Path.{ap₂}
 use native.Mathlib.Decide.{ℕ_discrete}
 use Rattle.std.proofs.lemmas.Nat.{pow-add}
@@ -14,13 +14,14 @@ use Rattle.labelled_trees.specs.Labelled.{Fits, IsLabelled}
 use Rattle.labelled_trees.proofs.ContextLeaves.{sum_of_fill}
 use Rattle.labelled_trees.proofs.Fitting.{fits_of_fill}
 use Rattle.shuffle_insertions.specs.ShuffleTrees.{least}
-use Rattle.operad_ideals.specs.Parts.{Part, Sign, plus, minus, times, total, InOnePart}
+use Rattle.operad_ideals.specs.Parts.{Sign, plus, minus, times, InOnePart}
 use Rattle.operad_ideals.specs.Sorting.{sort_by, parts_sign}
 use Rattle.operad_ideals.specs.Presentations.{Presentation, residue_of, parts, arity_of}
 use Rattle.operad_ideals.specs.Rules.{numbered, exchanged_at}
 use Rattle.operad_ideals.proofs.Residues.{residue-times}
 use Rattle.operad_ideals.proofs.Signs.{times_assoc}
 use Rattle.operad_ideals.proofs.Links.{two_gone}
+use Rattle.operad_ideals.proofs.ArityOne.{part_below}
 use Rattle.operad_ideals.proofs.Exchanged.{graft_row-exchanged}
 use Rattle.operad_ideals.proofs.SortedLists.{exchange, exchange-map, sort_by-exchange, below, below_less, below_more, tested}
 use Rattle.operad_ideals.proofs.SortedParts.{sort_parts-exchange, parts_sign-exchange}
@@ -77,11 +78,6 @@ turns_row-exchanged label twist (suc i) none = refl
 turns_row-exchanged label twist (suc i) (more t r) = ap (λ k. turns label twist t + k) (turns_row-exchanged label twist i r)
 
 -- ---- the signs cancel
-
-part_below : (ps : List Part) (i : ℕ) (s : Sign) → InOnePart ps i s → suc i < total ps
-part_below [] i s h = absurd h
-part_below (p ∷ ps) i s (inl h) = omega (arith, h.0)
-part_below (p ∷ ps) i s (inr h) = let k : suc h.0 < total ps = part_below ps h.0 s h.2 in omega (arith, k, h.1)
 
 residue-turn : (q : ℕ) (s : Sign) → Alike q (q ^ turn_of s) (residue_of q s)
 residue-turn q plus = residue-count q 0

@@ -1,6 +1,9 @@
 -- The laws of labels, shuffle forms and the way back.
 use Rattle.std.specs.Prelude.{ℕ, ◌≡◌, ◌↔◌, ◌<◌, List, [], length, map}
-use Rattle.std.proofs.Common.{true}
+use Rattle.std.proofs.Common.{true, ◌⊎◌}
+use Rattle.std.specs.declared.cmp.Ordering.TheVariants.{Less}
+use Rattle.std.specs.Ordering.{nat_cmp}
+use Rattle.std.specs.Cmp.Lexicographic.{slice_cmp}
 use Rattle.modular_sums.specs.Lists.{Mem, Distinct}
 use Rattle.modular_sums.specs.Sums.{Same, AllTerms}
 use Rattle.labelled_trees.specs.Trees.{Tree, graft}
@@ -15,7 +18,7 @@ use Rattle.operad_ideals.specs.Sorting.{spelled, spelled_sign}
 use Rattle.operad_ideals.specs.Presentations.{Presentation, parts, arity_of, without_relations}
 use Rattle.operad_ideals.specs.Ideals.{InIdeal}
 use Rattle.shuffle_transfer.specs.Orderings.{IsOrdering, orderings, Ascending}
-use Rattle.shuffle_transfer.specs.Labels.{parts_rise, words_of, labels, label, gen, word, inputs_of, shuffle_form, symmetric_tree}
+use Rattle.shuffle_transfer.specs.Labels.{parts_rise, labels, label, gen, word, inputs_of, shuffle_form, symmetric_tree}
 use Rattle.shuffle_transfer.specs.Transfer.{shuffled}
 
 -- The list has all permutations of 1 to m, each once, in lexicographic order.
@@ -28,11 +31,12 @@ pub record IsWordOf (p : Presentation) (g : ℕ) (w : List ℕ) : Type 0 where
   pub ordering : IsOrdering (arity_of p g) w
   pub rises : parts_rise (parts p g) w ≡ true
 
--- Labels are numbered from 0 and stand one to one for the generators with their words; the words of a generator ascend.
+-- Labels are numbered from 0 and stand one to one for the generators with their words: the generators in their order, and of
+-- each its words in lexicographic order.
 pub record LabelLaw (p : Presentation) : Type 0 where
-  pub ascending : (g : ℕ) → Ascending (words_of (parts p g))
   pub of_word : (g : ℕ) (w : List ℕ) → IsWordOf p g w → (label p g w < labels p) × (gen p (label p g w) ≡ g) × (word p (label p g w) ≡ w)
   pub of_label : (l : ℕ) → l < labels p → IsWordOf p (gen p l) (word p l) × (label p (gen p l) (word p l) ≡ l)
+  pub in_order : (l m : ℕ) → l < m → m < labels p → (gen p l < gen p m) ⊎ ((gen p l ≡ gen p m) × (slice_cmp nat_cmp (word p l) (word p m) ≡ Less))
 
 abbrev pub LabelsAreWords : Type 0
 LabelsAreWords = (p : Presentation) → LabelLaw p
@@ -46,10 +50,12 @@ abbrev pub Back : Type 0
 Back = (p : Presentation) (n : ℕ) (s : Tree ℕ) → IsShuffleTree (inputs_of p) n s
     → IsLabelled (arity_of p) n (symmetric_tree p s) × (shuffle_form p (symmetric_tree p s) ≡ s) × (spelled_sign (parts p) (symmetric_tree p s) ≡ plus)
 
--- That tree is the sorted spelling of each tree with this shuffle form.
+-- That tree is the sorted spelling of each tree with this shuffle form, so two labelled trees have one shuffle form exactly
+-- where they have one sorted spelling.
 abbrev pub Spelling : Type 0
 Spelling = (p : Presentation) (n : ℕ) (t : Tree ℕ) → IsLabelled (arity_of p) n t
     → (symmetric_tree p (shuffle_form p t) ≡ spelled (parts p) t) × (shuffle_form p (spelled (parts p) t) ≡ shuffle_form p t)
+    × ((u : Tree ℕ) → IsLabelled (arity_of p) n u → shuffle_form p t ≡ shuffle_form p u ↔ (spelled (parts p) t ≡ spelled (parts p) u))
 
 -- An element is a sum of instances of symmetry rules exactly where its shuffle form is zero.
 abbrev pub Kernel : Type 0
