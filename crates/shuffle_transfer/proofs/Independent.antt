@@ -50,5 +50,5 @@ module _ (c : Given) (n : ℕ) (le : n ≤ c.most) where
   independent e h m =
       let span = ideal_span c n le e (AllTerms-imp (Normal c n le) (IsLabelled (arity_of c.presentation) n) e (λ t g. g.labelled) h) m in
       let zero = free_independent (labels c.presentation) (setting_of c) (are_labels c.presentation c.wide) c.order c.certified.monic c.most n c.certified.s_elements le
-          (shuffled c.presentation e) (free_forms e h) span in
+      (shuffled c.presentation e) (free_forms e h) span in
       subst (λ l. Same tree_discrete c.presentation.q l []) (normal_back e h) (Same-moved tree_discrete tree_discrete c.presentation.q (symmetric_tree c.presentation) (shuffled c.presentation e) [] zero)
