@@ -1,10 +1,10 @@
 -- Normal forms, and the law of normal trees.
-use Rattle.std.proofs.Common.{◌≡◌, ℕ, suc, ◌+◌, ◌*◌, ◌%◌, ◌<◌, ◌≤◌, List, [], refl, sym, ◌∙◌, ap, arith}
+use Rattle.std.proofs.Common.{◌≡◌, ℕ, suc, ◌+◌, ◌*◌, ◌%◌, ◌<◌, ◌≤◌, List, [], sym, ◌∙◌, ap, arith}
 use mathlib.Core.List.{◌++◌}
 use Rattle.modular_sums.specs.Residues.{Alike}
 use Rattle.modular_sums.specs.Lists.{Mem}
 use Rattle.modular_sums.specs.Sums.{coef, Same, scale, AllTerms}
-use Rattle.modular_sums.proofs.Residues.{alike_add, alike_mul, alike_drop}
+use Rattle.modular_sums.proofs.Residues.{alike_drop}
 use Rattle.modular_sums.proofs.Sums.{coef-append, coef-scale, AllTerms-append, AllTerms-scale, Same-cancelled}
 use Rattle.modular_sums.proofs.Images.{AllTerms-imp}
 use Rattle.labelled_trees.specs.Trees.{Tree}
@@ -12,6 +12,7 @@ use Rattle.labelled_trees.specs.Equality.{tree_discrete}
 use Rattle.labelled_trees.specs.Labelled.{IsLabelled}
 use Rattle.operad_ideals.specs.Presentations.{arity_of}
 use Rattle.operad_ideals.specs.Ideals.{InIdeal}
+use Rattle.operad_ideals.proofs.Residues.{alike_of_gone, less_alike}
 use Rattle.operad_ideals.proofs.Ideals.{ideal_zero, ideal-append, ideal-scale, ideal-same}
 use Rattle.shuffle_transfer.specs.NormalTrees.{normal_list, IsIndependent, IsNormalForm, compare}
 use Rattle.shuffle_transfer.specs.NormalLaws.{NormalLaw, NormalTreesListed}
@@ -21,27 +22,12 @@ use Rattle.shuffle_transfer.proofs.Spanning.{tree_spans, spans}
 use Rattle.shuffle_transfer.proofs.NormalTrees.{order_of, listed_normal, normal_listed, listed_once, of_normal, to_normal}
 
 module _ (q : ℕ) where
-  -- x minus y is zero: x and y are alike
-  alike_of_gone : (x y : ℕ) → Alike q (x + q * y) 0 → Alike q x y
-  alike_of_gone x y h =
-      let k : Alike q (x + q * y + y) (0 + y) = alike_add q (x + q * y) 0 y y h refl in
-      let a : x + q * y + y ≡ x + (y + q * y) = omega arith in
-      let b : 0 + y ≡ y = omega arith in
-      sym (alike_drop q x y) ∙ (rw (a, b) at k)
-
   apart : (d e f g : ℕ) → Alike q (f + q * g) (q * (d + q * f) + (d + q * e) + (e + q * g))
   apart d e f g =
       let a : q * (d + q * f) + (d + q * e) + (e + q * g) ≡ q * (q * f) + q * g + (d + q * d) + (e + q * e) = omega arith in
       let b : q * (q * f) + q * g + (f + q * f) ≡ f + q * g + (q * f + q * (q * f)) = omega arith in
       rw a (sym (alike_drop q (q * (q * f) + q * g + (d + q * d)) e ∙ alike_drop q (q * (q * f) + q * g) d
       ∙ sym (alike_drop q (q * (q * f) + q * g) f) ∙ ap (λ n. n % suc q) b ∙ alike_drop q (f + q * g) (q * f)))
-
-  together : (d e f g : ℕ) → Alike q f g → Alike q (d + q * e) (d + q * f + q * (e + q * g))
-  together d e f g h =
-      let a : d + q * f + q * (e + q * g) ≡ d + q * e + q * (q * g) + q * f = omega arith in
-      let b : d + q * e + q * (q * g) + q * g ≡ d + q * e + (q * g + q * (q * g)) = omega arith in
-      let c : Alike q (d + q * e + q * (q * g) + q * f) (d + q * e + q * (q * g) + q * g) = alike_add q _ _ (q * f) (q * g) refl (alike_mul q q q f g refl h) in
-      rw a (sym (c ∙ ap (λ n. n % suc q) b ∙ alike_drop q (d + q * e) (q * g)))
 
 module _ (c : Given) (n : ℕ) (le : n ≤ c.most) where
   abbrev E : Type 0
@@ -114,7 +100,7 @@ module _ (c : Given) (n : ℕ) (le : n ≤ c.most) where
         coef-append tree_discrete e (scale q g) t,
         coef-scale tree_discrete q g t,
       )
-      (together q (co d t) (co e t) (co f t) (co g t) (s t)))
+      (less_alike q (co d t) (co e t) (co f t) (co g t) (s t)))
       (ideal-append c.presentation n (d ++ scale q f) (scale q (e ++ scale q g)) hf.rest (ideal-scale c.presentation n q (e ++ scale q g) hg.rest))
 
   gone : (e : E) → In (e ++ scale q e)
