@@ -4,13 +4,9 @@ use Rattle.std.specs.Io.KnownBytes.{Consumes, IsAtEnd}
 use Rattle.outside_io.specs.Taken.{Takes}
 use Rattle.operad_run.specs.Commands.{IsForms}
 use Rattle.operad_run.specs.OneGenerator.{IsDocument}
-use Rattle.operad_run.specs.Runs.{Outside, Came, CameTooMany, Says, Told, Wrote, Ends, IsComplete, most_bytes}
+use Rattle.operad_run.specs.Runs.{Outside, Came, CameTooMany, Says, Told, Wrote, Ends, IsComplete, IsRun, most_bytes}
 use Rattle.operad_run.specs.declared.status.Status.{Status}
 use Rattle.operad_run.specs.declared.status.Status.TheVariants.{Done, Refused, Usage, Document, Limit, Budget, ReadFault, WriteFault, NoMemory}
-
-pub takes_nothing : (taken : Option (List ℕ)) → Takes taken taken []
-takes_nothing None = tt
-takes_nothing (Some bytes) = sym (append-nil bytes)
 
 written : (meant : Status) (words : List (List ℕ)) (o : Outside) (text : List ℕ) → Says meant words o text → Wrote o text → Ends meant words o
 written Done words o text says wrote = (text, says, wrote)
@@ -24,7 +20,7 @@ written WriteFault words o text says wrote = absurd says
 written NoMemory words o text says wrote = absurd says
 
 -- what is meant is told, or the sink failed
-pub told_ends : (meant status : Status) (words : List (List ℕ)) (o : Outside) (text : List ℕ) → Says meant words o text
+told_ends : (meant status : Status) (words : List (List ℕ)) (o : Outside) (text : List ℕ) → Says meant words o text
     → Told meant text status o.taken o.taken_now o.write_faults o.write_faults_now → Ends status words o
 told_ends meant status words o text says told = ⊎_elim
     (λ whole. subst (λ s. Ends s words o) (sym whole.0) (written meant words o text says (record { written = whole.1; sound = whole.2 })))
@@ -54,7 +50,7 @@ not_too_many : (o : Outside) (bytes : List ℕ) → o.left ≡ Some bytes → le
 not_too_many o bytes e few c = too_few bytes c.bytes o.left_now (subst (λ left. Consumes left o.left_now c.bytes) e c.given) few c.many
 
 -- a document without a fault is answered
-pub complete_from_ends : (status : Status) (words : List (List ℕ)) (o : Outside) → Ends status words o → IsComplete status words o
+complete_from_ends : (status : Status) (words : List (List ℕ)) (o : Outside) → Ends status words o → IsComplete status words o
 complete_from_ends Done words o ends n bytes generator queries h e few d r w = inl refl
 complete_from_ends NoMemory words o ends n bytes generator queries h e few d r w = inr refl
 complete_from_ends Usage words o ends n bytes generator queries h e few d r w = absurd (ends.1.0 (n, h))
@@ -69,3 +65,9 @@ complete_from_ends Document words o ends n bytes generator queries h e few d r w
     absurd (none generator queries (subst (λ m. IsDocument says.2 m generator queries) arity (subst (λ b. IsDocument b n generator queries) (sym (same_bytes o bytes says.2 e came)) d)))
 complete_from_ends Refused words o ends n bytes generator queries h e few d r w = absurd ends.1
 complete_from_ends Budget words o ends n bytes generator queries h e few d r w = absurd ends.1
+
+pub told_is_run : (meant status : Status) (words : List (List ℕ)) (o : Outside) (text : List ℕ) → Says meant words o text
+    → Told meant text status o.taken o.taken_now o.write_faults o.write_faults_now → IsRun status words o
+told_is_run meant status words o text says told =
+    let ends = told_ends meant status words o text says told in
+    record { ends = ends; complete = complete_from_ends status words o ends }

@@ -94,6 +94,11 @@ IsComplete status words o = (n : ℕ) (bytes : List ℕ) (generator : Generator)
     → o.left ≡ Some bytes → length bytes ≤ most_bytes → IsDocument bytes n generator queries
     → (Rose o.read_faults o.read_faults_now → ⊥) → (Rose o.write_faults o.write_faults_now → ⊥) → (status ≡ Done) ⊎ (status ≡ NoMemory)
 
+-- what is proved of a run
+pub record IsRun (status : Status) (words : List (List ℕ)) (o : Outside) : Type 0 where
+  pub ends : Ends status words o
+  pub complete : IsComplete status words o
+
 -- the number of a status, with which the program ends
 abbrev pub code_of : Status → ℕ
 code_of Done = 0

@@ -17,7 +17,6 @@ use symmetric_trees::{GenTable, Sign, Tree, arity_of, spelled};
 
 // Puts the line of a signed tree behind `out`.
 fn write_line(
-    alloc: Global,
     table: &GenTable,
     sign: Sign,
     tree: &Tree,
@@ -29,7 +28,7 @@ fn write_line(
     if let Sign::Minus = sign {
         out.push(b'-')?;
     }
-    write_tree(alloc, table, tree, out)?;
+    write_tree(table, tree, out)?;
     out.push(b'\n')?;
     Ok(())
 }
@@ -97,7 +96,7 @@ pub fn answer_line(
     match query(alloc, table, found.as_slice(), most)? {
         Some(tree) => {
             let (sign, spelling) = spelled(alloc, table, &tree)?;
-            write_line(alloc, table, sign, &spelling, out)?;
+            write_line(table, sign, &spelling, out)?;
             Ok(true)
         }
         None => Ok(false),

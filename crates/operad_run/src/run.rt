@@ -1,6 +1,6 @@
 //! A run: the words and the bytes of a source in, the text into a sink.
 ghost use Rattle.std.specs.Prelude.{map, string_bytes};
-ghost use Rattle.operad_run.specs.Runs.{Ends, IsComplete, Told};
+ghost use Rattle.operad_run.specs.Runs.{IsRun, Told};
 
 use crate::commands::forms_arity;
 use crate::documents::forms;
@@ -33,17 +33,7 @@ pub fn operad_run<S: Source, K: Sink>(
     source: &mut S,
     sink: &mut K,
 ) -> Status
-    ensures ends { Ends result (map string_bytes words.now) (record {
-      left = S.left source.old;
-      left_now = S.left source.new;
-      read_faults = S.faults source.old;
-      read_faults_now = S.faults source.new;
-      taken = K.taken sink.old;
-      taken_now = K.taken sink.new;
-      write_faults = K.faults sink.old;
-      write_faults_now = K.faults sink.new;
-    }) }
-    ensures complete { IsComplete result (map string_bytes words.now) (record {
+    ensures run { IsRun result (map string_bytes words.now) (record {
       left = S.left source.old;
       left_now = S.left source.new;
       read_faults = S.faults source.old;

@@ -11,13 +11,14 @@ use Rattle.labelled_trees.specs.Meaning.{tree_of}
 use Rattle.labelled_trees.specs.declared.Tree as program
 use Rattle.labelled_trees.specs.declared.Tree.TheVariants.{Leaf, Node}
 use Rattle.labelled_trees.proofs.ProgramTrees.{tree_of-leaf, tree_of-node}
+use Rattle.labelled_trees.proofs.Rows.{width-row}
 use Rattle.symmetric_trees.specs.declared.generators.Generator.{Generator}
 use Rattle.symmetric_trees.specs.Generators.{IsTable, IsTaken, IsNamed}
 use Rattle.symmetric_trees.proofs.Tables.{taken-at}
 use Rattle.presentation_text.specs.declared.lexing.Token.{Token}
 use Rattle.presentation_text.specs.declared.lexing.Token.TheVariants.{Word, Number, Byte}
 use Rattle.presentation_text.specs.TreeText.{name_of, tree_tokens, row_tokens, more_tokens, nested, nested_row, IsReadableWithin, StandsAt, ReadsWithin}
-use Rattle.presentation_text.proofs.TreeTokens.{arity_in, in_table, name_of-is, names_apart, read_once, width-row}
+use Rattle.presentation_text.proofs.TreeTokens.{arity_in, in_table, name_of-is, names_apart, read_once}
 
 -- ---- places among tokens
 

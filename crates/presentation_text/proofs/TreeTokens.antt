@@ -1,9 +1,7 @@
 -- The tokens of a tree: names in a table, separators, and that tokens begin with at most one tree.
 use Rattle.std.proofs.Common.{◌≡◌, ℕ, zero, suc, ◌+◌, ◌<◌, ◌≤◌, List, [], ◌∷◌, ◌++◌, length, get_or, map, slice_get, Some, refl, ap, sym, ◌∙◌, subst, arith, append_assoc, ◌⊎◌, ⊎_elim}
-use Rattle.std.specs.List.{sum_by}
 use Rattle.std.proofs.lemmas.List.{length-map}
-use Rattle.std.proofs.lemmas.List.Sums.{sum_by-cons}
-use Rattle.std.proofs.lemmas.Option.{get_or_from_slice_get}
+use Rattle.std.proofs.lemmas.Option.{get_or_from_slice_get, slice_get-get_or}
 use Rattle.labelled_trees.specs.Trees.{Tree, Row, leaf, node, none, more, row, width}
 use Rattle.labelled_trees.specs.Leaves.{leaf_count, leaf_count_row}
 use Rattle.labelled_trees.specs.Labelled as labelled
@@ -11,12 +9,12 @@ use Rattle.labelled_trees.specs.Meaning.{tree_of}
 use Rattle.labelled_trees.specs.declared.Tree as program
 use Rattle.labelled_trees.specs.declared.Tree.TheVariants.{Node}
 use Rattle.labelled_trees.proofs.ProgramTrees.{tree_of-node}
-use Rattle.operad_ideals.specs.Parts as inputs
+use Rattle.labelled_trees.proofs.Rows.{width-row}
 use Rattle.operad_ideals.specs.Laws.{arity}
 use Rattle.symmetric_trees.specs.declared.generators.Generator.{Generator}
-use Rattle.symmetric_trees.specs.declared.generators.Part.{Part}
-use Rattle.symmetric_trees.specs.Generators.{IsTable, part_of, parts_at}
+use Rattle.symmetric_trees.specs.Generators.{IsTable, parts_at}
 use Rattle.symmetric_trees.specs.Trees.{Fits}
+use Rattle.symmetric_trees.proofs.Tables.{arity-held}
 use Rattle.presentation_text.specs.declared.lexing.Token.{Token}
 use Rattle.presentation_text.specs.declared.lexing.Token.TheVariants.{Byte}
 use Rattle.presentation_text.specs.TreeText.{name_of, tree_tokens, row_tokens, more_tokens, nested, nested_row}
@@ -38,19 +36,9 @@ name_of-is [] g d l = absurd (omega arith)
 name_of-is (x ∷ xs) zero d l = refl
 name_of-is (x ∷ xs) (suc g) d l = name_of-is xs g d (omega arith)
 
-total-sizes : (parts : List Part) → inputs.total (map part_of parts) ≡ sum_by (λ part. part.size) parts
-total-sizes [] = refl
-total-sizes (p ∷ ps) = ap (λ n. p.size + n) (total-sizes ps) ∙ sym (sum_by-cons (λ part. part.size) p ps)
-
-parts_at-is : (generators : List Generator) (g : ℕ) (d : Generator) → g < length generators → parts_at generators g ≡ map part_of (get_or generators g d).parts
-parts_at-is [] g d l = absurd (omega arith)
-parts_at-is (x ∷ xs) zero d l = refl
-parts_at-is (x ∷ xs) (suc g) d l = parts_at-is xs g d (omega arith)
-
 -- the arity of a generator in a table is the one that it names
 pub arity_in-is : (generators : List Generator) → IsTable generators → (g : ℕ) (d : Generator) → g < length generators → arity_in generators g ≡ (get_or generators g d).arity
-arity_in-is generators table g d l =
-    ap inputs.total (parts_at-is generators g d l) ∙ total-sizes (get_or generators g d).parts ∙ (table.sizes g d l).1
+arity_in-is generators table g d l = arity-held generators g (get_or generators g d) table l (slice_get-get_or generators g d l)
 
 below_or_above : (g h : ℕ) → (g ≡ h) ⊎ ((g < h) ⊎ (h < g))
 below_or_above g h = grind arith
@@ -67,16 +55,12 @@ pub name_of-get : (generators : List Generator) (g : ℕ) (x : Generator) → g 
 name_of-get generators g x l e = name_of-is generators g x l ∙ ap (λ y. y.name) (get_or_from_slice_get generators g x x e)
 
 pub arity_in-get : (generators : List Generator) → IsTable generators → (g : ℕ) (x : Generator) → g < length generators → slice_get generators g ≡ Some x → arity_in generators g ≡ x.arity
-arity_in-get generators table g x l e = arity_in-is generators table g x l ∙ ap (λ y. y.arity) (get_or_from_slice_get generators g x x e)
+arity_in-get generators table g x l e = arity-held generators g x table l e
 
 pub arity_in-least : (generators : List Generator) → IsTable generators → (g : ℕ) (x : Generator) → g < length generators → 2 ≤ arity_in generators g
 arity_in-least generators table g x l = let is = arity_in-is generators table g x l in let least = (table.arities g x l).0 in omega arith
 
 -- ---- trees of the program that fit a table
-
-pub width-row : {A : Type 0} (ts : List (Tree A)) → width (row ts) ≡ length ts
-width-row [] = refl
-width-row (t ∷ ts) = ap suc (width-row ts)
 
 -- a vertex that fits
 pub record FitsNode (generators : List Generator) (g : ℕ) (ts : List program.Tree) : Type 0 where

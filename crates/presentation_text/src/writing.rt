@@ -22,12 +22,7 @@ fn write_number(number: u8, out: &mut Vec<u8>) -> Result<(), AllocError>
 
 /// Puts the text of a tree behind `out`. Nothing is allocated but what `out` grows by.
 /// `AllocError` comes for want of memory alone; `out` may then hold a part of the text.
-pub fn write_tree(
-    alloc: Global,
-    table: &GenTable,
-    tree: &Tree,
-    out: &mut Vec<u8>,
-) -> Result<(), AllocError>
+pub fn write_tree(table: &GenTable, tree: &Tree, out: &mut Vec<u8>) -> Result<(), AllocError>
     requires fits { Fits table.now (tree_of tree.now) }
     ensures text { OnOk result
         (out.new.items ≡ out.old.items ++ tree_text table.now (tree_of tree.now)) }
@@ -39,7 +34,7 @@ pub fn write_tree(
             let mut mark = b'(';
             for input in inputs.as_slice() {
                 out.push(mark)?;
-                write_tree(alloc, table, input, out)?;
+                write_tree(table, input, out)?;
                 mark = b',';
             }
             out.push(b')')?;
@@ -54,7 +49,7 @@ pub fn print_tree(alloc: Global, table: &GenTable, tree: &Tree) -> Result<Vec<u8
     ensures text { IfOk result (λ found. found.items ≡ tree_text table.now (tree_of tree.now)) }
 {
     let mut out = Vec::new(alloc);
-    write_tree(alloc, table, tree, &mut out)?;
+    write_tree(table, tree, &mut out)?;
     Ok(out)
 }
 

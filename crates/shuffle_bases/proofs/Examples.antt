@@ -50,7 +50,7 @@ jacobi_monic = record {
   tail_valid = ((valid_at 3 t2 refl, refl), ((valid_at 3 t3 refl, refl), tt));
 }
 
-monic : AreMonic setting
+pub monic : AreMonic setting
 monic = record {
   each = each;
   apart = λ g h a b e. same g a ∙ sym (same h b);

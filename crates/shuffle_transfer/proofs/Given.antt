@@ -1,8 +1,6 @@
 -- A certified list of elements, its insertions, and the trees that no leading tree divides.
-use Rattle.std.proofs.Common.{◌≡◌, ℕ, ◌<◌, ◌≤◌, List, [], ◌∷◌, refl, sym, ◌∙◌, ap, arith, subst, inl, inr, ◌⊎◌}
+use Rattle.std.proofs.Common.{◌≡◌, ℕ, ◌<◌, ◌≤◌, List, [], ◌∷◌, refl, sym, ◌∙◌, arith, subst}
 use Rattle.std.specs.declared.cmp.Ordering.{Ordering}
-use Rattle.std.specs.declared.cmp.Ordering.TheVariants.{Less}
-use Rattle.modular_sums.specs.Lists.{Mem}
 use Rattle.modular_sums.specs.Sums.{Member, moved, AllTerms}
 use Rattle.modular_sums.proofs.Images.{moved_ext}
 use Rattle.labelled_trees.specs.Trees.{Tree, leaf, graft}
@@ -19,12 +17,11 @@ use Rattle.shuffle_insertions.specs.Slots.{Slot, fill_slot, PartsRise}
 use Rattle.shuffle_insertions.specs.Orders.{IsTreeOrder}
 use Rattle.shuffle_insertions.proofs.Rising.{least-occurs}
 use Rattle.shuffle_insertions.proofs.Frames.{SlotOf, slot_of}
-use Rattle.shuffle_insertions.proofs.Laws.{keeps}
-use Rattle.shuffle_places.specs.Places.{frame_at, IsPlace}
-use Rattle.shuffle_places.specs.AllPlaces.{places}
+use Rattle.shuffle_places.specs.Places.{frame_at}
 use Rattle.shuffle_places.proofs.Sizes.{one_size}
-use Rattle.shuffle_places.proofs.Laws.{place_frames, places_listed}
+use Rattle.shuffle_places.proofs.Laws.{place_frames}
 use Rattle.shuffle_bases.specs.Elements.{Element, terms, Setting, IsMonic, Insertion, value_of}
+use Rattle.shuffle_normal_forms.specs.NormalForms.{InSpan}
 use Rattle.operad_ideals.specs.Presentations.{Relation, Presentation, arity_of, IsWide, IsSound}
 use Rattle.operad_ideals.specs.Ideals.{InIdeal}
 use Rattle.operad_ideals.proofs.Links.{member_zero, member_through}
@@ -81,12 +78,9 @@ module _ (c : Given) (n : ℕ) (le : n ≤ c.most) where
   abbrev Shuffles : Tree ℕ → Type 0
   Shuffles = IsShuffleTree (inputs_of c.presentation) n
 
-  abbrev pub InSpan : List (ℕ × Tree ℕ) → Type 0
-  InSpan e = Member tree_discrete (value_of {s = setting_of c} {n = n}) c.presentation.q e
-
   -- ---- relations, inserted, are sums of insertions of the elements
 
-  by_terms : (j : RelationInsertion c.presentation n) (l : List (ℕ × Tree ℕ)) → j.relation.terms ≡ l → InSpan (moved (insert j.frame) (shuffled c.presentation (relabelled j.permutation l)))
+  by_terms : (j : RelationInsertion c.presentation n) (l : List (ℕ × Tree ℕ)) → j.relation.terms ≡ l → InSpan (setting_of c) n (moved (insert j.frame) (shuffled c.presentation (relabelled j.permutation l)))
   by_terms j [] e = member_zero tree_discrete value_of c.presentation.q
   by_terms j (x ∷ l) e =
       let r : Relation = j.relation in
@@ -99,13 +93,13 @@ module _ (c : Given) (n : ℕ) (le : n ≤ c.most) where
       = subst (λ t. AllTerms (moved (insert j.frame) (shuffled p (relabelled j.permutation t))) Shuffles) e j.valid in
       let vz : IsShuffleTree (inputs_of p) n (fill_slot s.slot z) = subst Shuffles (s.inserts z) v.0 in
       let few : r.arity ≤ n = arity_le (inputs_of p) r.arity n s.slot s.rises z hz vz in
-      subst InSpan (sym (moved_ext (insert j.frame) (fill_slot s.slot) (shuffled p (relabelled j.permutation (x ∷ l))) s.inserts))
+      subst (InSpan (setting_of c) n) (sym (moved_ext (insert j.frame) (fill_slot s.slot) (shuffled p (relabelled j.permutation (x ∷ l))) s.inserts))
       (elements_carried (setting_of c) c.certified.monic r.arity n s.slot s.rises z hz.shuffle vz (shuffled p (relabelled j.permutation (x ∷ l)))
       (subst (λ t. Member tree_discrete (value_of {s = setting_of c} {n = r.arity}) p.q (shuffled p (relabelled j.permutation t))) e
       (c.certified.relations r j.there (omega (arith, few, le)) j.permutation (((all_orderings r.arity).2 j.permutation).1 j.permutes))))
 
   -- the shuffle form of an element of the ideal
-  pub ideal_span : (e : List (ℕ × Tree ℕ)) → AllTerms e (IsLabelled (arity_of c.presentation) n) → InIdeal c.presentation n e → InSpan (shuffled c.presentation e)
+  pub ideal_span : (e : List (ℕ × Tree ℕ)) → AllTerms e (IsLabelled (arity_of c.presentation) n) → InIdeal c.presentation n e → InSpan (setting_of c) n (shuffled c.presentation e)
   ideal_span e h m = member_through tree_discrete p.q (inserted_relation p n) value_of (λ j. by_terms j j.relation.terms refl) (shuffled p e) ((transfer_law p n e c.sound h).0 m)
 
   -- ---- an insertion of an element
@@ -125,31 +119,6 @@ module _ (c : Given) (n : ℕ) (le : n ≤ c.most) where
       let k = place_frames.0 n i.tree i.set i.of.lead i.valid.shuffle i.place in
       record { is_frame = subst (λ m. IsFrame m (frame_at i.set i.tree)) (one_size k.0 i.of.arity i.of.lead k.1 (monic_of i).lead_valid.shuffle) k.2; back = k.3 }
 
-  at_tail : (i : Insertion (setting_of c) n) (l : List (ℕ × Tree ℕ)) → AllTerms l (λ x. IsShuffleTree (inputs_of c.presentation) i.of.arity x × (c.compare x i.of.lead ≡ Less))
-      → AllTerms (moved (insert (frame_at i.set i.tree)) l) Shuffles × AllTerms (moved (insert (frame_at i.set i.tree)) l) (λ t. c.compare t i.tree ≡ Less)
-  at_tail i [] h = (tt, tt)
-  at_tail i (x ∷ l) h =
-      let f = framed i in
-      let lead = (monic_of i).lead_valid in
-      let v : Shuffles (insert (frame_of i) x.1) = (keeps i.of.arity n (frame_of i) i.of.lead x.1 f.is_frame).1 (inputs_of p) lead h.0.0 (subst Shuffles (sym f.back) i.valid) in
-      let lt : c.compare (insert (frame_of i) x.1) i.tree ≡ Less
-      = ap (c.compare (insert (frame_of i) x.1)) (sym f.back) ∙ c.order.kept i.of.arity n (frame_of i) x.1 i.of.lead f.is_frame h.0.0.shuffle lead.shuffle v.shuffle ∙ h.0.1 in
-      let r = at_tail i l h.1 in
-      ((v, r.0), (lt, r.1))
-
-  -- the other trees of an insertion
-  abbrev pub tail_of : Insertion (setting_of c) n → List (ℕ × Tree ℕ)
-  tail_of i = moved (insert (frame_at i.set i.tree)) i.of.tail
-
-  pub value_is : (i : Insertion (setting_of c) n) → value_of i ≡ (1, i.tree) ∷ tail_of i
-  value_is i = ap (λ t. (1, t) ∷ tail_of i) (framed i).back
-
-  pub tail_valid : (i : Insertion (setting_of c) n) → AllTerms (tail_of i) Shuffles
-  tail_valid i = (at_tail i i.of.tail (monic_of i).tail_valid).0
-
-  pub tail_less : (i : Insertion (setting_of c) n) → AllTerms (tail_of i) (λ t. c.compare t i.tree ≡ Less)
-  tail_less i = (at_tail i i.of.tail (monic_of i).tail_valid).1
-
   -- an insertion lies in the ideal of the shuffle forms
   pub insertion_in_ideal : (i : Insertion (setting_of c) n) → IsSumOfInsertions c.presentation n (value_of i)
   insertion_in_ideal i =
@@ -159,37 +128,6 @@ module _ (c : Given) (n : ℕ) (le : n ≤ c.most) where
       subst (IsSumOfInsertions p n) (sym (moved_ext (insert (frame_of i)) (fill_slot s.slot) (terms i.of) s.inserts))
       (relations_carried p c.sound i.of.arity n s.slot s.rises i.of.lead (monic_of i).lead_valid.shuffle v (terms i.of) (c.certified.in_ideal i.of i.member))
 
-  -- ---- a shuffle tree is the tree of an insertion, or no leading tree divides it
-
-  abbrev pub IsFree : Tree ℕ → Type 0
-  IsFree t = (g : Element) → Mem g c.elements → (set : List ℕ) → IsPlace t set g.lead → ⊥
-
-  pub free_tree : (t : Tree ℕ) → IsFree t → (i : Insertion (setting_of c) n) → i.tree ≡ t → ⊥
-  free_tree t f i e = f i.of i.member i.set (subst (λ u. IsPlace u i.set i.of.lead) e i.place)
-
-  has_place : (t : Tree ℕ) (g : Element) → Mem g c.elements → (l : List (List ℕ)) → l ≡ places g.lead 1 t → ((set : List ℕ) × IsPlace t set g.lead) ⊎ ((set : List ℕ) → IsPlace t set g.lead → ⊥)
-  has_place t g m [] e = inr (λ set h. subst (Mem set) (sym e) (((places_listed g.lead t (c.certified.monic.each g m).lead_node).0 set).1 h))
-  has_place t g m (set ∷ l) e = inl (set, ((places_listed g.lead t (c.certified.monic.each g m).lead_node).0 set).0 (subst (Mem set) e (inl refl)))
-
-  any_place : (t : Tree ℕ) (l : List Element) → ((g : Element) → Mem g l → Mem g c.elements)
-      → ((g : Element) × Mem g c.elements × ((set : List ℕ) × IsPlace t set g.lead)) ⊎ ((g : Element) → Mem g l → (set : List ℕ) → IsPlace t set g.lead → ⊥)
-  any_place t [] h = inr (λ g m. absurd m)
-  any_place t (g ∷ l) h = go (has_place t g (h g (inl refl)) (places g.lead 1 t) refl) (any_place t l (λ k m. h k (inr m)))
-    where
-      go : ((set : List ℕ) × IsPlace t set g.lead) ⊎ ((set : List ℕ) → IsPlace t set g.lead → ⊥)
-          → ((g : Element) × Mem g c.elements × ((set : List ℕ) × IsPlace t set g.lead)) ⊎ ((g : Element) → Mem g l → (set : List ℕ) → IsPlace t set g.lead → ⊥)
-          → ((g : Element) × Mem g c.elements × ((set : List ℕ) × IsPlace t set g.lead)) ⊎ ((k : Element) → Mem k (g ∷ l) → (set : List ℕ) → IsPlace t set k.lead → ⊥)
-      go (inl k) r = inl (g, h g (inl refl), k)
-      go (inr f) (inl r) = inl r
-      go (inr f) (inr r) = inr (λ k m. other k m)
-        where
-          other : (k : Element) → Mem k (g ∷ l) → (set : List ℕ) → IsPlace t set k.lead → ⊥
-          other k (inl e) = subst (λ x. (set : List ℕ) → IsPlace t set x.lead → ⊥) (sym e) f
-          other k (inr m) = r k m
-
-  pub tells : (t : Tree ℕ) → IsShuffleTree (inputs_of c.presentation) n t → ((i : Insertion (setting_of c) n) × (i.tree ≡ t)) ⊎ IsFree t
-  tells t h = go (any_place t c.elements (λ g m. m))
-    where
-      go : ((g : Element) × Mem g c.elements × ((set : List ℕ) × IsPlace t set g.lead)) ⊎ IsFree t → ((i : Insertion (setting_of c) n) × (i.tree ≡ t)) ⊎ IsFree t
-      go (inl k) = inl (record { of = k.0; member = k.1; tree = t; set = k.2.0; valid = h; place = k.2.1 }, refl)
-      go (inr f) = inr f
+  -- an element whose shuffle form lies in the span lies in the ideal
+  pub span_ideal : (e : List (ℕ × Tree ℕ)) → AllTerms e (IsLabelled (arity_of c.presentation) n) → InSpan (setting_of c) n (shuffled c.presentation e) → InIdeal c.presentation n e
+  span_ideal e h m = (transfer_law p n e c.sound h).1 (member_through tree_discrete p.q value_of (inserted_relation p n) insertion_in_ideal (shuffled p e) m)

@@ -1,97 +1,37 @@
 -- The listing of a certified list of elements has the normal trees.
-use Rattle.std.proofs.Common.{◌≡◌, ℕ, suc, ◌%◌, ◌<◌, ◌≤◌, List, [], ◌∷◌, map, refl, sym, ◌∙◌, ap, arith, subst, inl, inr, ◌⊎◌, Bool, true, false, cond}
-use Rattle.std.proofs.Math.Nat.{mod-eq_of_lt}
-use Rattle.std.specs.declared.cmp.Ordering.{Ordering}
-use Rattle.std.specs.declared.cmp.Ordering.TheVariants.{Less, Equal, Greater}
-use Rattle.std.specs.Ordering.{ordering_reverse}
+use Rattle.std.proofs.Common.{◌≡◌, ◌↔◌, ℕ, ◌<◌, ◌≤◌, List, [], ◌∷◌, map, refl, sym, ◌∙◌, ap, subst, inl, inr}
 use Rattle.modular_sums.specs.Residues.{Alike}
 use Rattle.modular_sums.specs.Lists.{Mem, Distinct}
-use Rattle.modular_sums.specs.Sums.{hit, coef, Same, expand, moved, AllTerms}
+use Rattle.modular_sums.specs.Sums.{coef, moved, AllTerms}
 use Rattle.modular_sums.proofs.Lists.{mem_map, mem_of_map}
-use Rattle.labelled_trees.specs.Trees.{Tree, IsNode}
+use Rattle.labelled_trees.specs.Trees.{Tree}
 use Rattle.labelled_trees.specs.Equality.{tree_discrete}
 use Rattle.labelled_trees.specs.Labelled.{IsLabelled}
 use Rattle.shuffle_insertions.specs.ShuffleTrees.{IsShuffleTree}
 use Rattle.shuffle_insertions.specs.Orders.{IsTreeOrder}
-use Rattle.shuffle_insertions.specs.Listing.{all_trees, IsListing}
-use Rattle.shuffle_insertions.proofs.Laws.{orders, listed}
-use Rattle.shuffle_places.specs.Places.{IsPlace}
-use Rattle.shuffle_places.specs.AllPlaces.{places}
-use Rattle.shuffle_places.proofs.Laws.{places_listed}
-use Rattle.shuffle_bases.specs.Elements.{Element, Insertion, value_of}
-use Rattle.shuffle_bases.specs.Reductions.{IsLed}
+use Rattle.shuffle_insertions.proofs.Laws.{orders}
+use Rattle.shuffle_bases.specs.Reductions.{SElementsReduce}
+use Rattle.shuffle_normal_forms.specs.FreeTrees.{IsFree, IsFreeTree, free_trees}
+use Rattle.shuffle_normal_forms.specs.NormalForms.{InSpan, LeadsNone}
+use Rattle.shuffle_normal_forms.proofs.Laws.{all_listed, lead_none}
 use Rattle.operad_ideals.specs.Spelling.{IsSorted}
 use Rattle.operad_ideals.specs.Presentations.{Presentation, parts, arity_of}
 use Rattle.operad_ideals.specs.Ideals.{InIdeal}
 use Rattle.operad_ideals.proofs.Spellings.{sorted_spelling, is_sorted_spelled, labelled_once}
 use Rattle.shuffle_transfer.specs.Labels.{labels, gen, inputs_of, shuffle_form, symmetric_tree}
 use Rattle.shuffle_transfer.specs.Transfer.{shuffled}
-use Rattle.shuffle_transfer.specs.NormalTrees.{OneOrder, by_path, by_pathshort, by_leafpath, by_weightpath, compare, is_empty, is_free, free_trees, normal_list, IsLead, IsNormalTree}
+use Rattle.shuffle_transfer.specs.NormalTrees.{OneOrder, by_path, by_pathshort, by_leafpath, by_weightpath, compare, normal_list, IsLead, IsNormalTree}
 use Rattle.shuffle_transfer.proofs.Labels.{are_labels}
 use Rattle.shuffle_transfer.proofs.Forth.{forth, back_law, spelling}
-use Rattle.shuffle_transfer.proofs.Given.{Given, setting_of, InSpan, ideal_span, tail_of, value_is, tail_less, IsFree, free_tree, tells}
-use Rattle.shuffle_transfer.proofs.Independent.{Normal, led, hit_not}
-use Rattle.shuffle_transfer.proofs.Spanning.{normal_tree, all_labelled, all_forms, value_valid, value_in_ideal}
+use Rattle.shuffle_transfer.proofs.Given.{Given, setting_of, ideal_span, span_ideal}
+use Rattle.shuffle_transfer.proofs.Independent.{Normal}
+use Rattle.shuffle_transfer.proofs.Spanning.{normal_tree, all_shuffles, all_labelled, all_forms}
 
 pub order_of : (p : Presentation) (order : OneOrder) → IsTreeOrder (inputs_of p) (compare p order)
 order_of p by_path = (orders (inputs_of p) (λ l. 0)).0
 order_of p by_pathshort = (orders (inputs_of p) (λ l. 0)).1
 order_of p by_leafpath = (orders (inputs_of p) (λ l. 0)).2
 order_of p (by_weightpath weights) = (orders (inputs_of p) (λ l. weights (gen p l))).3
-
--- ---- the test
-
-empty_free : (t a : Tree ℕ) → IsNode a → (l : List (List ℕ)) → places a 1 t ≡ l → is_empty l ≡ true → (set : List ℕ) → IsPlace t set a → ⊥
-empty_free t a node [] e h set place = subst (Mem set) e (((places_listed a t node).0 set).1 place)
-empty_free t a node (x ∷ l) e h set place = absurd (cc h)
-
-free_empty : (t a : Tree ℕ) → IsNode a → ((set : List ℕ) → IsPlace t set a → ⊥) → (l : List (List ℕ)) → places a 1 t ≡ l → is_empty l ≡ true
-free_empty t a node f [] e = refl
-free_empty t a node f (x ∷ l) e = absurd (f x (((places_listed a t node).0 x).0 (subst (Mem x) (sym e) (inl refl))))
-
-of_test : (l : List Element) (t : Tree ℕ) → ((g : Element) → Mem g l → IsNode g.lead) → is_free l t ≡ true → (g : Element) → Mem g l → (set : List ℕ) → IsPlace t set g.lead → ⊥
-of_test [] t nodes h g m = absurd m
-of_test (x ∷ l) t nodes h g m = go (is_empty (places x.lead 1 t)) refl h (of_test l t (λ k i. nodes k (inr i))) m
-  where
-    go : (b : Bool) → is_empty (places x.lead 1 t) ≡ b → cond b (is_free l t) false ≡ true
-        → (is_free l t ≡ true → (g : Element) → Mem g l → (set : List ℕ) → IsPlace t set g.lead → ⊥)
-        → Mem g (x ∷ l) → (set : List ℕ) → IsPlace t set g.lead → ⊥
-    go true e k ih (inl s) = subst (λ y. (set : List ℕ) → IsPlace t set y.lead → ⊥) (sym s) (empty_free t x.lead (nodes x (inl refl)) (places x.lead 1 t) refl e)
-    go true e k ih (inr i) = ih k g i
-    go false e k ih i = absurd (cc k)
-
-to_test : (l : List Element) (t : Tree ℕ) → ((g : Element) → Mem g l → IsNode g.lead) → ((g : Element) → Mem g l → (set : List ℕ) → IsPlace t set g.lead → ⊥) → is_free l t ≡ true
-to_test [] t nodes f = refl
-to_test (x ∷ l) t nodes f =
-    ap (λ b. cond b (is_free l t) false) (free_empty t x.lead (nodes x (inl refl)) (f x (inl refl)) (places x.lead 1 t) refl) ∙ to_test l t (λ k i. nodes k (inr i)) (λ g i. f g (inr i))
-
-module _ (elements : List Element) where
-  free_mem : (l : List (Tree ℕ)) (t : Tree ℕ) → Mem t (free_trees elements l) → Mem t l × (is_free elements t ≡ true)
-  free_mem [] t h = absurd h
-  free_mem (x ∷ l) t h = go (is_free elements x) refl h (free_mem l t)
-    where
-      go : (b : Bool) → is_free elements x ≡ b → Mem t (cond b (x ∷ free_trees elements l) (free_trees elements l)) → (Mem t (free_trees elements l) → Mem t l × (is_free elements t ≡ true)) → Mem t (x ∷ l) × (is_free elements t ≡ true)
-      go true e (inl s) ih = (inl s, ap (is_free elements) s ∙ e)
-      go true e (inr m) ih = let k = ih m in (inr k.0, k.1)
-      go false e m ih = let k = ih m in (inr k.0, k.1)
-
-  mem_free : (l : List (Tree ℕ)) (t : Tree ℕ) → Mem t l → is_free elements t ≡ true → Mem t (free_trees elements l)
-  mem_free [] t m h = absurd m
-  mem_free (x ∷ l) t m h = go (is_free elements x) refl m (λ k. mem_free l t k h)
-    where
-      go : (b : Bool) → is_free elements x ≡ b → Mem t (x ∷ l) → (Mem t l → Mem t (free_trees elements l)) → Mem t (cond b (x ∷ free_trees elements l) (free_trees elements l))
-      go true e (inl s) ih = inl s
-      go true e (inr k) ih = inr (ih k)
-      go false e (inl s) ih = absurd (let k : true ≡ false = sym h ∙ ap (is_free elements) s ∙ e in cc)
-      go false e (inr k) ih = ih k
-
-  distinct_free : (l : List (Tree ℕ)) → Distinct l → Distinct (free_trees elements l)
-  distinct_free [] h = tt
-  distinct_free (x ∷ l) h = go (is_free elements x) (distinct_free l h.1)
-    where
-      go : (b : Bool) → Distinct (free_trees elements l) → Distinct (cond b (x ∷ free_trees elements l) (free_trees elements l))
-      go true ih = (λ m. h.0 (free_mem l x m).0, ih)
-      go false ih = ih
 
 distinct_image : {A B : Type 0} (f : A → B) (g : B → A) (P : A → Type 0) → ((x : A) → P x → g (f x) ≡ x) → (l : List A) → ((x : A) → Mem x l → P x) → Distinct l → Distinct (map f l)
 distinct_image f g P back [] h d = tt
@@ -105,123 +45,56 @@ distinct_image f g P back (x ∷ l) h d = (
 -- ---- the listing
 
 module _ (c : Given) (n : ℕ) (le : n ≤ c.most) where
-  abbrev all : List (Tree ℕ)
-  all = all_trees (labels c.presentation) (inputs_of c.presentation) n
+  abbrev free : List (Tree ℕ)
+  free = free_trees (labels c.presentation) (setting_of c) n
 
-  listing : IsListing (inputs_of c.presentation) n all
-  listing = (listed (labels c.presentation) (inputs_of c.presentation) (are_labels c.presentation c.wide) n).0
-
-  nodes : (g : Element) → Mem g c.elements → IsNode g.lead
-  nodes g m = (c.certified.monic.each g m).lead_node
+  free_listed : Distinct free × ((t : Tree ℕ) → Mem t free ↔ IsFreeTree (setting_of c) n t)
+  free_listed = all_listed (labels c.presentation) (setting_of c) (are_labels c.presentation c.wide) c.certified.monic n
 
   pub listed_normal : (t : Tree ℕ) → Mem t (normal_list c.presentation c.elements n) → Normal c n le t
   listed_normal t m =
-      let k = mem_of_map (symmetric_tree c.presentation) t (free_trees c.elements all) m in
-      let f = free_mem c.elements all k.0 k.1 in
-      subst (Normal c n le) (sym k.2) (normal_tree c n le k.0 (listing.only k.0 f.0) (of_test c.elements k.0 nodes f.1))
+      let k = mem_of_map (symmetric_tree c.presentation) t free m in
+      let f = (free_listed.1 k.0).0 k.1 in
+      subst (Normal c n le) (sym k.2) (normal_tree c n le k.0 f)
 
   pub normal_listed : (t : Tree ℕ) → Normal c n le t → Mem t (normal_list c.presentation c.elements n)
   normal_listed t h = subst (λ x. Mem x (normal_list c.presentation c.elements n)) ((spelling c.presentation n t h.labelled).0 ∙ h.sorted)
-      (mem_map (symmetric_tree c.presentation) (shuffle_form c.presentation t) (free_trees c.elements all)
-      (mem_free c.elements all (shuffle_form c.presentation t) (listing.each (shuffle_form c.presentation t) (forth c.presentation n t h.labelled)) (to_test c.elements (shuffle_form c.presentation t) nodes h.free)))
+      (mem_map (symmetric_tree c.presentation) (shuffle_form c.presentation t) free
+      ((free_listed.1 (shuffle_form c.presentation t)).1 (record { valid = forth c.presentation n t h.labelled; free = h.free })))
 
   pub listed_once : Distinct (normal_list c.presentation c.elements n)
   listed_once = distinct_image (symmetric_tree c.presentation) (shuffle_form c.presentation) (IsShuffleTree (inputs_of c.presentation) n) (λ s h. (back_law c.presentation n s h).1)
-      (free_trees c.elements all) (λ s m. listing.only s (free_mem c.elements all s m).0) (distinct_free c.elements all listing.distinct)
+      free (λ s m. ((free_listed.1 s).0 m).valid) free_listed.0
 
 -- ---- normal trees lead no element of the ideal, and no other sorted tree does so
 
-greater : (o r : Ordering) → o ≡ ordering_reverse r → o ≡ Greater → r ≡ Less
-greater o Less e g = refl
-greater o Equal e g = absurd (cc (e, g))
-greater o Greater e g = absurd (cc (e, g))
-
-not_less_itself : (o : Ordering) → o ≡ ordering_reverse o → o ≡ Less → ⊥
-not_less_itself Less e h = absurd (cc e)
-not_less_itself Equal e h = absurd (cc h)
-not_less_itself Greater e h = absurd (cc h)
-
-hit_same : (x t : Tree ℕ) (k : ℕ) (d : Dec (x ≡ t)) → x ≡ t → hit d k ≡ k
-hit_same x t k (yes e) f = refl
-hit_same x t k (no g) f = absurd (g f)
-
-nothing : (t : Tree ℕ) → coef {M = Tree ℕ} tree_discrete [] t ≡ 0
-unfolding coef
-nothing t = refl
-
-one_not_zero : (q : ℕ) → 0 < q → Alike q 1 0 → ⊥
-one_not_zero q h e =
-    let a : 1 % suc q ≡ 1 = mod-eq_of_lt (omega (arith, h)) in
-    let z : 0 % suc q ≡ 0 = mod-eq_of_lt (omega arith) in
-    omega (arith, a, z, e)
-
 module _ (c : Given) (n : ℕ) (le : n ≤ c.most) where
+  abbrev p : Presentation
+  p = c.presentation
+
   abbrev F : Tree ℕ → Tree ℕ
   F = shuffle_form c.presentation
 
-  abbrev Lead : List (ℕ × Tree ℕ) → Tree ℕ → Type 0
-  Lead e t = IsLead c.presentation c.compare n e t
+  abbrev S : Tree ℕ → Tree ℕ
+  S = symmetric_tree c.presentation
 
-  no_lead : (t : Tree ℕ) → Normal c n le t → (e : List (ℕ × Tree ℕ)) → AllTerms e (IsLabelled (arity_of c.presentation) n) → InIdeal c.presentation n e → Lead e t → ⊥
-  no_lead t h e v m lead = go k (led c n le k.uses)
-    where
-      k : InSpan c n le (shuffled c.presentation e)
-      k = ideal_span c n le e v m
+  lead_law : ((N m : ℕ) → SElementsReduce (setting_of c) N → m ≤ N → (t : Tree ℕ) → IsShuffleTree (inputs_of c.presentation) m t → IsFree (setting_of c) t → LeadsNone (setting_of c) m t)
+      × (0 < c.presentation.q → (m : ℕ) (t : Tree ℕ) → IsShuffleTree (inputs_of c.presentation) m t → LeadsNone (setting_of c) m t → IsFree (setting_of c) t)
+  lead_law = lead_none (labels p) (setting_of c) (are_labels p c.wide) c.order c.certified.monic
 
-      f : IsShuffleTree (inputs_of c.presentation) n (F t)
-      f = forth c.presentation n t h.labelled
+  no_lead : (t : Tree ℕ) → Normal c n le t → (e : List (ℕ × Tree ℕ)) → AllTerms e (IsLabelled (arity_of c.presentation) n) → InIdeal c.presentation n e → IsLead c.presentation c.compare n e t → ⊥
+  no_lead t h e v m lead =
+      lead_law.0 c.most n c.certified.s_elements le (F t) (forth p n t h.labelled) h.free (shuffled p e) (all_shuffles p n e v) (ideal_span c n le e v m) (record { there = lead.there; above = lead.above })
 
-      at : (k : InSpan c n le (shuffled c.presentation e)) (d : IsLed (setting_of c) n (expand value_of k.uses)) (o : Ordering) → c.compare (F t) d.by.tree ≡ o → ⊥
-      at k d Less s = d.there (sym (k.adds_up d.by.tree) ∙ lead.above d.by.tree d.by.valid s)
-      at k d Equal s = free_tree c n le (F t) h.free d.by (sym (c.order.equal_only n (F t) d.by.tree f d.by.valid s))
-      at k d Greater s = lead.there (k.adds_up (F t) ∙ d.above (F t) f (greater (c.compare (F t) d.by.tree) (c.compare d.by.tree (F t)) (c.order.turned (F t) d.by.tree) s))
-
-      go : (k : InSpan c n le (shuffled c.presentation e)) → Same tree_discrete c.presentation.q (expand value_of k.uses) [] ⊎ IsLed (setting_of c) n (expand value_of k.uses) → ⊥
-      go k (inl z) = lead.there (k.adds_up (F t) ∙ z (F t) ∙ ap (λ a. a % suc c.presentation.q) (nothing (F t)))
-      go k (inr d) = at k d (c.compare (F t) d.by.tree) refl
-
-  -- no tree of the tail is s, where s is the tree of the insertion or greater
-  none_below : (i : Insertion (setting_of c) n) (s : Tree ℕ) (l : List (ℕ × Tree ℕ)) → AllTerms l (λ t. c.compare t i.tree ≡ Less) → ((c.compare s i.tree ≡ Less) → ⊥) → coef tree_discrete l s ≡ 0
-  unfolding coef
-  none_below i s [] h g = refl
-  none_below i s (x ∷ l) h g =
-      let a = hit_not x.1 s x.0 (tree_discrete x.1 s) (λ e. g (ap (λ y. c.compare y i.tree) (sym e) ∙ h.0)) in
-      omega (arith, a, none_below i s l h.1 g)
-
-  both_less : (x y : Tree ℕ) → c.compare x y ≡ Less → c.compare y x ≡ Less → ⊥
-  both_less x y e f = not_less_itself (c.compare x x) (c.order.turned x x) (c.order.transitive x y x e f)
-
-  -- the tree of an insertion leads an element of the ideal
-  leads : (t : Tree ℕ) (i : Insertion (setting_of c) n) → 0 < c.presentation.q → i.tree ≡ F t
-      → (e : List (ℕ × Tree ℕ)) × AllTerms e (IsLabelled (arity_of c.presentation) n) × InIdeal c.presentation n e × Lead e t
-  unfolding coef
-  leads t i prime same = (
-    moved (symmetric_tree c.presentation) (value_of i),
-    all_labelled c n le (value_of i) (value_valid c n le i),
-    value_in_ideal c n le i,
-    record {
-      there = λ z. one_not_zero c.presentation.q prime (sym (ap (λ a. a % suc c.presentation.q) (ap (λ k. coef tree_discrete k (F t)) forms ∙ at_tree)) ∙ z);
-      above = λ s h e. ap (λ k. k % suc c.presentation.q) (ap (λ k. coef tree_discrete k s) forms ∙ at_above s e);
-    },
-  )
-    where
-      forms : shuffled c.presentation (moved (symmetric_tree c.presentation) (value_of i)) ≡ (1, i.tree) ∷ tail_of c n le i
-      forms = all_forms c n le (value_of i) (value_valid c n le i) ∙ value_is c n le i
-
-      at_tree : coef tree_discrete ((1, i.tree) ∷ tail_of c n le i) (F t) ≡ 1
-      at_tree =
-          let a : hit (tree_discrete i.tree (F t)) 1 ≡ 1 = hit_same i.tree (F t) 1 (tree_discrete i.tree (F t)) same in
-          let b = none_below i (F t) (tail_of c n le i) (tail_less c n le i)
-          (λ e. not_less_itself (c.compare i.tree i.tree) (c.order.turned i.tree i.tree) (ap (λ x. c.compare x i.tree) same ∙ e)) in
-          omega (arith, a, b)
-
-      at_above : (s : Tree ℕ) → c.compare (F t) s ≡ Less → coef tree_discrete ((1, i.tree) ∷ tail_of c n le i) s ≡ 0
-      at_above s e =
-          let up : c.compare i.tree s ≡ Less = ap (λ x. c.compare x s) same ∙ e in
-          let a : hit (tree_discrete i.tree s) 1 ≡ 0
-          = hit_not i.tree s 1 (tree_discrete i.tree s) (λ f. not_less_itself (c.compare i.tree i.tree) (c.order.turned i.tree i.tree) (ap (c.compare i.tree) f ∙ up)) in
-          let b = none_below i s (tail_of c n le i) (tail_less c n le i) (λ f. both_less i.tree s up f) in
-          omega (arith, a, b)
+  -- what leads a sum in the span leads an element of the ideal
+  leads_none : (t : Tree ℕ) → IsNormalTree c.presentation c.compare n t → LeadsNone (setting_of c) n (F t)
+  leads_none t h e v m lead =
+      let forms = all_forms p n e v in
+      h.leads_none (moved S e) (all_labelled p n e v) (span_ideal c n le (moved S e) (all_labelled p n e v) (subst (InSpan (setting_of c) n) (sym forms) m))
+      (record {
+        there = subst (λ l. Alike p.q (coef tree_discrete l (F t)) 0 → ⊥) (sym forms) lead.there;
+        above = λ s w less. subst (λ l. Alike p.q (coef tree_discrete l s) 0) (sym forms) (lead.above s w less);
+      })
 
   pub of_normal : (t : Tree ℕ) → Normal c n le t → IsNormalTree c.presentation c.compare n t
   of_normal t h = record {
@@ -234,9 +107,5 @@ module _ (c : Given) (n : ℕ) (le : n ≤ c.most) where
   to_normal t prime h = record {
     labelled = h.labelled;
     sorted = (sorted_spelling (parts c.presentation) t h.sorted).0;
-    free = go (tells c n le (F t) (forth c.presentation n t h.labelled));
+    free = lead_law.1 prime n (F t) (forth p n t h.labelled) (leads_none t h);
   }
-    where
-      go : ((i : Insertion (setting_of c) n) × (i.tree ≡ F t)) ⊎ IsFree c n le (F t) → IsFree c n le (F t)
-      go (inl x) = let k = leads t x.0 prime x.1 in absurd (h.leads_none k.0 k.1 k.2 k.3)
-      go (inr f) = f

@@ -1,6 +1,5 @@
 -- Normal trees and normal forms.
-use Rattle.std.specs.Prelude.{ℕ, ◌≡◌, List, [], ◌∷◌, ◌++◌, map}
-use Rattle.std.proofs.Common.{Bool, true, false, cond}
+use Rattle.std.specs.Prelude.{ℕ, ◌≡◌, List, [], ◌∷◌, ◌++◌, map, filter}
 use Rattle.std.specs.declared.cmp.Ordering.{Ordering}
 use Rattle.std.specs.declared.cmp.Ordering.TheVariants.{Less}
 use Rattle.modular_sums.specs.Residues.{Alike}
@@ -12,8 +11,8 @@ use Rattle.labelled_trees.specs.Labelled.{IsLabelled}
 use Rattle.shuffle_insertions.specs.ShuffleTrees.{IsShuffleTree}
 use Rattle.shuffle_insertions.specs.Keys.{key, path, pathshort, leafpath, weightpath}
 use Rattle.shuffle_insertions.specs.Listing.{all_trees}
-use Rattle.shuffle_places.specs.AllPlaces.{places}
 use Rattle.shuffle_bases.specs.Elements.{Element}
+use Rattle.shuffle_normal_forms.specs.FreeTrees.{has_no_place}
 use Rattle.operad_ideals.specs.Spelling.{IsSorted}
 use Rattle.operad_ideals.specs.Presentations.{Presentation, parts, arity_of}
 use Rattle.operad_ideals.specs.Ideals.{InIdeal}
@@ -35,24 +34,11 @@ compare p by_leafpath x y = leafpath (key (λ l. 0) x) (key (λ l. 0) y)
 compare p (by_weightpath weights) x y = weightpath (key (λ l. weights (gen p l)) x) (key (λ l. weights (gen p l)) y)
 
 -- whether there is nothing in the list
-abbrev pub is_empty : List (List ℕ) → Bool
-is_empty [] = true
-is_empty (x ∷ l) = false
-
--- whether no leading tree of the elements is the divisor at a place of the tree
-abbrev pub is_free : List Element → Tree ℕ → Bool
-is_free [] t = true
-is_free (g ∷ elements) t = cond (is_empty (places g.lead 1 t)) (is_free elements t) false
-
--- those of the trees that no leading tree divides
-abbrev pub free_trees : List Element → List (Tree ℕ) → List (Tree ℕ)
-free_trees elements [] = []
-free_trees elements (t ∷ ts) = cond (is_free elements t) (t ∷ free_trees elements ts) (free_trees elements ts)
 
 module _ (p : Presentation) where
   -- The listing of arity n: the trees of all shuffle trees over the labels that no leading tree divides.
   abbrev pub normal_list : List Element → ℕ → List (Tree ℕ)
-  normal_list elements n = map (symmetric_tree p) (free_trees elements (all_trees (labels p) (inputs_of p) n))
+  normal_list elements n = map (symmetric_tree p) (filter (has_no_place elements) (all_trees (labels p) (inputs_of p) n))
 
   -- The list is independent modulo the ideal: no tree stands twice, and an element of the ideal on trees of the list is zero.
   pub record IsIndependent (n : ℕ) (l : List (Tree ℕ)) : Type 0 where

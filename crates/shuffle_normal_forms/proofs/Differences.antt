@@ -1,0 +1,120 @@
+-- Sums that are the same, where e ++ scale q f stands for e minus f.
+use Rattle.std.proofs.Common.{◌≡◌, ℕ, suc, ◌+◌, ◌*◌, ◌%◌, List, [], ◌∷◌, refl, sym, ◌∙◌, ap, arith}
+use mathlib.Core.List.{◌++◌}
+use Rattle.modular_sums.specs.Residues.{Alike}
+use Rattle.modular_sums.specs.Sums.{coef, scale, Same}
+use Rattle.modular_sums.proofs.Residues.{alike_add, alike_mul, alike_drop}
+use Rattle.modular_sums.proofs.Sums.{coef-append, coef-scale}
+use Rattle.shuffle_normal_forms.proofs.Coefficients.{coef_nothing, coef_times}
+
+module _ (q : ℕ) where
+  -- h - (- f) is (h + l) - (l - f)
+  negated : (h l f : ℕ) → Alike q (h + q * (q * f)) (h + l + q * (l + q * f))
+  negated h l f =
+      let e : h + l + q * (l + q * f) ≡ h + q * (q * f) + (l + q * l) = omega arith in
+      sym (ap (λ n. n % suc q) e ∙ alike_drop q (h + q * (q * f)) l)
+
+  -- c h + e - (c f + g) is c (h - f) + (e - g)
+  added : (c h e f g : ℕ) → Alike q (c * h + e + q * (c * f + g)) (c * (h + q * f) + (e + q * g))
+  added c h e f g =
+      let k : c * h + e + q * (c * f + g) ≡ c * (h + q * f) + (e + q * g) = omega arith in
+      ap (λ n. n % suc q) k
+
+  -- e - e is 0
+  gone : (e : ℕ) → Alike q (e + q * e) 0
+  gone e = let k : 0 + (e + q * e) ≡ e + q * e = omega arith in rw k at (alike_drop q 0 e)
+
+  -- f - g is - (d - f) + (d - e) + (e - g)
+  forms_apart : (d e f g : ℕ) → Alike q (f + q * g) (q * (d + q * f) + (d + q * e) + (e + q * g))
+  forms_apart d e f g =
+      let a : q * (d + q * f) + (d + q * e) + (e + q * g) ≡ q * (q * f) + q * g + (d + q * d) + (e + q * e) = omega arith in
+      let b : q * (q * f) + q * g + (f + q * f) ≡ f + q * g + (q * f + q * (q * f)) = omega arith in
+      rw a (sym (alike_drop q (q * (q * f) + q * g + (d + q * d)) e ∙ alike_drop q (q * (q * f) + q * g) d
+      ∙ sym (alike_drop q (q * (q * f) + q * g) f) ∙ ap (λ n. n % suc q) b ∙ alike_drop q (f + q * g) (q * f)))
+
+  -- d - e is (d - f) - (e - g) where f is g
+  sums_apart : (d e f g : ℕ) → Alike q f g → Alike q (d + q * e) (d + q * f + q * (e + q * g))
+  sums_apart d e f g h =
+      let a : d + q * f + q * (e + q * g) ≡ d + q * e + q * (q * g) + q * f = omega arith in
+      let b : d + q * e + q * (q * g) + q * g ≡ d + q * e + (q * g + q * (q * g)) = omega arith in
+      let c : Alike q (d + q * e + q * (q * g) + q * f) (d + q * e + q * (q * g) + q * g) = alike_add q _ _ (q * f) (q * g) refl (alike_mul q q q f g refl h) in
+      rw a (sym (c ∙ ap (λ n. n % suc q) b ∙ alike_drop q (d + q * e) (q * g)))
+
+  -- where f - g is 0, f is g
+  alike_of_zero : (f g : ℕ) → Alike q (f + q * g) 0 → Alike q f g
+  alike_of_zero f g h =
+      let k : Alike q (f + q * g + g) (0 + g) = alike_add q (f + q * g) 0 g g h refl in
+      let a : f + q * g + g ≡ f + (g + q * g) = omega arith in
+      let b : 0 + g ≡ g = omega arith in
+      sym (alike_drop q f g) ∙ (rw (a, b) at k)
+
+module _ {M : Type 0} (dec : Discrete M) (q : ℕ) where
+  abbrev co : List (ℕ × M) → M → ℕ
+  co = coef dec
+
+  pub same_negated : (h l f : List (ℕ × M)) → Same dec q (h ++ scale q (scale q f)) ((h ++ l) ++ scale q (l ++ scale q f))
+  same_negated h l f t = rw (
+    coef-append dec h (scale q (scale q f)) t,
+    coef-scale dec q (scale q f) t,
+    coef-scale dec q f t,
+    coef-append dec (h ++ l) (scale q (l ++ scale q f)) t,
+    coef-append dec h l t,
+    coef-scale dec q (l ++ scale q f) t,
+    coef-append dec l (scale q f) t,
+    coef-scale dec q f t,
+  )
+      (negated q (co h t) (co l t) (co f t))
+
+  pub same_added : (c : ℕ) (x : M) (e f g : List (ℕ × M))
+      → Same dec q (((c, x) ∷ e) ++ scale q (scale c f ++ g)) (scale c (((1, x) ∷ []) ++ scale q f) ++ (e ++ scale q g))
+  same_added c x e f g t = rw (
+    coef-append dec (((c, x) ∷ []) ++ e) (scale q (scale c f ++ g)) t,
+    coef-append dec ((c, x) ∷ []) e t,
+    coef_times dec c x t,
+    coef-scale dec q (scale c f ++ g) t,
+    coef-append dec (scale c f) g t,
+    coef-scale dec c f t,
+    coef-append dec (scale c (((1, x) ∷ []) ++ scale q f)) (e ++ scale q g) t,
+    coef-scale dec c (((1, x) ∷ []) ++ scale q f) t,
+    coef-append dec ((1, x) ∷ []) (scale q f) t,
+    coef-scale dec q f t,
+    coef-append dec e (scale q g) t,
+    coef-scale dec q g t,
+  )
+      (added q c (co ((1, x) ∷ []) t) (co e t) (co f t) (co g t))
+
+  pub same_gone : (e : List (ℕ × M)) → Same dec q (e ++ scale q e) []
+  same_gone e t = rw (coef-append dec e (scale q e) t, coef-scale dec q e t, coef_nothing dec t) (gone q (co e t))
+
+  pub same_forms_apart : (d e f g : List (ℕ × M)) → Same dec q (f ++ scale q g) ((scale q (d ++ scale q f) ++ (d ++ scale q e)) ++ (e ++ scale q g))
+  same_forms_apart d e f g t = rw (
+    coef-append dec f (scale q g) t,
+    coef-scale dec q g t,
+    coef-append dec (scale q (d ++ scale q f) ++ (d ++ scale q e)) (e ++ scale q g) t,
+    coef-append dec (scale q (d ++ scale q f)) (d ++ scale q e) t,
+    coef-scale dec q (d ++ scale q f) t,
+    coef-append dec d (scale q f) t,
+    coef-scale dec q f t,
+    coef-append dec d (scale q e) t,
+    coef-scale dec q e t,
+    coef-append dec e (scale q g) t,
+    coef-scale dec q g t,
+  )
+      (forms_apart q (co d t) (co e t) (co f t) (co g t))
+
+  pub same_sums_apart : (d e f g : List (ℕ × M)) → Same dec q f g → Same dec q (d ++ scale q e) ((d ++ scale q f) ++ scale q (e ++ scale q g))
+  same_sums_apart d e f g h t = rw (
+    coef-append dec d (scale q e) t,
+    coef-scale dec q e t,
+    coef-append dec (d ++ scale q f) (scale q (e ++ scale q g)) t,
+    coef-append dec d (scale q f) t,
+    coef-scale dec q f t,
+    coef-scale dec q (e ++ scale q g) t,
+    coef-append dec e (scale q g) t,
+    coef-scale dec q g t,
+  )
+      (sums_apart q (co d t) (co e t) (co f t) (co g t) (h t))
+
+  pub same_of_zero : (f g : List (ℕ × M)) → Same dec q (f ++ scale q g) [] → Same dec q f g
+  same_of_zero f g z t = alike_of_zero q (co f t) (co g t)
+      (ap (λ c. c % suc q) (sym (coef-append dec f (scale q g) t ∙ ap (λ c. co f t + c) (coef-scale dec q g t))) ∙ z t ∙ ap (λ c. c % suc q) (coef_nothing dec t))

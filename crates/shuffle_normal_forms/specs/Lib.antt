@@ -1,0 +1,3 @@
+pub mod FreeTrees
+pub mod Laws
+pub mod NormalForms
