@@ -13,4 +13,5 @@ pub mod Ideals
 pub mod HoleInstances
 pub mod AgreementLinks
 pub mod ArityOne
+pub mod Collected
 pub mod Examples

@@ -1,7 +1,7 @@
 //! Presentations of symmetric operads: definitions and laws, without code.
 #![tactic(auto)]
 
-ghost use Rattle.operad_ideals.specs.IdealLaws.{AgreementIsInIdeal, IdealIsClosed, OneIdeal, OnlyZeroInArityOne};
+ghost use Rattle.operad_ideals.specs.IdealLaws.{AgreementIsInIdeal, CollectedForms, IdealIsClosed, OneIdeal, OnlyZeroInArityOne};
 ghost use Rattle.operad_ideals.specs.Laws.{AgreementKeepsLabels, OneSpelling};
 
 /// Law: a labelled tree has exactly one sorted spelling, with exactly one sign.
@@ -33,4 +33,9 @@ pub fn only_zero_in_arity_one()
 /// labelled tree less the sign times any tree that agrees with it.
 pub fn agreement_is_in_ideal()
     ensures law { AgreementIsInIdeal }
+{}
+
+/// Law: two elements have one collected form exactly where their difference is a sum of instances of symmetry rules.
+pub fn collected_forms()
+    ensures law { CollectedForms }
 {}

@@ -5,7 +5,7 @@ use native.Mathlib.Decide.{ℕ_discrete}
 use Rattle.std.proofs.lemmas.Nat.{pow-add}
 use Rattle.modular_sums.specs.Residues.{Alike}
 use Rattle.modular_sums.specs.Sums.{Same}
-use Rattle.modular_sums.proofs.Residues.{alike_add, alike_mul, alike_drop}
+use Rattle.modular_sums.proofs.Residues.{alike_add, alike_mul}
 use Rattle.labelled_trees.specs.Trees.{Tree, Row, node, none, more, row, graft_row}
 use Rattle.labelled_trees.specs.Contexts.{Ctx, fill}
 use Rattle.labelled_trees.specs.Leaves.{one_if, occurs}
@@ -18,7 +18,7 @@ use Rattle.operad_ideals.specs.Parts.{Sign, plus, minus, times, InOnePart}
 use Rattle.operad_ideals.specs.Sorting.{sort_by, parts_sign}
 use Rattle.operad_ideals.specs.Presentations.{Presentation, residue_of, parts, arity_of}
 use Rattle.operad_ideals.specs.Rules.{numbered, exchanged_at}
-use Rattle.operad_ideals.proofs.Residues.{residue-times}
+use Rattle.operad_ideals.proofs.Residues.{residue-times, residue_gone}
 use Rattle.operad_ideals.proofs.Signs.{times_assoc}
 use Rattle.operad_ideals.proofs.Links.{two_gone}
 use Rattle.operad_ideals.proofs.ArityOne.{part_below}
@@ -87,11 +87,7 @@ signs_cancel : (q : ℕ) (s t u : Sign) → t ≡ times s u → Alike q (q ^ tur
 signs_cancel q s t u e =
     let a : Alike q (residue_of q (times minus s) * q ^ turn_of u) (residue_of q (times minus s) * residue_of q u) = alike_mul q (residue_of q (times minus s)) (residue_of q (times minus s)) (q ^ turn_of u) (residue_of q u) refl (residue-turn q u) in
     let b : Alike q (residue_of q (times minus s) * q ^ turn_of u) (residue_of q (times minus t)) = a ∙ residue-times q (times minus s) u ∙ ap (λ r. residue_of q r % suc q) (times_assoc minus s u ∙ ap (times minus) (sym e)) in
-    alike_add q (q ^ turn_of t) (residue_of q t) (residue_of q (times minus s) * q ^ turn_of u) (residue_of q (times minus t)) (residue-turn q t) b ∙ gone t
-  where
-    gone : (t : Sign) → Alike q (residue_of q t + residue_of q (times minus t)) 0
-    gone plus = let z : 1 + q ≡ 0 + (1 + q * 1) = omega arith in rw z (alike_drop q 0 1)
-    gone minus = let z : q + 1 ≡ 0 + (1 + q * 1) = omega arith in rw z (alike_drop q 0 1)
+    alike_add q (q ^ turn_of t) (residue_of q t) (residue_of q (times minus s) * q ^ turn_of u) (residue_of q (times minus t)) (residue-turn q t) b ∙ residue_gone q t
 
 module _ (p : Presentation) (n : ℕ) where
   -- with the turns of the context and of the inputs
