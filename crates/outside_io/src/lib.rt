@@ -4,6 +4,7 @@
 mod calls;
 mod memory;
 mod real;
+mod sure;
 #[cfg(test)]
 mod tests;
 mod whole;
@@ -16,6 +17,7 @@ ghost use Rattle.outside_io.specs.Taken.{SkipsEmpty, WritesSome, WriteTakes};
 
 pub use memory::{MemorySink, MemorySource};
 pub use real::{RealSink, RealSource};
+pub use sure::{SureSink, SureSource};
 pub use whole::{ReadFail, WriteFail, read_all, write_all};
 
 /// A read or a write that was not carried out.

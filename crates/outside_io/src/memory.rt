@@ -74,7 +74,7 @@ impl Source for MemorySource {
 }
 
 // Copies the first bytes of `rest` to the front of `buf`, at most `chunk` of them.
-fn give(rest: &[u8], chunk: usize, buf: &mut [u8]) -> usize
+pub(crate) fn give(rest: &[u8], chunk: usize, buf: &mut [u8]) -> usize
     ensures count { result ≡ min chunk (min (length buf.old) (length rest.now)) }
     ensures given { buf.new ≡ take result rest.now ++ drop result buf.old }
 {

@@ -1,5 +1,6 @@
 use crate::{
-    MemorySink, MemorySource, ReadFail, RealSink, RealSource, Sink, WriteFail, read_all, write_all,
+    MemorySink, MemorySource, ReadFail, RealSink, RealSource, Sink, SureSink, SureSource,
+    WriteFail, read_all, write_all,
 };
 use std::alloc::{AllocError, Global};
 use std::io;
@@ -29,6 +30,20 @@ fn writes_to_memory(rt: HostRuntime) -> Result<(), Fail> {
     let mut sink = MemorySink::new(alloc, 4, 3, Vec::new(alloc))?;
     assert_eq!(rt; write_all(&mut sink, b"bytes"), Err(WriteFail::Fault));
     assert_eq!(rt; sink.bytes(), b"byte".as_slice());
+    Ok(())
+}
+
+#[test]
+fn surely_reads_and_writes(rt: HostRuntime) -> Result<(), Fail> {
+    let alloc = rt.alloc();
+    let mut source = SureSource::new(b"bytes".to_vec(alloc)?, 2);
+    let whole = read_all(alloc, &mut source, 5)?;
+    assert_eq!(rt; whole.as_slice(), b"bytes".as_slice());
+    for room in [5, 4] {
+        let mut sink = SureSink::new(vec![in alloc; 0; room]?);
+        assert_eq!(rt; sink.write(whole.as_slice()), Ok(5), "{room}");
+        write_all(&mut sink, b"more")?;
+    }
     Ok(())
 }
 
