@@ -1,8 +1,15 @@
 pub mod Signs
+pub mod Residues
 pub mod SortedLists
 pub mod SortedParts
+pub mod SameOrder
 pub mod Agreement
 pub mod Exchanges
 pub mod LeastLeaves
 pub mod Spellings
+pub mod Links
+pub mod Exchanged
+pub mod Ideals
+pub mod HoleInstances
+pub mod AgreementLinks
 pub mod Examples

@@ -5,6 +5,7 @@ use Rattle.std.proofs.lemmas.Bool.Decides.{nat_tests}
 use Rattle.std.proofs.lemmas.List.Sums.{sum_by-cons}
 use Rattle.std.proofs.lemmas.List.Elements.{recursion_from_All, All-from_recursion}
 use Rattle.std.proofs.lemmas.List.Sorted.{All-permutation, IsPermutation-sym, sum_by-IsPermutation, IsNonDecreasingBy-from_sort}
+use Rattle.modular_sums.specs.Lists.{Mem}
 use Rattle.operad_ideals.specs.Parts.{Sign, plus, minus, times, sign_of}
 use Rattle.operad_ideals.specs.Sorting.{put_by, sort_by, order_sign}
 use Rattle.operad_ideals.proofs.Signs.{times_assoc, times_left_comm, times-inverse}
@@ -141,7 +142,7 @@ module _ {X : Type 0} (key : X → ℕ) where
   every_sort_by P (x ∷ xs) h = every_put P x (sort_by key xs) h.0 (every_sort_by P xs h.1)
 
   -- and back
-  every_unsort : (P : X → Type 0) (xs : List X) → AllByRecursion P (sort_by key xs) → AllByRecursion P xs
+  pub every_unsort : (P : X → Type 0) (xs : List X) → AllByRecursion P (sort_by key xs) → AllByRecursion P xs
   every_unsort P [] h = tt
   every_unsort P (x ∷ xs) h = let k : P x × AllByRecursion P (sort_by key xs) = every_unput P x (sort_by key xs) h in (k.0, every_unsort P xs k.1)
 
@@ -242,13 +243,13 @@ sum_by-exchange f (suc i) [] = refl
 sum_by-exchange f (suc i) (x ∷ xs) = simp (sum_by-cons, sum_by-exchange f i xs)
 
 -- how many of these numbers are below k
-abbrev below : ℕ → List ℕ → ℕ
+abbrev pub below : ℕ → List ℕ → ℕ
 below k ks = count_by (λ m. nat_lt m k) ks
 
-below_less : (k m : ℕ) (ks : List ℕ) → m < k → below k (m ∷ ks) ≡ suc (below k ks)
+pub below_less : (k m : ℕ) (ks : List ℕ) → m < k → below k (m ∷ ks) ≡ suc (below k ks)
 below_less k m ks l = sum_by-cons (λ n. cond (nat_lt n k) 1 0) m ks ∙ ap (λ t. cond t 1 0 + below k ks) (lt-ltb m k l) ∙ omega arith
 
-below_more : (k m : ℕ) (ks : List ℕ) → k ≤ m → below k (m ∷ ks) ≡ below k ks
+pub below_more : (k m : ℕ) (ks : List ℕ) → k ≤ m → below k (m ∷ ks) ≡ below k ks
 below_more k m ks l = sum_by-cons (λ n. cond (nat_lt n k) 1 0) m ks ∙ ap (λ t. cond t 1 0 + below k ks) (le-ltb m k l) ∙ omega arith
 
 -- the factors of the first two numbers, a < b, in both orders
@@ -275,7 +276,7 @@ order_sign-exchange (suc i) (k ∷ ks) h l =
     ∙ times_left_comm (sign_of (below k ks)) minus (order_sign (exchange i ks))
     ∙ ap (λ n. times minus (times (sign_of n) (order_sign (exchange i ks)))) (sym (sum_by-exchange (λ m. cond (nat_lt m k) 1 0) i ks))
 
-below_none : (k : ℕ) (ks : List ℕ) → AllByRecursion (λ m. k < m) ks → below k ks ≡ 0
+pub below_none : (k : ℕ) (ks : List ℕ) → AllByRecursion (λ m. k < m) ks → below k ks ≡ 0
 below_none k [] h = refl
 below_none k (m ∷ ks) h = below_more k m ks (omega (arith, h.0)) ∙ below_none k ks h.1
 
@@ -299,27 +300,22 @@ map-sort_by f key other e (x ∷ xs) = map-put_by f key other e x (sort_by key x
 
 -- ---- a sorted permutation is the sorted list
 
--- z is one of these elements
-abbrev In : {X : Type 0} → X → List X → Type 0
-In z [] = ⊥
-In z (x ∷ xs) = (z ≡ x) ⊎ In z xs
-
-in_itself : {X : Type 0} (xs : List X) → AllByRecursion (λ z. In z xs) xs
+pub in_itself : {X : Type 0} (xs : List X) → AllByRecursion (λ z. Mem z xs) xs
 in_itself [] = tt
-in_itself (x ∷ xs) = (inl refl, every_weaker (λ z. In z xs) (λ z. In z (x ∷ xs)) xs (λ z h. inr h) (in_itself xs))
+in_itself (x ∷ xs) = (inl refl, every_weaker (λ z. Mem z xs) (λ z. Mem z (x ∷ xs)) xs (λ z h. inr h) (in_itself xs))
 
-every_in : {X : Type 0} (P : X → Type 0) (xs : List X) (z : X) → AllByRecursion P xs → In z xs → P z
+pub every_in : {X : Type 0} (P : X → Type 0) (xs : List X) (z : X) → AllByRecursion P xs → Mem z xs → P z
 every_in P [] z h k = absurd k
 every_in P (x ∷ xs) z h (inl e) = subst P (sym e) h.0
 every_in P (x ∷ xs) z h (inr k) = every_in P xs z h.1 k
 
 -- what is above x and stands in x ∷ xs stands in xs
-in_rest : {X : Type 0} (key : X → ℕ) (x : X) (xs zs : List X) → AllByRecursion (λ z. key x < key z) zs → AllByRecursion (λ z. In z (x ∷ xs)) zs → AllByRecursion (λ z. In z xs) zs
+in_rest : {X : Type 0} (key : X → ℕ) (x : X) (xs zs : List X) → AllByRecursion (λ z. key x < key z) zs → AllByRecursion (λ z. Mem z (x ∷ xs)) zs → AllByRecursion (λ z. Mem z xs) zs
 in_rest key x xs [] l h = tt
 in_rest key x xs (z ∷ zs) l h = (⊎_elim (λ e. let same : key z ≡ key x = ap key e in absurd (omega (arith, same, l.0))) (λ k. k) h.0, in_rest key x xs zs l.1 h.1)
 
 -- two ascending lists with the same elements are equal
-ascending_same : {X : Type 0} (key : X → ℕ) (xs ys : List X) → Ascends key xs → Ascends key ys → AllByRecursion (λ z. In z ys) xs → AllByRecursion (λ z. In z xs) ys → xs ≡ ys
+ascending_same : {X : Type 0} (key : X → ℕ) (xs ys : List X) → Ascends key xs → Ascends key ys → AllByRecursion (λ z. Mem z ys) xs → AllByRecursion (λ z. Mem z xs) ys → xs ≡ ys
 ascending_same key [] [] a b h k = refl
 ascending_same key [] (y ∷ ys) a b h k = absurd k.0
 ascending_same key (x ∷ xs) [] a b h k = absurd h.0
@@ -385,10 +381,10 @@ pub sorted-permutation_apart : {X : Type 0} (key : X → ℕ) (xs ys : List X) �
 sorted-permutation_apart key xs ys p s h =
     let apart : Apart key ys = apart-permutation key xs ys p h in
     let up : Ascends key ys = ascends_from_at key ys (λ i j d l m. omega (arith, IsNonDecreasingBy-from_sort key ys s i j d (omega (arith, l)) m, apart-at key ys apart i j d l m)) in
-    let there : AllByRecursion (λ z. In z (sort_by key xs)) ys = recursion_from_All (λ z. In z (sort_by key xs)) ys
-    (All-permutation (λ z. In z (sort_by key xs)) xs ys p (All-from_recursion (λ z. In z (sort_by key xs)) xs (every_unsort key (λ z. In z (sort_by key xs)) xs (in_itself (sort_by key xs))))) in
-    let back : AllByRecursion (λ z. In z ys) (sort_by key xs) = every_sort_by key (λ z. In z ys) xs (recursion_from_All (λ z. In z ys) xs
-    (All-permutation (λ z. In z ys) ys xs (IsPermutation-sym xs ys p) (All-from_recursion (λ z. In z ys) ys (in_itself ys)))) in
+    let there : AllByRecursion (λ z. Mem z (sort_by key xs)) ys = recursion_from_All (λ z. Mem z (sort_by key xs)) ys
+    (All-permutation (λ z. Mem z (sort_by key xs)) xs ys p (All-from_recursion (λ z. Mem z (sort_by key xs)) xs (every_unsort key (λ z. Mem z (sort_by key xs)) xs (in_itself (sort_by key xs))))) in
+    let back : AllByRecursion (λ z. Mem z ys) (sort_by key xs) = every_sort_by key (λ z. Mem z ys) xs (recursion_from_All (λ z. Mem z ys) xs
+    (All-permutation (λ z. Mem z ys) ys xs (IsPermutation-sym xs ys p) (All-from_recursion (λ z. Mem z ys) ys (in_itself ys)))) in
     ascending_same key ys (sort_by key xs) up (sort_by-ascends key xs h) there back
 
 pub sorted-permutation : {X : Type 0} (key : X → ℕ) (xs ys : List X) → IsPermutation xs ys → IsSortedByKey key nat_cmp ys

@@ -2,3 +2,8 @@ pub mod Parts
 pub mod Spelling
 pub mod Sorting
 pub mod Laws
+pub mod Presentations
+pub mod Rules
+pub mod Ideals
+pub mod HoleInstances
+pub mod IdealLaws

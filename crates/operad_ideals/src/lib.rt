@@ -1,6 +1,7 @@
 //! Presentations of symmetric operads: definitions and laws, without code.
 #![tactic(auto)]
 
+ghost use Rattle.operad_ideals.specs.IdealLaws.{AgreementIsInIdeal, IdealIsClosed, OneIdeal};
 ghost use Rattle.operad_ideals.specs.Laws.{AgreementKeepsLabels, OneSpelling};
 
 /// Law: a labelled tree has exactly one sorted spelling, with exactly one sign.
@@ -11,4 +12,20 @@ pub fn one_spelling()
 /// Law: what agrees up to symmetry with a labelled tree is labelled by the same numbers.
 pub fn agreement_keeps_labels()
     ensures law { AgreementKeepsLabels }
+{}
+
+/// Law: instances whose context is a tree with one leaf 0, and instances with a built-in hole, give one ideal.
+pub fn one_ideal()
+    ensures law { OneIdeal }
+{}
+
+/// Law: the ideal holds the element of each instance and is closed under sums, multiples and sameness.
+pub fn ideal_is_closed()
+    ensures law { IdealIsClosed }
+{}
+
+/// Law: a labelled tree less its sign times its sorted spelling is a sum of instances of symmetry rules, and so is a
+/// labelled tree less the sign times any tree that agrees with it.
+pub fn agreement_is_in_ideal()
+    ensures law { AgreementIsInIdeal }
 {}

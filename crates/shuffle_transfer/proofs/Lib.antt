@@ -1,0 +1,15 @@
+pub mod Permutes
+pub mod Orderings
+pub mod Ranks
+pub mod Words
+pub mod Labels
+pub mod FormGrafts
+pub mod FormContexts
+pub mod Forms
+pub mod Back
+pub mod Signs
+pub mod Spelling
+pub mod FramesBack
+pub mod Forth
+pub mod Turned
+pub mod Vanish

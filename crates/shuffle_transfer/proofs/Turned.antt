@@ -1,0 +1,80 @@
+-- Shuffle forms with counts of turns in place of signs: a form that serves the proofs.
+use Rattle.std.proofs.Common.{◌≡◌, ℕ, suc, ◌+◌, ◌*◌, ◌^◌, List, [], ◌∷◌, refl, sym, ◌∙◌, ap, arith, subst}
+use mathlib.Core.Path.{ap₂}
+use mathlib.Core.List.{◌++◌}
+use Rattle.modular_sums.specs.Residues.{Alike}
+use Rattle.modular_sums.specs.Sums.{hit, coef, scale, Same, expand, Member, moved, AllTerms}
+use Rattle.modular_sums.proofs.Residues.{alike_add, alike_mul}
+use Rattle.modular_sums.proofs.Sums.{hit-mul, Member-append, Member-scale}
+use Rattle.modular_sums.proofs.Replacements.{sum_over}
+use Rattle.modular_sums.proofs.Images.{same_sum}
+use Rattle.labelled_trees.specs.Trees.{Tree}
+use Rattle.labelled_trees.specs.Equality.{tree_discrete}
+use Rattle.labelled_trees.specs.Labelled.{IsLabelled}
+use Rattle.operad_ideals.specs.Parts.{Sign, sign_of}
+use Rattle.operad_ideals.specs.Sorting.{spelled_sign}
+use Rattle.operad_ideals.specs.Presentations.{Presentation, residue_of, parts, arity_of}
+use Rattle.operad_ideals.proofs.Links.{member_zero}
+use Rattle.operad_ideals.proofs.Spellings.{labelled_once}
+use Rattle.shuffle_transfer.specs.Labels.{label, shuffle_form}
+use Rattle.shuffle_transfer.specs.Transfer.{shuffled}
+use Rattle.shuffle_transfer.proofs.FormGrafts.{turns}
+use Rattle.shuffle_transfer.proofs.Signs.{twist, residue-count, sign-turns}
+
+-- the turns of a tree over a presentation
+abbrev pub turns_of : Presentation → Tree ℕ → ℕ
+turns_of p t = turns (label p) (twist (parts p) (label p)) t
+
+module _ (p : Presentation) where
+  -- the shuffle form of an element, with powers of minus 1
+  abbrev pub turned : List (ℕ × Tree ℕ) → List (ℕ × Tree ℕ)
+  turned [] = []
+  turned (x ∷ e) = (x.0 * p.q ^ turns_of p x.1, shuffle_form p x.1) ∷ turned e
+
+  pub sign_alike : (n : ℕ) (t : Tree ℕ) → IsLabelled (arity_of p) n t → Alike p.q (p.q ^ turns_of p t) (residue_of p.q (spelled_sign (parts p) t))
+  sign_alike n t h = subst (λ s. Alike p.q (p.q ^ turns_of p t) (residue_of p.q s)) (sign-turns (parts p) (label p) t h.fits (labelled_once h)) (residue-count p.q (turns_of p t))
+
+  alike_hit : {C : Type 0} (z : Dec C) (u v : ℕ) → Alike p.q u v → Alike p.q (hit z u) (hit z v)
+  alike_hit (yes _) u v e = e
+  alike_hit (no _) u v e = refl
+
+  -- a sum of labelled trees has one shuffle form, whichever way it is written
+  pub shuffled-turned : (n : ℕ) (e : List (ℕ × Tree ℕ)) → AllTerms e (IsLabelled (arity_of p) n) → Same tree_discrete p.q (shuffled p e) (turned e)
+  unfolding coef
+  shuffled-turned n [] h t = refl
+  shuffled-turned n (x ∷ e) h t =
+      alike_add p.q (hit (tree_discrete (shuffle_form p x.1) t) (x.0 * residue_of p.q (spelled_sign (parts p) x.1))) (hit (tree_discrete (shuffle_form p x.1) t) (x.0 * p.q ^ turns_of p x.1))
+      (coef tree_discrete (shuffled p e) t) (coef tree_discrete (turned e) t)
+      (alike_hit (tree_discrete (shuffle_form p x.1) t) (x.0 * residue_of p.q (spelled_sign (parts p) x.1)) (x.0 * p.q ^ turns_of p x.1)
+      (alike_mul p.q x.0 x.0 (residue_of p.q (spelled_sign (parts p) x.1)) (p.q ^ turns_of p x.1) refl (sym (sign_alike n x.1 h.0))))
+      (shuffled-turned n e h.1 t)
+
+  pub turned-append : (e f : List (ℕ × Tree ℕ)) → turned (e ++ f) ≡ turned e ++ turned f
+  turned-append [] f = refl
+  turned-append (x ∷ e) f = ap (λ l. (x.0 * p.q ^ turns_of p x.1, shuffle_form p x.1) ∷ l) (turned-append e f)
+
+  pub turned-scale : (c : ℕ) (e : List (ℕ × Tree ℕ)) → turned (scale c e) ≡ scale c (turned e)
+  unfolding scale
+  turned-scale c [] = refl
+  turned-scale c (x ∷ e) =
+      let a : c * x.0 * p.q ^ turns_of p x.1 ≡ c * (x.0 * p.q ^ turns_of p x.1) = omega arith in
+      ap₂ (λ k l. (k, shuffle_form p x.1) ∷ l) a (turned-scale c e)
+
+  coef-turned : (e : List (ℕ × Tree ℕ)) (t : Tree ℕ) → coef tree_discrete (turned e) t ≡ sum_over e (λ x. hit (tree_discrete (shuffle_form p x) t) (p.q ^ turns_of p x))
+  unfolding coef
+  coef-turned [] t = refl
+  coef-turned (x ∷ e) t = ap₂ (λ a b. a + b) (hit-mul (tree_discrete (shuffle_form p x.1) t) x.0 (p.q ^ turns_of p x.1)) (coef-turned e t)
+
+  -- the shuffle form depends on the coefficients alone
+  pub Same-turned : (e f : List (ℕ × Tree ℕ)) → Same tree_discrete p.q e f → Same tree_discrete p.q (turned e) (turned f)
+  Same-turned e f h t = rw (coef-turned e t, coef-turned f t) (same_sum (Tree ℕ) tree_discrete p.q e f (λ x. hit (tree_discrete (shuffle_form p x) t) (p.q ^ turns_of p x)) h)
+
+  -- where the shuffle forms of instances are sums of others, so is that of a sum of instances
+  pub member_turned : {I J : Type 0} (value : I → List (ℕ × Tree ℕ)) (other : J → List (ℕ × Tree ℕ)) → ((i : I) → Member tree_discrete other p.q (turned (value i)))
+      → (l : List (ℕ × I)) → Member tree_discrete other p.q (turned (expand value l))
+  unfolding expand
+  member_turned value other h [] = member_zero tree_discrete other p.q
+  member_turned value other h (x ∷ l) =
+      rw (turned-append (scale x.0 (value x.1)) (expand value l), turned-scale x.0 (value x.1))
+      (Member-append tree_discrete other p.q {e = scale x.0 (turned (value x.1))} {f = turned (expand value l)}
+      (Member-scale tree_discrete other p.q x.0 {e = turned (value x.1)} (h x.1)) (member_turned value other h l))

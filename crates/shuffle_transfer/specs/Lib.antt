@@ -1,0 +1,5 @@
+pub mod Orderings
+pub mod ShuffleForms
+pub mod Labels
+pub mod Transfer
+pub mod Laws
