@@ -1,1 +1,5 @@
 pub mod Numberings
+pub mod LastOnes
+pub mod Weights
+pub mod Joining
+pub mod SpelledTerms

@@ -1,6 +1,7 @@
 -- The steps on the way to the collected form.
 use Rattle.std.specs.Prelude.{ℕ, ◌≡◌, ◌≢◌, ◌+◌, ◌*◌, ◌-◌, ◌<◌, List, [], ◌∷◌, ◌++◌, map}
 use Rattle.std.specs.List.{AllByRecursion}
+use Rattle.std.specs.declared.cmp.Ordering.TheVariants.{Less}
 use Rattle.std.specs.Ordering.{is_lt}
 use Rattle.std.proofs.Common.{false}
 use Rattle.modular_sums.specs.Lists.{Mem}
@@ -25,6 +26,10 @@ Pairs R (x ∷ xs) = AllByRecursion (R x) xs × Pairs R xs
 -- the tree of the one term isn't before that of the other
 abbrev pub NotBefore : Term → Term → Type 0
 NotBefore one other = is_lt (order (tree_of one.tree) (tree_of other.tree)) ≡ false
+
+-- the tree of the one term is before that of the other
+abbrev pub Before : Term → Term → Type 0
+Before one other = order (tree_of one.tree) (tree_of other.tree) ≡ Less
 
 -- the number is a residue modulo p other than 0
 abbrev pub IsResidue : ℕ → Term → Type 0
@@ -54,6 +59,6 @@ pub data JoinedTo (p : ℕ) (old : List Term) (term : Term) (new : List Term) : 
 -- the second list is the first one with equal trees put together, in the spelling order, without zeros
 pub record AreJoined (p : ℕ) (whole terms : List Term) : Type 0 where
   pub same : Same tree_discrete (p - 1) (terms_of terms) (terms_of whole)
-  pub ascending : Pairs (λ one other. NotBefore one other → ⊥) terms
+  pub ascending : Pairs Before terms
   pub residues : AllByRecursion (IsResidue p) terms
   pub trees : AllByRecursion (λ term. Mem (tree_of term.tree) (map (λ other. tree_of other.tree) whole)) terms

@@ -35,8 +35,10 @@ pub fn collected(
     let mut spellings = spelled_terms(alloc, field, table, sum.terms())?;
     sort_from_last(spellings.as_mut_slice());
     let terms = joined(alloc, field, spellings)?;
-    let arity = if terms.is_empty() { None } else { Some(arity) };
-    Ok(Sum::of_terms(terms, arity))
+    if terms.is_empty() {
+        return Ok(Sum::new(alloc));
+    }
+    Ok(Sum::of_terms(terms, Some(arity)))
 }
 
 // Each term as its sorted spelling with the sign.
@@ -99,7 +101,7 @@ fn sort_from_last(terms: &mut [Term])
 // which is sorted from the last one of the order to the first.
 fn joined(alloc: Global, field: Field, mut rest: Vec<Term>) -> Result<Items<Term>, AllocError>
     requires order { Pairs NotBefore rest.items }
-    requires residues { All (IsResidue field) rest.items }
+    requires residues { AllByRecursion (IsResidue field) rest.items }
     ensures { IfOk result (AreJoined field rest.items) }
 {
     let mut terms = Items::new(alloc);
@@ -112,24 +114,24 @@ fn joined(alloc: Global, field: Field, mut rest: Vec<Term>) -> Result<Items<Term
 // Puts a term behind the others, or adds it to the last one where that has the same tree, which is dropped if it becomes 0.
 fn join(field: Field, terms: &mut Items<Term>, term: Term) -> Result<(), AllocError>
     requires residue { IsResidue field term }
-    requires residues { All (IsResidue field) terms.old }
+    requires residues { AllByRecursion (IsResidue field) terms.old }
     ensures { OnOk result (JoinedTo field terms.old term terms.new) }
 {
     let Some(last) = terms.pop() else {
-        return terms.push(term);
+        terms.push(term)?;
+        return Ok(());
     };
-    if spelling_order(&last.tree, &term.tree) != Ordering::Equal {
+    if spelling_order(&last.tree, &term.tree).is_ne() {
         terms.push(last)?;
-        return terms.push(term);
-    }
-    let coef = field.add(last.coef, term.coef);
-    if coef == 0 {
+        terms.push(term)?;
         return Ok(());
     }
-    terms.push(Term {
-        coef,
-        tree: term.tree,
-    })
+    let coef = field.add(last.coef, term.coef);
+    if coef != 0 {
+        let tree = term.tree;
+        terms.push(Term { coef, tree })?;
+    }
+    Ok(())
 }
 
 /// Law: a sum has one collected form.
