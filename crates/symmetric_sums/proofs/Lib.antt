@@ -3,3 +3,6 @@ pub mod LastOnes
 pub mod Weights
 pub mod Joining
 pub mod SpelledTerms
+pub mod Forms
+pub mod SymmetryInstances
+pub mod Decisions

@@ -1,9 +1,9 @@
 -- Arities of lists of terms.
-use Rattle.std.proofs.Common.{◌≡◌, ◌≢◌, ℕ, suc, ◌+◌, ◌*◌, ◌-◌, ◌%◌, ◌<◌, ◌≤◌, List, [], ◌∷◌, ◌++◌, length, map, get_or, Some, None, Option, refl, sym, ap, ◌∙◌, subst, arith, ⊎_elim, inl, inr, length-append}
+use Rattle.std.proofs.Common.{◌≡◌, ◌≢◌, ℕ, suc, ◌+◌, ◌*◌, ◌-◌, ◌%◌, ◌<◌, ◌≤◌, List, [], ◌∷◌, ◌++◌, length, map, get_or, Some, None, Option, refl, sym, ap, ◌∙◌, subst, arith, ⊎_elim, length-append}
 use Rattle.std.specs.List.{All}
 use Rattle.std.proofs.Math.Nat.{mod-eq_of_lt}
 use Rattle.std.proofs.lemmas.List.{length-map, get_or_append_left, get_or-append-add}
-use Rattle.std.proofs.lemmas.List.Elements.{All-append, All-push, All-map, All-nil}
+use Rattle.std.proofs.lemmas.List.Elements.{All-append, All-push, All-map}
 use Rattle.labelled_trees.specs.Trees.{Tree}
 use Rattle.labelled_trees.specs.Labelled as labelled
 use Rattle.labelled_trees.specs.Meaning.{tree_of}
@@ -82,26 +82,28 @@ joint-some one other n a h = let k = a.numbered n refl in
 -- a list with one more term of its arity
 pub sum-push : (terms new : List Term) (o : Option ℕ) (term : Term) (n : ℕ) → IsSum terms o → 0 < term.coef → IsNumbered n (tree_of term.tree) → HaveArity n terms → new ≡ terms ++ term ∷ [] → IsSum new (Some n)
 sum-push terms new o term n s positive h a e = subst (λ xs. IsSum xs (Some n)) (sym e) (record {
-      nonzero = All-push (λ (x : Term). 0 < x.coef) terms term s.nonzero positive;
-      arity_is = arity_is (terms ++ term ∷ []) n (omega (arith, length-append terms (term ∷ []))) (All-push (λ (x : Term). IsNumbered n (tree_of x.tree)) terms term a h);
-    })
+  nonzero = All-push (λ (x : Term). 0 < x.coef) terms term s.nonzero positive;
+  arity_is = arity_is (terms ++ term ∷ []) n (omega (arith, length-append terms (term ∷ []))) (All-push (λ (x : Term). IsNumbered n (tree_of x.tree)) terms term a h);
+})
 
 -- what is a sum with other numbers
 pub arity-changed : (terms : List Term) (o : Option ℕ) (f : Term → Term) → ((x : Term) → (f x).tree ≡ x.tree) → ArityIs terms o → ArityIs (map f terms) o
 arity-changed terms o f same a = record {
   empty = λ e. length-map terms f ∙ a.empty e;
-  numbered = λ n e. let k = a.numbered n e in (omega (arith, length-map terms f, k.0),
-      All-map (λ (x : Term). IsNumbered n (tree_of x.tree)) f terms (λ i d l. subst (λ t. IsNumbered n (tree_of t)) (sym (same (get_or terms i d))) (k.1 i d l)));
+  numbered = λ n e. let k = a.numbered n e in (
+    omega (arith, length-map terms f, k.0),
+    All-map (λ (x : Term). IsNumbered n (tree_of x.tree)) f terms (λ i d l. subst (λ t. IsNumbered n (tree_of t)) (sym (same (get_or terms i d))) (k.1 i d l)),
+  );
 }
 
 pub joint-changed : (one other : List Term) (o : Option ℕ) (f : Term → Term) → ((x : Term) → (f x).tree ≡ x.tree) → ArityIs (one ++ other) o → ArityIs (one ++ map f other) o
 joint-changed one other o f same a = record {
   empty = λ e. length-append one (map f other) ∙ ap (λ k. length one + k) (length-map other f) ∙ sym (length-append one other) ∙ a.empty e;
   numbered = λ n e. let k = a.numbered n e in (
-        omega (arith, length-append one (map f other), length-append one other, length-map other f, k.0),
-        All-append (λ (x : Term). IsNumbered n (tree_of x.tree)) one (map f other) (all-left (λ (x : Term). IsNumbered n (tree_of x.tree)) one other k.1)
-            (All-map (λ (x : Term). IsNumbered n (tree_of x.tree)) f other (λ i d l. subst (λ t. IsNumbered n (tree_of t)) (sym (same (get_or other i d))) (all-right (λ (x : Term). IsNumbered n (tree_of x.tree)) one other k.1 i d l)))
-      );
+    omega (arith, length-append one (map f other), length-append one other, length-map other f, k.0),
+    All-append (λ (x : Term). IsNumbered n (tree_of x.tree)) one (map f other) (all-left (λ (x : Term). IsNumbered n (tree_of x.tree)) one other k.1)
+        (All-map (λ (x : Term). IsNumbered n (tree_of x.tree)) f other (λ i d l. subst (λ t. IsNumbered n (tree_of t)) (sym (same (get_or other i d))) (all-right (λ (x : Term). IsNumbered n (tree_of x.tree)) one other k.1 i d l))),
+  );
 }
 
 -- the arity that two lists have
@@ -118,9 +120,9 @@ negated-positive p terms h = All-map (λ (x : Term). 0 < x.coef) (λ (x : Term).
 -- a list and another with other numbers make a sum
 pub sum-joint : (p : ℕ) (one other terms : List Term) (o : Option ℕ) → All (λ (x : Term). 0 < x.coef) one → HaveResidues p other → ArityIs (one ++ other) o → terms ≡ one ++ negated p other → IsSum terms o
 sum-joint p one other terms o positive h a e = subst (λ xs. IsSum xs o) (sym e) (record {
-      nonzero = All-append (λ (x : Term). 0 < x.coef) one (negated p other) positive (negated-positive p other h);
-      arity_is = joint-changed one other o (λ (x : Term). record { coef = p - x.coef; tree = x.tree }) (λ x. refl) a;
-    })
+  nonzero = All-append (λ (x : Term). 0 < x.coef) one (negated p other) positive (negated-positive p other h);
+  arity_is = joint-changed one other o (λ (x : Term). record { coef = p - x.coef; tree = x.tree }) (λ x. refl) a;
+})
 
 -- a product of residues other than 0 isn't 0
 pub product-positive : (p a b : ℕ) → IsFieldPrime p → 0 < a → a < p → 0 < b → b < p → 0 < (a * b) % p
@@ -145,10 +147,10 @@ product-positive p a b listed pa la pb lb = ⊎_elim (λ l. l) (λ l. absurd (no
 pub sum-scaled : (p c : ℕ) (terms new : List Term) (o : Option ℕ) → IsFieldPrime p → 0 < c → c < p → All (λ (x : Term). 0 < x.coef) terms → HaveResidues p terms → ArityIs terms o
     → new ≡ map (λ (x : Term). record { coef = (c * x.coef) % p; tree = x.tree }) terms → IsSum new o
 sum-scaled p c terms new o listed pc lc positive h a e = subst (λ xs. IsSum xs o) (sym e) (record {
-      nonzero = All-map (λ (x : Term). 0 < x.coef) (λ (x : Term). record { coef = (c * x.coef) % p; tree = x.tree }) terms
-          (λ k d l. product-positive p c (get_or terms k d).coef listed pc lc (positive k d l) (h k d l));
-      arity_is = arity-changed terms o (λ (x : Term). record { coef = (c * x.coef) % p; tree = x.tree }) (λ x. refl) a;
-    })
+  nonzero = All-map (λ (x : Term). 0 < x.coef) (λ (x : Term). record { coef = (c * x.coef) % p; tree = x.tree }) terms
+      (λ k d l. product-positive p c (get_or terms k d).coef listed pc lc (positive k d l) (h k d l));
+  arity_is = arity-changed terms o (λ (x : Term). record { coef = (c * x.coef) % p; tree = x.tree }) (λ x. refl) a;
+})
 
 -- a tree of another arity doesn't join a list with terms
 pub joins-refused : (arity : ℕ → ℕ) (terms : List Term) (tree : program.Tree) (coef own theirs : ℕ) → labelled.IsLabelled arity own (tree_of tree) → ArityIs terms (Some theirs) → theirs ≢ own

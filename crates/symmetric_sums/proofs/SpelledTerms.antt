@@ -1,15 +1,14 @@
 -- Terms replaced by their sorted spellings.
-use Rattle.std.proofs.Common.{◌≡◌, ℕ, zero, suc, ◌+◌, ◌-◌, ◌*◌, ◌%◌, ◌<◌, List, [], ◌∷◌, ◌++◌, map, length, take, drop, get_or, Some, refl, ap, sym, ◌∙◌, subst, arith, inl, inr, IsPermutation}
+use Rattle.std.proofs.Common.{◌≡◌, ℕ, suc, ◌+◌, ◌-◌, ◌*◌, ◌%◌, ◌<◌, List, [], ◌∷◌, ◌++◌, map, length, take, drop, get_or, Some, refl, ap, sym, ◌∙◌, subst, arith, inl, inr, IsPermutation}
 use Rattle.std.specs.List.{All, AllByRecursion}
 use Rattle.std.proofs.lemmas.List.Elements.{All-from_recursion, recursion_from_All, All-map}
 use Rattle.std.proofs.lemmas.List.Sorted.{All-permutation, length_permutation}
 use Rattle.std.proofs.Math.Seq.{take-suc, take-append_seam}
 use Rattle.modular_sums.specs.Lists.{Mem}
 use Rattle.modular_sums.specs.Residues.{Alike}
-use Rattle.modular_sums.specs.Sums.{hit, coef, Same}
+use Rattle.modular_sums.specs.Sums.{hit, coef}
 use Rattle.modular_sums.proofs.Residues.{alike_add, alike_cancel, alike_drop}
 use Rattle.labelled_trees.specs.Trees.{Tree}
-use Rattle.labelled_trees.specs.Labelled as labelled
 use Rattle.labelled_trees.specs.Equality.{tree_discrete}
 use Rattle.labelled_trees.specs.Meaning.{tree_of}
 use Rattle.operad_ideals.specs.Parts.{plus, minus}
@@ -34,7 +33,7 @@ use Rattle.symmetric_sums.specs.Collecting.{Pairs, Before, IsResidue, IsSpelling
 use Rattle.symmetric_sums.specs.declared.term.Term.{Term}
 use Rattle.symmetric_sums.proofs.Numberings.{numbering, labelling, arity_is}
 use Rattle.symmetric_sums.proofs.LastOnes.{each-imp, AllPairs-from_pairs}
-use Rattle.symmetric_sums.proofs.Weights.{weight, share, weight-nil, weight-cons, weight-permutation, alike_hit}
+use Rattle.symmetric_sums.proofs.Weights.{weight, share, weight-permutation, alike_hit}
 
 -- a residue times a sign
 pub signed_residue : (p c r : ℕ) (sign : Sign) (s : math.Sign) → s ≡ program.meaning_of sign → 0 < c → c < p → (sign ≡ Plus → r ≡ c) → (sign ≡ Minus → r + c ≡ p)
@@ -49,8 +48,7 @@ signed_residue p c r Minus s e pc lc f g =
     let left : Alike q (0 + (1 + q * 1)) 0 = alike_drop q 0 1 in
     let right : Alike q (0 + (c + q * c)) 0 = alike_drop q 0 c in
     let e₁ : 0 + (1 + q * 1) ≡ r + c = omega arith in
-    let e₂ : 0 + (c + q * c) ≡ q * c + c = omega arith in
-    (
+    let e₂ : 0 + (c + q * c) ≡ q * c + c = omega arith in (
       alike_cancel q r (q * c) c ((rw e₁ at left) ∙ sym (rw e₂ at right)) ∙ ap (λ x. (residue_of q x * c) % suc q) (sym e),
       omega arith,
       omega arith,

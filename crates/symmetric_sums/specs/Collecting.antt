@@ -7,7 +7,6 @@ use Rattle.std.proofs.Common.{false}
 use Rattle.modular_sums.specs.Lists.{Mem}
 use Rattle.modular_sums.specs.Residues.{Alike}
 use Rattle.modular_sums.specs.Sums.{Same}
-use Rattle.labelled_trees.specs.Trees.{Tree}
 use Rattle.labelled_trees.specs.Equality.{tree_discrete}
 use Rattle.labelled_trees.specs.Meaning.{tree_of}
 use Rattle.operad_ideals.specs.Sorting.{spelled, spelled_sign}

@@ -1,4 +1,4 @@
-use Rattle.std.proofs.Common.{◌≡◌, ℕ, List, ◌∙◌, sym, subst, refl}
+use Rattle.std.proofs.Common.{◌≡◌, List, ◌∙◌, sym, subst, refl}
 use Rattle.std.specs.List.{All}
 use Rattle.labelled_trees.specs.Meaning.{tree_of}
 use Rattle.symmetric_trees.specs.Generators.{parts_at}

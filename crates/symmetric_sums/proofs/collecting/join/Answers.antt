@@ -1,4 +1,4 @@
-use Rattle.std.proofs.Common.{◌≡◌, ◌+◌, ◌-◌, ◌<◌, ◌%◌, ℕ, suc, ◌∙◌, sym, ap, subst, arith, ◌++◌, ◌∷◌, [], refl}
+use Rattle.std.proofs.Common.{◌-◌, ◌<◌, ◌%◌, suc, ◌∙◌, sym, ap, subst, arith, ◌++◌, ◌∷◌, [], refl}
 use Rattle.std.specs.List.{AllByRecursion}
 use Rattle.labelled_trees.specs.Meaning.{tree_of}
 use Rattle.symmetric_sums.specs.Collecting.{IsResidue, added, cancelled}

@@ -1,4 +1,4 @@
-use Rattle.std.proofs.Common.{refl, sym}
+use Rattle.std.proofs.Common.{refl}
 use Rattle.symmetric_sums.proofs.Numberings.{two_arities, joint-some, same_arity}
 use Rattle.symmetric_sums.proofs.sum.Sum.joint_arity.Goals as goal
 

@@ -1,4 +1,4 @@
-use Rattle.std.proofs.Common.{◌≡◌, ◌++◌, ◌∙◌, ap, ap₂}
+use Rattle.std.proofs.Common.{◌++◌, ◌∙◌, ap₂}
 use Rattle.symmetric_sums.specs.Terms.{negated}
 use Rattle.symmetric_sums.proofs.Numberings.{sum-joint, one_arity-joint}
 use Rattle.symmetric_sums.proofs.sum.Sum.minus.Goals as goal
