@@ -2,3 +2,4 @@ pub mod Branches
 pub mod LeastOf
 pub mod SpellingSteps
 pub mod Tables
+pub mod TreeOrder

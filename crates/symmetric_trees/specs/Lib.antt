@@ -2,3 +2,4 @@ pub mod Generators
 pub mod Trees
 pub mod LeafCounts
 pub mod Spelling
+pub mod SpellingOrder

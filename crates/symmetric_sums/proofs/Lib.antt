@@ -1,0 +1,8 @@
+pub mod Numberings
+pub mod LastOnes
+pub mod Weights
+pub mod Joining
+pub mod SpelledTerms
+pub mod Forms
+pub mod SymmetryInstances
+pub mod Decisions

@@ -1,0 +1,5 @@
+use Rattle.symmetric_trees.proofs.TreeOrder.{order_is_total}
+use Rattle.symmetric_trees.proofs.order.spelling_order_is_total.Goals as goal
+
+pub returns : goal.returns
+returns c = record { law = order_is_total }
