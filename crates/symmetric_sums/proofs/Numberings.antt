@@ -2,6 +2,7 @@
 use Rattle.std.proofs.Common.{◌≡◌, ◌≢◌, ℕ, suc, ◌+◌, ◌*◌, ◌-◌, ◌%◌, ◌<◌, ◌≤◌, List, [], ◌∷◌, ◌++◌, length, map, get_or, Some, None, Option, refl, sym, ap, ◌∙◌, subst, arith, ⊎_elim, length-append}
 use Rattle.std.specs.List.{All}
 use Rattle.std.proofs.Math.Nat.{mod-eq_of_lt}
+use Rattle.std.proofs.lemmas.Nat.{mod_below}
 use Rattle.std.proofs.lemmas.List.{length-map, get_or_append_left, get_or-append-add}
 use Rattle.std.proofs.lemmas.List.Elements.{All-append, All-push, All-map}
 use Rattle.labelled_trees.specs.Trees.{Tree}
@@ -116,6 +117,18 @@ one_arity-joint one other (Some n) a =
 -- residues that are negated are positive
 pub negated-positive : (p : ℕ) (terms : List Term) → HaveResidues p terms → All (λ (x : Term). 0 < x.coef) (negated p terms)
 negated-positive p terms h = All-map (λ (x : Term). 0 < x.coef) (λ (x : Term). record { coef = p - x.coef; tree = x.tree }) terms (λ k d l. omega (arith, h k d l))
+
+pub negated-residues : (p : ℕ) (terms : List Term) → All (λ (x : Term). 0 < x.coef) terms → HaveResidues p terms → HaveResidues p (negated p terms)
+negated-residues p terms positive h = All-map (λ (x : Term). x.coef < p) (λ (x : Term). record { coef = p - x.coef; tree = x.tree }) terms (λ k d l. omega (arith, h k d l, positive k d l))
+
+-- a difference has residues where both sums have
+pub residues-joint : (p : ℕ) (one other terms : List Term) → All (λ (x : Term). 0 < x.coef) other → HaveResidues p one → HaveResidues p other → terms ≡ one ++ negated p other → HaveResidues p terms
+residues-joint p one other terms positive h k e = subst (HaveResidues p) (sym e) (All-append (λ (x : Term). x.coef < p) one (negated p other) h (negated-residues p other positive k))
+
+-- multiples have residues
+pub residues-scaled : (p c : ℕ) (terms new : List Term) → 0 < p → new ≡ map (λ (x : Term). record { coef = (c * x.coef) % p; tree = x.tree }) terms → HaveResidues p new
+residues-scaled p c terms new positive e = subst (HaveResidues p) (sym e)
+    (All-map (λ (x : Term). x.coef < p) (λ (x : Term). record { coef = (c * x.coef) % p; tree = x.tree }) terms (λ k d l. mod_below (c * (get_or terms k d).coef) p positive))
 
 -- a list and another with other numbers make a sum
 pub sum-joint : (p : ℕ) (one other terms : List Term) (o : Option ℕ) → All (λ (x : Term). 0 < x.coef) one → HaveResidues p other → ArityIs (one ++ other) o → terms ≡ one ++ negated p other → IsSum terms o

@@ -152,6 +152,7 @@ pub record IsForm (p n : ℕ) (generators : List Generator) (sum ws : List Term)
   pub collected : IsCollected p (parts_at generators) (terms_of sum) (terms_of ws)
   pub labelled : All (λ x. IsLabelled generators n (tree_of x.tree)) ws
   pub nonzero : All (λ (x : Term). 0 < x.coef) ws
+  pub residues : All (λ (x : Term). x.coef < p) ws
 
 pub form-made : (p n : ℕ) (generators : List Generator) (ts us mid new ws sum : List Term) (len : ℕ) → mid ≡ us → len ≡ length us → AreSpellings p generators ts us → ts ≡ sum → IsPermutation mid new
     → All (λ x. Fits generators (tree_of x.tree)) sum → HaveArity n sum → AreJoined p (take len (new ++ drop (length new) us)) ws → IsForm p n generators sum ws
@@ -166,6 +167,7 @@ form-made p n generators ts us mid new ws sum len e f spellings same perm fit ha
       labelled = All-from_recursion (λ x. IsLabelled generators n (tree_of x.tree)) ws
           (each-imp (λ x. IsGood p generators n (tree_of x.tree)) (λ x. IsLabelled generators n (tree_of x.tree)) ws (λ x g. g.1) (collected-good p n generators sum us vs ws mine moved joined labelled_all));
       nonzero = All-from_recursion (λ (x : Term). 0 < x.coef) ws (each-imp (IsResidue p) (λ (x : Term). 0 < x.coef) ws (λ x r. r.0) joined.residues);
+      residues = All-from_recursion (λ (x : Term). x.coef < p) ws (each-imp (IsResidue p) (λ (x : Term). x.coef < p) ws (λ x r. r.1) joined.residues);
     }
 
 some_terms : (xs : List Term) → (xs ≡ [] → ⊥) → 0 < length xs

@@ -27,6 +27,7 @@ pub fn collected(
     requires residues { HaveResidues field sum.now }
     requires fit { All (λ term. Fits table.now (tree_of term.tree)) sum.now }
     ensures collected { IfOk result (λ form. IsCollected field (parts_at table.now) (terms_of sum.now) (terms_of form)) }
+    ensures residues { IfOk result (HaveResidues field) }
     ensures labelled { (n : ℕ) → HaveArity n sum.now → IfOk result (All (λ term. IsLabelled table.now n (tree_of term.tree))) }
 {
     let Some(arity) = sum.arity() else {

@@ -124,6 +124,7 @@ impl Sum {
     pub fn minus(&self, alloc: Global, field: Field, other: &Sum) -> Result<Sum, SumFail>
         requires residues { HaveResidues field other.now }
         ensures answer { Subtracted field self.now other.now result }
+        ensures residues { HaveResidues field self.now → IfOk result (HaveResidues field) }
     {
         let arity = self.joint_arity(other)?;
         match difference(alloc, field, self.terms(), other.terms()) {
@@ -153,6 +154,7 @@ impl Sum {
         requires residue { coef < field }
         requires residues { HaveResidues field self.now }
         ensures terms { IfOk result (λ sum. sum ≡ multiples field coef self.now) }
+        ensures residues { IfOk result (HaveResidues field) }
     {
         if coef == 0 {
             return Ok(Sum::new(alloc));

@@ -3,7 +3,7 @@ use Rattle.std.specs.List.{All}
 use Rattle.labelled_trees.specs.Meaning.{tree_of}
 use Rattle.symmetric_trees.specs.Generators.{parts_at}
 use Rattle.symmetric_trees.specs.Trees.{IsLabelled}
-use Rattle.symmetric_sums.specs.Terms.{terms_of}
+use Rattle.symmetric_sums.specs.Terms.{HaveResidues, terms_of}
 use Rattle.symmetric_sums.specs.Collected.{IsCollected}
 use Rattle.symmetric_sums.specs.declared.term.Term.{Term}
 use Rattle.symmetric_sums.proofs.Numberings.{one_arity}
@@ -44,3 +44,10 @@ returns-clause-labelled c n have =
     let same : c.in-Some.arity ≡ n = one_arity c.args.sum.now c.in-Some.arity n c.in-Some.ensures.arity have in
     subst (λ (xs : List Term). All (λ (x : Term). IsLabelled c.args.table.now n (tree_of x.tree)) xs) (sym c.of_terms.ensures.terms)
     (subst (λ m. All (λ (x : Term). IsLabelled c.args.table.now m (tree_of x.tree)) c.in_ok-terms.terms) same form.labelled)
+
+pub returns-clause-residues : goal.returns-clause-residues
+returns-clause-residues c =
+    let form = form-made c.args.field c.in-Some.arity c.args.table.now c.terms.result.now c.in_ok-spellings.spellings.items c.as_mut_slice.result.now c.sort_from_last.new.terms c.in_ok-terms.terms c.args.sum.now c.in_ok-spellings.spellings.len
+    c.as_mut_slice.ensures.value c.in_ok-spellings.spellings.ok.0 c.in_ok-spellings.ensures c.terms.ensures.terms c.sort_from_last.ensures.permutation
+    c.requires.fit (c.in-Some.ensures.arity.numbered c.in-Some.arity refl).1 c.in_ok-terms.ensures in
+    subst (λ (xs : List Term). HaveResidues c.args.field xs) (sym c.of_terms.ensures.terms) form.residues
