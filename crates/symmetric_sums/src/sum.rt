@@ -119,7 +119,8 @@ impl Sum {
         }
     }
 
-    /// The terms of this sum, then the negated terms of the other one; the residues of both are of the field.
+    /// The terms of this sum, then the negated terms of the other one, whose residues are of the field. Where those of this
+    /// sum are of the field too, so are those of the answer.
     /// `ArityDiffers` comes exactly where both have terms and their arities differ, `NoMemory` for want of memory alone.
     pub fn minus(&self, alloc: Global, field: Field, other: &Sum) -> Result<Sum, SumFail>
         requires residues { HaveResidues field other.now }
