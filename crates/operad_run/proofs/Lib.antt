@@ -1,6 +1,8 @@
 pub mod AnswerSteps
-pub mod OneAnswer
+pub mod DocumentLines
 pub mod OneTable
+pub mod OpeningSteps
+pub mod QueryElements
 pub mod QueryLines
 pub mod Runs
 pub mod Words

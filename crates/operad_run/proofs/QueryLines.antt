@@ -1,49 +1,62 @@
--- The lines of queries, and the trees that stand in them.
-use Rattle.std.proofs.Common.{◌≡◌, ℕ, ◌<◌, ◌≤◌, List, ◌++◌, length, drop, ap, sym, ◌∙◌, arith, append-nil, length-drop}
-use Rattle.std.proofs.Math.Seq.{drop-length}
-use Rattle.labelled_trees.specs.Trees.{Tree, leaf, node}
-use Rattle.labelled_trees.proofs.Leaves.{by_leaf}
-use Rattle.labelled_trees.proofs.Counts.{leaf_count-labelled}
-use Rattle.operad_ideals.specs.Laws.{arity}
-use Rattle.symmetric_trees.specs.Generators.{IsTable, parts_at}
-use Rattle.symmetric_trees.specs.Trees.{Fits}
+-- The lines of queries.
+use Rattle.std.proofs.Common.{◌≡◌, ℕ, ◌≤◌, ◌⊎◌, inl, inr, ⊎_elim, List, [], ◌∷◌, length, get_or, arith, map, drop, codes, Option, Some, None, refl, ap, sym, ◌∙◌, subst}
+use Rattle.modular_sums.specs.Sums.{AllTerms}
+use Rattle.labelled_trees.specs.Trees.{Tree}
+use Rattle.symmetric_trees.specs.Generators.{IsTable}
 use Rattle.symmetric_trees.specs.declared.generators.Generator.{Generator}
-use Rattle.presentation_text.specs.TreeText.{tree_tokens, IsReadable, StandsAt}
+use Rattle.symmetric_sums.specs.Terms.{terms_of}
+use Rattle.symmetric_sums.specs.declared.term.Term.{Term}
+use Rattle.presentation_text.specs.Elements.{IsElement, ReadsElement, said}
+use Rattle.presentation_text.specs.Laws.{ElementsAreReadOnce}
+use Rattle.presentation_text.specs.declared.elements.ElementRead.{ElementRead}
 use Rattle.presentation_text.specs.declared.lexing.Token.{Token}
-use Rattle.presentation_text.proofs.TreeTokens.{nested-below, read_once}
-use Rattle.operad_run.specs.Queries.{IsQuery}
+use Rattle.presentation_text.specs.declared.lexing.Token.TheVariants.{Word}
+use Rattle.operad_run.specs.OneGenerator.{IsWithin, IsQueryLine}
+use Rattle.operad_run.specs.Queries.{IsNoQuery}
+use Rattle.operad_run.proofs.QueryElements.{within_terms, within_back}
 
--- the tree of a query may be read
-pub query_readable : (generators : List Generator) (n : ℕ) (tokens : List Token) (t : Tree ℕ) → n ≤ 9 → IsQuery generators n tokens t → IsReadable generators t
-query_readable generators n tokens t few q =
-    let m = q.within.0 in
-    let labelled = q.within.2 in
-    let leaves = leaf_count-labelled (arity (parts_at generators)) m t labelled in
-    let deep = nested-below (arity (parts_at generators)) t labelled.fits in
+-- the element has no terms, or an arity of at most n
+abbrev pub IsFew : ℕ → ElementRead → Type 0
+IsFew n found = (found.sum ≡ []) ⊎ ((m : ℕ) → found.arity ≡ Some m → m ≤ n)
+
+pub query_read : (p n : ℕ) (generators : List Generator) (tokens : List Token) (found : ElementRead) → tokens ≡ Word (codes "query") ∷ drop 1 tokens
+    → ReadsElement p generators (drop 1 tokens) (Some found) → IsFew n found → IsQueryLine p generators n tokens (terms_of found.sum)
+query_read p n generators tokens found e r few =
+    let w = within_terms p n generators r.0 found.arity r.1.arity_is (⊎_elim (λ s. inl (sym r.2 ∙ ap terms_of s)) inr few) in
     record {
-      fits = labelled.fits;
-      shallow = omega (arith, leaves, deep, q.within.1, few);
-      small = by_leaf t (λ k. k ≤ 99) (λ i o. let w = labelled.only i o in omega (arith, w.1, q.within.1, few));
+      terms = r.0;
+      arity = found.arity;
+      behind = drop 1 tokens;
+      line_is = e;
+      is_element = r.1;
+      element_is = r.2;
+      within = subst (λ x. AllTerms x (IsWithin generators n)) (sym r.2) w;
     }
 
-some_tokens : (generators : List Generator) (t : Tree ℕ) → 0 < length (tree_tokens generators t)
-some_tokens generators (leaf k) = omega arith
-some_tokens generators (node g r) = omega arith
+-- the element of a query stands behind the word
+behind_word : (p n : ℕ) (generators : List Generator) (tokens : List Token) (element : List (ℕ × Tree ℕ)) (q : IsQueryLine p generators n tokens element)
+    → IsElement generators (drop 1 tokens) q.terms q.arity
+behind_word p n generators tokens element q = subst (λ b. IsElement generators b q.terms q.arity) (sym (ap (drop 1) q.line_is)) q.is_element
 
--- it stands behind the word
-pub query_stands : (generators : List Generator) (n : ℕ) (tokens : List Token) (t : Tree ℕ) → IsQuery generators n tokens t → StandsAt generators tokens 1 t (length tokens)
-query_stands generators n tokens t q = record {
-  begins = let len = ap length q.line_is in omega (arith, len, some_tokens generators t);
-  within = omega arith;
-  spelled = ap (drop 1) q.line_is ∙ sym (append-nil (tree_tokens generators t)) ∙ ap (λ rest. tree_tokens generators t ++ rest) (sym (drop-length tokens));
-}
+no_terms : (sum : List Term) → terms_of sum ≡ [] → sum ≡ []
+no_terms [] e = refl
+no_terms (x ∷ sum) e = cc
 
--- what stands behind the word is the tree of the query, up to the end
-pub query_is : (generators : List Generator) (n : ℕ) (tokens : List Token) (t u : Tree ℕ) (end : ℕ) → IsTable generators → IsQuery generators n tokens t
-    → StandsAt generators tokens 1 u end → Fits generators u → (u ≡ t) × (end ≡ length tokens)
-query_is generators n tokens t u end table q stands fits =
-    let stood = query_stands generators n tokens t q in
-    let both = read_once generators table u t (drop end tokens) (drop (length tokens) tokens) fits q.within.2.fits (sym stands.spelled ∙ stood.spelled) in
-    let gone : length (drop end tokens) ≡ 0 = ap length (both.1 ∙ drop-length tokens) in
-    let len = length-drop end tokens in
-    (both.0, omega (arith, gone, len, stands.within))
+pub query_too_wide : ElementsAreReadOnce → (p n : ℕ) (generators : List Generator) (tokens : List Token) (found : ElementRead) → IsTable generators
+    → ReadsElement p generators (drop 1 tokens) (Some found) → (IsFew n found → ⊥) → IsNoQuery p generators n tokens
+query_too_wide read_once p n generators tokens found table r wide element q =
+    let once = read_once generators table (drop 1 tokens) r.0 q.terms found.arity q.arity r.1 (behind_word p n generators tokens element q) in
+    let same = q.element_is ∙ ap (said p) (sym once.0) in
+    let few = within_back p n generators r.0 found.arity r.1.arity_is (subst (λ e. AllTerms e (IsWithin generators n)) same q.within) in
+    wide (⊎_elim (λ empty. inl (no_terms found.sum (r.2 ∙ empty))) inr few)
+
+pub query_unread : (p n : ℕ) (generators : List Generator) (tokens : List Token) → ReadsElement p generators (drop 1 tokens) None → IsNoQuery p generators n tokens
+query_unread p n generators tokens r element q = r q.terms q.arity (behind_word p n generators tokens element q)
+
+pub query_without_word : (p n : ℕ) (generators : List Generator) (first : Token) (rest : List Token) → (first ≡ Word (codes "query") → ⊥) → IsNoQuery p generators n (first ∷ rest)
+query_without_word p n generators first rest other element q = let same : first ≡ Word (codes "query") = let e = q.line_is in cc in other same
+
+-- what stands first, and the rest
+pub headed : (tokens : List Token) (w v : Token) → 1 ≤ length tokens → w ≡ get_or tokens 0 w → w ≡ v → tokens ≡ v ∷ drop 1 tokens
+headed [] w v l e h = absurd (omega arith)
+headed (x ∷ tokens) w v l e h = let first : x ≡ v = sym e ∙ h in ap (λ y. y ∷ tokens) first

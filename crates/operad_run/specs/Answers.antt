@@ -1,24 +1,37 @@
--- The text of the answers to queries.
-use Rattle.std.specs.Prelude.{ℕ, ◌≡◌, List, [], ◌∷◌, ◌++◌}
+-- The lines of the answers to queries.
+use Rattle.std.specs.Prelude.{ℕ, ◌≡◌, ◌↔◌, ◌-◌, List, [], ◌∷◌, ◌++◌}
+use Rattle.modular_sums.specs.Sums.{scale, AllTerms}
 use Rattle.labelled_trees.specs.Trees.{Tree}
-use Rattle.symmetric_trees.specs.Spelling.{IsSpelling}
+use Rattle.operad_ideals.specs.Presentations.{Presentation}
+use Rattle.operad_ideals.specs.Ideals.{InIdeal}
+use Rattle.symmetric_trees.specs.Generators.{generators_of, parts_at}
+use Rattle.symmetric_trees.specs.Trees.{IsLabelled}
 use Rattle.symmetric_trees.specs.declared.generators.Generator.{Generator}
-use Rattle.symmetric_trees.specs.declared.spelling.Sign.{Sign}
-use Rattle.symmetric_trees.specs.declared.spelling.Sign.TheVariants.{Plus, Minus}
-use Rattle.presentation_text.specs.TreeText.{tree_text}
+use Rattle.symmetric_sums.specs.Collected.{IsCollected}
+use Rattle.presentation_text.specs.SumText.{sum_text}
 
-abbrev pub sign_text : Sign → List ℕ
-sign_text Plus = []
-sign_text Minus = 45 ∷ []
+-- the answer to an element modulo p: the text of its collected form
+pub record IsAnswer (p : ℕ) (generators : List Generator) (element : List (ℕ × Tree ℕ)) (answer : List ℕ) : Type 0 where
+  pub form : List (ℕ × Tree ℕ)
+  pub is_collected : IsCollected p (parts_at generators) element form
+  pub answer_is : answer ≡ sum_text p generators form
 
--- the line of a tree: the sign and the sorted spelling
-pub record IsAnswer (generators : List Generator) (t : Tree ℕ) (line : List ℕ) : Type 0 where
-  pub sign : Sign
-  pub spelling : Tree ℕ
-  pub is_spelling : IsSpelling generators t sign spelling
-  pub line_is : line ≡ sign_text sign ++ (tree_text generators spelling ++ 10 ∷ [])
+-- the answers to the elements, in their order
+pub data AreAnswers (p : ℕ) (generators : List Generator) : List (List (ℕ × Tree ℕ)) → List (List ℕ) → Type 0 where
+  no_answers : AreAnswers p generators [] []
+  one_answer : (element : List (ℕ × Tree ℕ)) (answer : List ℕ) (elements : List (List (ℕ × Tree ℕ))) (answers : List (List ℕ))
+      → IsAnswer p generators element answer → AreAnswers p generators elements answers → AreAnswers p generators (element ∷ elements) (answer ∷ answers)
 
--- the lines of the queries, in their order
-pub data Answers (generators : List Generator) : List (Tree ℕ) → List ℕ → Type 0 where
-  no_answers : Answers generators [] []
-  one_answer : (t : Tree ℕ) (line : List ℕ) (others : List (Tree ℕ)) (text : List ℕ) → IsAnswer generators t line → Answers generators others text → Answers generators (t ∷ others) (line ++ text)
+-- a line ends with a line feed
+abbrev pub line : List ℕ → List ℕ
+line text = text ++ 10 ∷ []
+
+-- the presentation of the generators modulo p, without relations
+abbrev pub free : ℕ → List Generator → Presentation
+free p generators = record { q = p - 1; generators = generators_of generators; relations = [] }
+
+-- Answers tell elements apart modulo symmetry: those to two elements of one arity are equal, byte for byte, exactly where the
+-- difference of the elements is in the ideal of the presentation without relations.
+abbrev pub AnswersDecide : ℕ → List Generator → Type 0
+AnswersDecide p generators = (n : ℕ) (d e : List (ℕ × Tree ℕ)) (answer other : List ℕ) → IsAnswer p generators d answer → IsAnswer p generators e other
+    → AllTerms d (IsLabelled generators n) → AllTerms e (IsLabelled generators n) → (answer ≡ other) ↔ InIdeal (free p generators) n (d ++ scale (p - 1) e)

@@ -1,4 +1,5 @@
 pub mod Commands
+pub mod Stops
 pub mod OneGenerator
 pub mod Answers
 pub mod Documents

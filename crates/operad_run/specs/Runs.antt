@@ -1,13 +1,15 @@
 -- What a run of the program does: its status, by the words, the source and the sink.
 use Rattle.std.specs.Prelude.{ℕ, ◌≡◌, ◌<◌, ◌≤◌, ◌+◌, ◌⊎◌, List, [], ◌∷◌, ◌++◌, length, take, codes, Option, Some}
+use Rattle.std.specs.Fmt.{decimal}
 use Rattle.std.specs.Io.KnownBytes.{Consumes, IsAtEnd}
 use Rattle.labelled_trees.specs.Trees.{Tree}
 use Rattle.outside_io.specs.Causes.{Rose}
 use Rattle.outside_io.specs.Taken.{Takes}
 use Rattle.symmetric_trees.specs.declared.generators.Generator.{Generator}
 use Rattle.operad_run.specs.Commands.{IsForms, IsCommand}
-use Rattle.operad_run.specs.OneGenerator.{IsDocument}
-use Rattle.operad_run.specs.Documents.{IsAnswered, IsNoDocument}
+use Rattle.operad_run.specs.OneGenerator.{IsDocument, IsFirstFault, token_lines}
+use Rattle.operad_run.specs.Answers.{line}
+use Rattle.operad_run.specs.Documents.{IsAnswered}
 use Rattle.operad_run.specs.declared.status.Status.{Status}
 use Rattle.operad_run.specs.declared.status.Status.TheVariants.{Done, Refused, Usage, Document, Limit, Budget, ReadFault, WriteFault, NoMemory}
 
@@ -47,15 +49,14 @@ pub record CameTooMany (o : Outside) : Type 0 where
 
 -- ---- the status and the text that words and bytes define
 
-abbrev pub line : List ℕ → List ℕ
-line text = text ++ 10 ∷ []
-
 -- each status with its cause and the text that goes with it; the other statuses define no text
 abbrev pub Says : Status → List (List ℕ) → Outside → List ℕ → Type 0
 Says Usage words o text = (IsCommand words → ⊥) × IsUnread o × (text ≡ line (codes "fault usage"))
 Says ReadFault words o text = IsCommand words × Rose o.read_faults o.read_faults_now × (text ≡ line (codes "fault read"))
 Says Limit words o text = IsCommand words × CameTooMany o × (text ≡ line (codes "fault limit bytes"))
-Says Document words o text = (n : ℕ) × IsForms words n × (bytes : List ℕ) × Came o bytes × IsNoDocument bytes n × (text ≡ line (codes "fault document 0 NotBuilt"))
+Says Document words o text =
+    (n : ℕ) × IsForms words n × (bytes : List ℕ) × Came o bytes
+    × (number : ℕ) × IsFirstFault n (token_lines bytes) number × (text ≡ line (codes "fault document " ++ (decimal number ++ codes " NotBuilt")))
 Says Done words o text = (n : ℕ) × IsForms words n × (bytes : List ℕ) × Came o bytes × IsAnswered bytes n text
 Says _ words o text = ⊥
 
@@ -90,7 +91,7 @@ Ends status words o = (text : List ℕ) × Says status words o text × Wrote o t
 
 -- Where the words are a command, the bytes are a document and no count of faults rose, the run is done, or memory ran out.
 abbrev pub IsComplete : Status → List (List ℕ) → Outside → Type 0
-IsComplete status words o = (n : ℕ) (bytes : List ℕ) (generator : Generator) (queries : List (Tree ℕ)) → IsForms words n
+IsComplete status words o = (n : ℕ) (bytes : List ℕ) (generator : Generator) (queries : List (List (ℕ × Tree ℕ))) → IsForms words n
     → o.left ≡ Some bytes → length bytes ≤ most_bytes → IsDocument bytes n generator queries
     → (Rose o.read_faults o.read_faults_now → ⊥) → (Rose o.write_faults o.write_faults_now → ⊥) → (status ≡ Done) ⊎ (status ≡ NoMemory)
 

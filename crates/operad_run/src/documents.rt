@@ -1,60 +1,73 @@
-ghost use Rattle.std.specs.Prelude.{◌≤◌, IfNone, IfOk, IfSome, map};
+ghost use Rattle.std.specs.Prelude.{◌+◌, ◌≤◌, ◌<◌, ◌^◌, MatchResult, length};
 ghost use Rattle.symmetric_trees.specs.Generators.{IsTable};
-ghost use Rattle.presentation_text.specs.Lines.{lines};
-ghost use Rattle.presentation_text.specs.Tokens.{tokens as tokens_of};
-ghost use Rattle.operad_run.specs.Documents.{IsAnswered, IsNoDocument};
+ghost use Rattle.operad_run.specs.OneGenerator.{IsFirstFault, token_lines};
+ghost use Rattle.operad_run.specs.Documents.{IsAnswered};
 ghost use Rattle.operad_run.specs.Laws.{AnswersAreDetermined};
-ghost use Rattle.operad_run.specs.Queries.{AreAnswered, AreNoQueries};
+ghost use Rattle.operad_run.specs.Queries.{AreAnswered, IsFirstOther};
+ghost use Rattle.operad_run.specs.Runs.{most_bytes};
+ghost use Rattle.operad_run.specs.Stops.{StopsAt};
 
+use crate::forms_fail::FormsFail;
 use crate::opening::{read_table, skip_opening};
 use crate::queries::answer_line;
 use presentation_text::next_line;
-use std::alloc::{AllocError, Global};
+use prime_field::Field;
+use std::alloc::Global;
 use symmetric_trees::GenTable;
 
-// The answers to the lines of a text, which are queries of an arity of at most `most`; `None` where one is not.
+// The answers to the lines of a text, which are queries of an arity of at most `most`; their numbers go from `first` on.
 fn answers(
     alloc: Global,
+    field: Field,
     table: &GenTable,
     text: &[u8],
     most: u8,
-) -> Result<Option<Vec<u8>>, AllocError>
+    first: u32,
+) -> Result<Vec<u8>, FormsFail>
     requires few { most ≤ 9 }
     requires sound { IsTable table.now }
-    ensures found { IfOk result (λ found. IfSome found (λ out. AreAnswered table.now most (map tokens_of (lines text.now)) out.items)) }
-    ensures absent { IfOk result (λ found. IfNone found (AreNoQueries table.now most (map tokens_of (lines text.now)))) }
+    requires short { first + length text.now < 2 ^ 32 }
+    ensures { MatchResult result (λ out. AreAnswered field table.now most (token_lines text.now) out.items)
+        (StopsAt (IsFirstOther field table.now most first (token_lines text.now))) }
 {
     let mut out = Vec::new(alloc);
     let mut rest = text;
+    let mut number = first;
     while let Some((line, behind)) = next_line(rest) {
-        if !answer_line(alloc, table, line, most, &mut out)? {
-            return Ok(None);
+        match answer_line(alloc, field, table, line, most, &mut out) {
+            Ok(true) => {}
+            Ok(false) => return Err(FormsFail::At { line: number }),
+            Err(_) => return Err(FormsFail::NoMemory),
         }
         rest = behind;
+        number += 1;
     }
-    Ok(Some(out))
+    Ok(out)
 }
 
-/// The text of the answers to a document with one generator and queries of an arity of at most `most`, from 1 to 9;
-/// `None` exactly where the text is no such document. `AllocError` comes for want of memory alone.
-pub fn forms(alloc: Global, text: &[u8], most: u8) -> Result<Option<Vec<u8>>, AllocError>
+/// The text of the answers to a document with one generator and queries of an arity of at most `most`, from 1 to 9. `At`
+/// names the first line that isn't as said, or the one that is missing behind the last; `NoMemory` comes for want of memory alone.
+pub fn forms(alloc: Global, text: &[u8], most: u8) -> Result<Vec<u8>, FormsFail>
     requires few { most ≤ 9 }
-    ensures found { IfOk result (λ found. IfSome found (λ out. IsAnswered text.now most out.items)) }
-    ensures absent { IfOk result (λ found. IfNone found (IsNoDocument text.now most)) }
+    requires short { length text.now ≤ most_bytes }
+    ensures answer { MatchResult result (λ out. IsAnswered text.now most out.items)
+        (StopsAt (IsFirstFault most (token_lines text.now))) }
 {
-    let Some(rest) = skip_opening(alloc, text)? else {
-        return Ok(None);
+    let Some(field) = Field::of(101) else {
+        unreachable!();
     };
+    let rest = skip_opening(alloc, text)?;
     let Some((line, queries)) = next_line(rest) else {
-        return Ok(None);
+        return Err(FormsFail::At { line: 4 });
     };
-    match read_table(alloc, line)? {
-        Some(table) => answers(alloc, &table, queries, most),
-        None => Ok(None),
+    match read_table(alloc, line) {
+        Ok(Some(table)) => answers(alloc, field, &table, queries, most, 5),
+        Ok(None) => Err(FormsFail::At { line: 4 }),
+        Err(_) => Err(FormsFail::NoMemory),
     }
 }
 
-/// Law: a document has one answer, so the text of a run that is done is a function of the words and the bytes.
+/// Law: what a run tells of a text is a function of the text and the greatest arity.
 pub fn answers_are_determined()
     ensures law { AnswersAreDetermined }
 {}

@@ -3,6 +3,7 @@
 
 mod commands;
 mod documents;
+mod forms_fail;
 mod opening;
 mod queries;
 mod run;

@@ -1,13 +1,14 @@
-ghost use Rattle.std.specs.Prelude.{◌≡◌, ◌↔◌, ◌≤◌, ◌++◌, ℕ, [], ◌∷◌, List, length, IfNone, IfOk, IfSome, IsTrue, map};
+ghost use Rattle.std.specs.Prelude.{◌≡◌, ◌↔◌, ◌≤◌, ◌++◌, ℕ, [], ◌∷◌, List, length, IfNone, IfOk, IfSome, IsTrue, MatchResult};
 ghost use Rattle.symmetric_trees.specs.declared.generators.Generator.{Generator};
 ghost use Rattle.symmetric_trees.specs.declared.generators.PartKind.{PartKind};
-ghost use Rattle.presentation_text.specs.Lines.{lines};
 ghost use Rattle.presentation_text.specs.Tokens.{tokens as tokens_of};
 ghost use Rattle.presentation_text.specs.declared.lexing.Token.{Token};
 ghost use Rattle.presentation_text.specs.declared.lexing.Token.TheVariants.{Word, Number};
-ghost use Rattle.operad_run.specs.OneGenerator.{opening, IsGeneratorLine, IsKindWord, IsTableLine};
-ghost use Rattle.operad_run.specs.OpeningLines.{opening_line};
+ghost use Rattle.operad_run.specs.OneGenerator.{opening, IsGeneratorLine, IsKindWord, IsTableLine, token_lines};
+ghost use Rattle.operad_run.specs.OpeningLines.{opening_line, IsOpeningFault, StartsWithout};
+ghost use Rattle.operad_run.specs.Stops.{StopsAt};
 
+use crate::forms_fail::FormsFail;
 use presentation_text::{Token, next_line, tokens};
 use sqlite_items::Items;
 use std::alloc::{AllocError, Global};
@@ -53,22 +54,24 @@ impl OpeningLine {
         }
     }
 
-    /// The text behind this line, which is the text's first; `None` where the first line is another, or there is none.
-    pub fn skip<'a>(self, alloc: Global, text: &'a [u8]) -> Result<Option<&'a [u8]>, AllocError>
-        ensures found { IfOk result (λ found. IfSome found (λ rest.
-            map tokens_of (lines text.now) ≡ opening_line self ∷ map tokens_of (lines rest.now))) }
-        ensures absent { IfOk result (λ found. IfNone found ((others : List (List Token)) →
-            map tokens_of (lines text.now) ≡ opening_line self ∷ others → ⊥)) }
+    // The text behind this line, which is the text's first, with this number.
+    fn skip(self, alloc: Global, text: &[u8], number: u32) -> Result<&[u8], FormsFail>
+        ensures skipped { MatchResult result (λ rest. token_lines text.now ≡ opening_line self ∷ token_lines rest.now)
+            (StopsAt (λ at. (at ≡ number) × StartsWithout (opening_line self) (token_lines text.now))) }
+        ensures shorter { IfOk result (λ rest. length rest.now ≤ length text.now) }
     {
-        match next_line(text) {
-            Some((line, rest)) => {
-                if self.has_tokens(tokens(alloc, line)?.as_slice()) {
-                    Ok(Some(rest))
+        let Some((line, rest)) = next_line(text) else {
+            return Err(FormsFail::At { line: number });
+        };
+        match tokens(alloc, line) {
+            Ok(found) => {
+                if self.has_tokens(found.as_slice()) {
+                    Ok(rest)
                 } else {
-                    Ok(None)
+                    Err(FormsFail::At { line: number })
                 }
             }
-            None => Ok(None),
+            Err(_) => Err(FormsFail::NoMemory),
         }
     }
 }
@@ -162,19 +165,13 @@ pub fn read_table(alloc: Global, line: &[u8]) -> Result<Option<GenTable>, AllocE
     }
 }
 
-/// The text behind the first three lines; `None` where the text begins otherwise.
-/// `AllocError` comes for want of memory alone.
-pub fn skip_opening<'a>(alloc: Global, text: &'a [u8]) -> Result<Option<&'a [u8]>, AllocError>
-    ensures found { IfOk result (λ found. IfSome found (λ rest.
-        map tokens_of (lines text.now) ≡ opening ++ map tokens_of (lines rest.now))) }
-    ensures absent { IfOk result (λ found. IfNone found ((others : List (List Token)) →
-        map tokens_of (lines text.now) ≡ opening ++ others → ⊥)) }
+/// The text behind the first three lines; `At` with the number of the first one that is another or missing.
+pub fn skip_opening(alloc: Global, text: &[u8]) -> Result<&[u8], FormsFail>
+    ensures skipped { MatchResult result (λ rest. token_lines text.now ≡ opening ++ token_lines rest.now)
+        (StopsAt (IsOpeningFault (token_lines text.now))) }
+    ensures shorter { IfOk result (λ rest. length rest.now ≤ length text.now) }
 {
-    let Some(rest) = OpeningLine::Header.skip(alloc, text)? else {
-        return Ok(None);
-    };
-    let Some(rest) = OpeningLine::Field.skip(alloc, rest)? else {
-        return Ok(None);
-    };
-    OpeningLine::Order.skip(alloc, rest)
+    let rest = OpeningLine::Header.skip(alloc, text, 1)?;
+    let rest = OpeningLine::Field.skip(alloc, rest, 2)?;
+    OpeningLine::Order.skip(alloc, rest, 3)
 }

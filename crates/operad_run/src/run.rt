@@ -1,12 +1,16 @@
 //! A run: the words and the bytes of a source in, the text into a sink.
-ghost use Rattle.std.specs.Prelude.{map, string_bytes};
+ghost use Rattle.std.specs.Prelude.{◌≡◌, ◌++◌, IfOk, codes, map, string_bytes};
+ghost use Rattle.std.specs.Fmt.{decimal};
+ghost use Rattle.operad_run.specs.Answers.{line as ended};
 ghost use Rattle.operad_run.specs.Runs.{IsRun, Told};
 
 use crate::commands::forms_arity;
 use crate::documents::forms;
+use crate::forms_fail::FormsFail;
 use crate::status::Status;
 use outside_io::{ReadFail, Sink, Source, read_all, write_all};
-use std::alloc::Global;
+use presentation_text::write_number;
+use std::alloc::{AllocError, Global};
 
 // The most bytes that a document has.
 const MOST_BYTES: u64 = 16_777_216;
@@ -21,12 +25,25 @@ fn tell<K: Sink>(sink: &mut K, text: &[u8], status: Status) -> Status
     }
 }
 
+// The text that names the first line that isn't as said.
+fn fault_text(alloc: Global, line: u32) -> Result<Vec<u8>, AllocError>
+    ensures { IfOk result (λ text. text.items ≡ ended (codes "fault document " ++ (decimal line ++ codes " NotBuilt"))) }
+{
+    let mut text = Vec::new(alloc);
+    text.extend_from_slice(b"fault document ")?;
+    write_number(line, &mut text)?;
+    text.extend_from_slice(b" NotBuilt\n")?;
+    Ok(text)
+}
+
 /// All that the program does. The words are `forms N B`, where N is one digit from 1 to 9 and B has 1 to 19 digits; the
-/// source gives a document of at most 16,777,216 bytes with one generator of two inputs and queries of trees of an arity
-/// of at most N. The sink takes a line for each query: the sign and the sorted spelling of its tree.
+/// source gives a document of at most 16,777,216 bytes with one generator of two inputs and queries of elements of an arity
+/// of at most N. The sink takes a line for each query: the collected form of its element. Two lines for elements of one
+/// arity are equal exactly where the difference of the elements is a sum of instances of symmetry rules.
 ///
 /// Each other end has its cause, its status and its text: words that are no command, a source or a sink that failed, a
-/// document that is longer, or that is none. `NoMemory` comes for want of memory alone, and writes nothing.
+/// text that is longer, or a line that isn't as said, the first of which is named. `NoMemory` comes for want of memory
+/// alone, and writes nothing.
 pub fn operad_run<S: Source, K: Sink>(
     alloc: Global,
     words: &[String],
@@ -54,8 +71,11 @@ pub fn operad_run<S: Source, K: Sink>(
         Err(ReadFail::NoMemory) => return Status::NoMemory,
     };
     match forms(alloc, bytes.as_slice(), most) {
-        Ok(Some(text)) => tell(sink, text.as_slice(), Status::Done),
-        Ok(None) => tell(sink, b"fault document 0 NotBuilt\n", Status::Document),
-        Err(_) => Status::NoMemory,
+        Ok(text) => tell(sink, text.as_slice(), Status::Done),
+        Err(FormsFail::At { line }) => match fault_text(alloc, line) {
+            Ok(text) => tell(sink, text.as_slice(), Status::Document),
+            Err(_) => Status::NoMemory,
+        },
+        Err(FormsFail::NoMemory) => Status::NoMemory,
     }
 }

@@ -27,7 +27,7 @@ coef-here x e = go (tree_discrete x.1 x.1)
     go (yes _) = refl
     go (no n) = absurd (n refl)
 
-coef-other : (x : ℕ × Tree ℕ) (e : List (ℕ × Tree ℕ)) (t : Tree ℕ) → x.1 ≢ t → coef tree_discrete (x ∷ e) t ≡ coef tree_discrete e t
+pub coef-other : (x : ℕ × Tree ℕ) (e : List (ℕ × Tree ℕ)) (t : Tree ℕ) → x.1 ≢ t → coef tree_discrete (x ∷ e) t ≡ coef tree_discrete e t
 unfolding coef
 coef-other x e t ne = go (tree_discrete x.1 t)
   where
@@ -40,7 +40,7 @@ unfolding coef
 coef-none t = refl
 
 -- a tree that is before another isn't that one
-not_itself : (t u : Tree ℕ) → order t u ≡ Less → u ≢ t
+pub not_itself : (t u : Tree ℕ) → order t u ≡ Less → u ≢ t
 not_itself t u l e = let equal : order t u ≡ Equal = (order_is_total.equal t u).1 (sym e) in let wrong : Less ≡ Equal = sym l ∙ equal in cc
 
 coef-after : (t : Tree ℕ) (e : List (ℕ × Tree ℕ)) → AllByRecursion (λ x. order t x.1 ≡ Less) e → coef tree_discrete e t ≡ 0
@@ -67,7 +67,7 @@ module _ (p : ℕ) where
   Alikes e f = Same tree_discrete (p - 1) e f
 
   -- the number at the first tree of a sum isn't 0
-  coef-first : (x : ℕ × Tree ℕ) (e : List (ℕ × Tree ℕ)) → Rising (x ∷ e) → coef tree_discrete (x ∷ e) x.1 ≡ x.0
+  pub coef-first : (x : ℕ × Tree ℕ) (e : List (ℕ × Tree ℕ)) → Rising (x ∷ e) → coef tree_discrete (x ∷ e) x.1 ≡ x.0
   coef-first x e r = let z : coef tree_discrete e x.1 ≡ 0 = coef-after x.1 e r.0 in coef-here x e ∙ omega (arith, z)
 
   not_gone : (x : ℕ × Tree ℕ) (e f : List (ℕ × Tree ℕ)) → Rising (x ∷ e) → (0 < x.0) × (x.0 < p) → coef tree_discrete f x.1 ≡ 0 → Alikes (x ∷ e) f → ⊥

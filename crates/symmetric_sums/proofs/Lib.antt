@@ -6,3 +6,4 @@ pub mod SpelledTerms
 pub mod Forms
 pub mod SymmetryInstances
 pub mod Decisions
+pub mod FormTrees

@@ -1,15 +1,19 @@
-use Rattle.std.proofs.Common.{subst}
-use Rattle.std.specs.Option.{IfSome}
-use Rattle.labelled_trees.specs.Meaning.{tree_of}
-use Rattle.operad_ideals.proofs.Agreement.{agreement_keeps_labels}
-use Rattle.symmetric_trees.specs.Generators.{parts_at}
-use Rattle.symmetric_trees.specs.Spelling.{meaning_of}
-use Rattle.operad_run.specs.Queries.{IsQuery}
+use Rattle.std.proofs.Common.{◌≡◌, sym, subst, ◌∙◌}
+use Rattle.std.specs.Option.{IfSome, IfNone}
+use Rattle.symmetric_sums.specs.Terms.{terms_of}
+use Rattle.presentation_text.specs.Tokens.{tokens}
+use Rattle.operad_run.specs.OneGenerator.{IsQueryLine}
+use Rattle.operad_run.specs.Queries.{IsNoQuery}
+use Rattle.operad_run.proofs.QueryElements.{query_numbered}
 use Rattle.operad_run.proofs.queries.answer_line.Goals as goal
 
-pub write_line-requires : goal.write_line-requires
-write_line-requires c =
-    let found = subst (λ o. IfSome o (λ tree. IsQuery c.args.table.now c.args.most c.as_slice.result.now (tree_of tree))) c.in-Some.is c.in_ok-tree.ensures.found in
-    let labelled = agreement_keeps_labels (parts_at c.args.table.now) found.within.0 (meaning_of c.in_ok-sign-in-Some.sign) (tree_of c.in-Some.tree) (tree_of c.in_ok-sign-in-Some.spelling)
-    c.in_ok-sign-in-Some.ensures.spelling.agrees found.within.2 in
-    record { fits = labelled.fits }
+pub write_sum-requires-clause-fit : goal.write_sum-requires-clause-fit
+write_sum-requires-clause-fit c k d l =
+    let query = subst (λ o. IfSome o (λ sum. IsQueryLine c.args.field c.args.table.now c.args.most c.as_slice.result.now (terms_of sum))) c.in-Some.is c.in_ok-sum.ensures.found in
+    let numbered = query_numbered c.args.field c.args.most c.args.table.now c.as_slice.result.now c.in-Some.sum query in
+    (c.in_ok-form-in-Some.ensures.labelled numbered.0 numbered.1 k d l).fits
+
+pub returns-clause-other : goal.returns-clause-other
+returns-clause-other c =
+    let none = subst (λ o. IfNone o (IsNoQuery c.args.field c.args.table.now c.args.most c.as_slice.result.now)) c.in-None.is c.in_ok-sum.ensures.absent in
+    subst (IsNoQuery c.args.field c.args.table.now c.args.most) (c.as_slice.ensures.value ∙ c.in_ok-found.ensures.found) none

@@ -1,23 +1,17 @@
-use Rattle.std.proofs.Common.{◌≡◌, sym, subst, true, false}
-use Rattle.labelled_trees.specs.Meaning.{tree_of}
-use Rattle.operad_run.specs.OneGenerator.{IsWithin}
-use Rattle.presentation_text.specs.TreeText.{Reads}
-use Rattle.operad_run.proofs.QueryLines.{query_readable, query_stands, query_is}
+use Rattle.std.proofs.Common.{◌≡◌, drop, codes, refl, subst, true, false}
+use Rattle.presentation_text.specs.Elements.{ReadsElement}
+use Rattle.presentation_text.specs.declared.lexing.Token.TheVariants.{Word}
+use Rattle.operad_run.proofs.QueryLines.{query_read, query_too_wide, headed}
 use Rattle.operad_run.proofs.queries.query.Goals as goal
 
-pub returns-in-None-clause-absent : goal.returns-in-None-clause-absent
-returns-in-None-clause-absent c t q =
-    let none = subst (Reads c.args.table.now c.args.tokens.now 1) c.in-None.is c.in_ok-tree-in-len1-up.ensures.read in
-    none t _ (query_stands c.args.table.now c.args.most c.args.tokens.now t q) (query_readable c.args.table.now c.args.most c.args.tokens.now t c.requires.few q)
+pub returns-then-is_within-clause-found : goal.returns-then-is_within-clause-found
+returns-then-is_within-clause-found c =
+    let read = subst (ReadsElement c.args.field c.args.table.now (drop 1 c.args.tokens.now)) c.in-Some.is c.in_ok-element-in-len1-up.ensures.read in
+    let first = headed c.args.tokens.now c.word-item.result (Word (codes "query")) c.in-len1-up.len_at_least c.word-item.is (c.if-not-is_word.ensures.0 refl) in
+    query_read c.args.field c.args.most c.args.table.now c.args.tokens.now c.in-Some.element first read (c.if-is_within.ensures.0 refl)
 
-pub returns-then-end-tokens-clause-absent : goal.returns-then-end-tokens-clause-absent
-returns-then-end-tokens-clause-absent c t q =
-    let some = subst (Reads c.args.table.now c.args.tokens.now 1) c.in-Some.is c.in_ok-tree-in-len1-up.ensures.read in
-    c.if-end-tokens.true (query_is c.args.table.now c.args.most c.args.tokens.now t (tree_of c.in-Some.tree) c.in-Some.end c.requires.sound q some.0 some.1.fits).1
-
-pub returns-then-not-has_arity-clause-absent : goal.returns-then-not-has_arity-clause-absent
-returns-then-not-has_arity-clause-absent c t q =
-    let some = subst (Reads c.args.table.now c.args.tokens.now 1) c.in-Some.is c.in_ok-tree-in-len1-up.ensures.read in
-    let same = (query_is c.args.table.now c.args.most c.args.tokens.now t (tree_of c.in-Some.tree) c.in-Some.end c.requires.sound q some.0 some.1.fits).0 in
-    let has : false ≡ true = c.if-not-has_arity.ensures.1 (subst (IsWithin c.args.table.now c.args.most) (sym same) q.within) in
-    absurd cc
+pub returns-else-is_within-clause-absent : goal.returns-else-is_within-clause-absent
+returns-else-is_within-clause-absent c =
+    let read = subst (ReadsElement c.args.field c.args.table.now (drop 1 c.args.tokens.now)) c.in-Some.is c.in_ok-element-in-len1-up.ensures.read in
+    query_too_wide ? c.args.field c.args.most c.args.table.now c.args.tokens.now c.in-Some.element c.requires.sound read
+    (λ few. let both : false ≡ true = c.if-is_within.ensures.1 few in absurd cc)
