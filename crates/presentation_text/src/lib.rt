@@ -1,11 +1,13 @@
 //! The text of presentations: lines, tokens, and trees as they are read and printed.
 #![tactic(auto)]
 
+mod elements;
 mod lexing;
 mod lines;
 mod reading;
 mod writing;
 
+pub use elements::{ElementRead, elements_are_read_once, read_element};
 pub use lexing::{Token, tokens, tokens_are_defined};
 pub use lines::{counts, lines_are_defined, next_line};
 pub use reading::{read_tree, trees_are_read_once};
