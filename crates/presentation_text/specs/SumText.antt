@@ -23,17 +23,23 @@ factor_text c = if c == 1 then [] else decimal c ++ 42 ∷ []
 abbrev pub term_text : ℕ → List Generator → ℕ × Tree ℕ → List ℕ
 term_text p generators x = factor_text (magnitude p x.0) ++ tree_text generators x.1
 
+-- " - " or " + "
+abbrev pub sign_text : ℕ → ℕ → List ℕ
+sign_text p c = 32 ∷ ((if is_negative p c then 45 else 43) ∷ (32 ∷ []))
+
 -- terms with " + " or " - " before each
 abbrev pub further_text : ℕ → List Generator → List (ℕ × Tree ℕ) → List ℕ
 further_text p generators [] = []
-further_text p generators (x ∷ e) =
-    32 ∷ ((if is_negative p x.0 then 45 else 43) ∷ (32 ∷ (term_text p generators x ++ further_text p generators e)))
+further_text p generators (x ∷ e) = sign_text p x.0 ++ (term_text p generators x ++ further_text p generators e)
+
+-- a term with '-' before it where its number is negative
+abbrev pub first_text : ℕ → List Generator → ℕ × Tree ℕ → List ℕ
+first_text p generators x = (if is_negative p x.0 then 45 ∷ [] else []) ++ term_text p generators x
 
 -- A sum without terms is printed as 0; else '-' or nothing, a term, and further terms with " + " or " - " before each.
 abbrev pub sum_text : ℕ → List Generator → List (ℕ × Tree ℕ) → List ℕ
 sum_text p generators [] = 48 ∷ []
-sum_text p generators (x ∷ e) =
-    (if is_negative p x.0 then 45 ∷ [] else []) ++ (term_text p generators x ++ further_text p generators e)
+sum_text p generators (x ∷ e) = first_text p generators x ++ further_text p generators e
 
 -- A sum whose text may be read back: residues modulo p other than 0, beside trees over the table whose leaf numbers
 -- are 1 or more and have at most 18 digits.
