@@ -1,8 +1,10 @@
 -- What is read is the one element that the tokens are.
 use Rattle.std.proofs.Common.{◌≡◌, ◌≢◌, ℕ, ◌+◌, ◌<◌, ◌≤◌, Bool, true, false, List, [], ◌∷◌, ◌++◌, length, drop, Option, Some, None, refl, ap, sym, ◌∙◌, subst, arith, append_assoc}
 use Rattle.std.specs.Prelude.{if◌then◌else◌}
-use Rattle.std.proofs.lemmas.List.Elements.{All-cons, All-head, All-tail}
+use Rattle.std.specs.List.{All}
+use Rattle.std.proofs.lemmas.List.Elements.{All-cons, All-head, All-tail, All-weaker}
 use Rattle.labelled_trees.specs.Trees.{Tree, leaf, node}
+use Rattle.labelled_trees.specs.Leaves.{AllLeaves}
 use Rattle.labelled_trees.proofs.Leaves.{by_leaf}
 use Rattle.symmetric_trees.specs.declared.generators.Generator.{Generator}
 use Rattle.symmetric_trees.specs.Generators.{IsTable}
@@ -59,17 +61,34 @@ module _ (p : ℕ) (generators : List Generator) (tokens : List Token) (at : ℕ
 
 -- ---- tokens are those of one element
 
+-- a tree that fits the table, without leaf 0
+pub record IsPositive (generators : List Generator) (t : Tree ℕ) : Type 0 where
+  pub fits : Fits generators t
+  pub leaves : AllLeaves t (λ i. 0 < i)
+
+abbrev pub ArePositive : List Generator → List Written → Type 0
+ArePositive generators = All (λ term. IsPositive generators term.tree)
+
+positive : (generators : List Generator) (n : ℕ) (t : Tree ℕ) → IsElementTree generators n t → IsPositive generators t
+positive generators n t h = record { fits = h.labelled.fits; leaves = by_leaf t (λ i. 0 < i) (λ i l. (h.labelled.only i l).0) }
+
 -- an element that isn't 0 is more than the number 0
-zero_apart : (generators : List Generator) (n : ℕ) (sign : Bool) (c : Option ℕ) (t : Tree ℕ) (rest : List Token) → IsElementTree generators n t
+zero_apart : (generators : List Generator) (sign : Bool) (c : Option ℕ) (t : Tree ℕ) (rest : List Token) → IsPositive generators t
     → Number 0 ∷ [] ≡ (if sign then Byte 45 ∷ [] else []) ++ ((coefficient_tokens c ++ tree_tokens generators t) ++ rest) → ⊥
-zero_apart generators n true c t rest tree e = cc
-zero_apart generators n false (Some c) t rest tree e = cc
-zero_apart generators n false None (node g r) rest tree e = cc
-zero_apart generators n false None (leaf m) rest tree e =
+zero_apart generators true c t rest tree e = cc
+zero_apart generators false (Some c) t rest tree e = cc
+zero_apart generators false None (node g r) rest tree e = cc
+zero_apart generators false None (leaf m) rest tree e =
     let same : m ≡ 0 = cc in
-    let positive : 0 < m = by_leaf (leaf m) (λ i. 0 < i) (λ i l. (tree.labelled.only i l).0) in omega arith
+    let above : 0 < m = tree.leaves in omega arith
 
 module _ (generators : List Generator) (table : IsTable generators) where
+  first_tree : (term : Written) (terms : List Written) → ArePositive generators (term ∷ terms) → IsPositive generators term.tree
+  first_tree term terms all = All-head (λ (x : Written). IsPositive generators x.tree) term terms all
+
+  other_trees : (term : Written) (terms : List Written) → ArePositive generators (term ∷ terms) → ArePositive generators terms
+  other_trees term terms all = All-tail (λ (x : Written). IsPositive generators x.tree) term terms all
+
   one_term : (c d : Option ℕ) (t u : Tree ℕ) (r s : List Token) → Fits generators t → Fits generators u → NoStar r → NoStar s
       → (coefficient_tokens c ++ tree_tokens generators t) ++ r ≡ (coefficient_tokens d ++ tree_tokens generators u) ++ s → (c ≡ d) × (t ≡ u) × (r ≡ s)
   one_term None None t u r s ft fu nr ns e = let one = read_once generators table t u r s ft fu e in (refl, one.0, one.1)
@@ -83,49 +102,50 @@ module _ (generators : List Generator) (table : IsTable generators) where
   one_term (Some c) None t (leaf n) r (x ∷ s) ft fu nr ns e = let star : x ≡ Byte 42 = cc in absurd (ns star)
   one_term (Some c) None t (node g a) r s ft fu nr ns e = absurd cc
 
-  module _ (m n : ℕ) where
-    -- a term, and what is behind it
-    pub term_once : (term other : Written) (r s : List Token) → IsElementTree generators m term.tree → IsElementTree generators n other.tree → NoStar r → NoStar s
-        → term.negative ≡ other.negative → term_tokens generators term ++ r ≡ term_tokens generators other ++ s → (term ≡ other) × (r ≡ s)
-    term_once term other r s ft fu nr ns sign e =
-        let one = one_term term.coefficient other.coefficient term.tree other.tree r s ft.labelled.fits fu.labelled.fits nr ns e in
-        (same_written term other sign one.0 one.1, one.2)
+  -- a term, and what is behind it
+  term_once : (term other : Written) (r s : List Token) → IsPositive generators term.tree → IsPositive generators other.tree → NoStar r → NoStar s
+      → term.negative ≡ other.negative → term_tokens generators term ++ r ≡ term_tokens generators other ++ s → (term ≡ other) × (r ≡ s)
+  term_once term other r s ft fu nr ns sign e =
+      let one = one_term term.coefficient other.coefficient term.tree other.tree r s ft.fits fu.fits nr ns e in
+      (same_written term other sign one.0 one.1, one.2)
 
-    further_once : (terms others : List Written) → HaveTrees generators m terms → HaveTrees generators n others → further_tokens generators terms ≡ further_tokens generators others → terms ≡ others
-    further_once [] [] ft fu e = refl
-    further_once [] (other ∷ others) ft fu e = absurd cc
-    further_once (term ∷ terms) [] ft fu e = absurd cc
-    further_once (term ∷ terms) (other ∷ others) ft fu e =
-        let sign : mark term.negative ≡ mark other.negative = cc in
-        let one = term_once term other (further_tokens generators terms) (further_tokens generators others) (All-head (λ (x : Written). IsElementTree generators m x.tree) term terms ft)
-        (All-head (λ (x : Written). IsElementTree generators n x.tree) other others fu) (further-no_star generators terms) (further-no_star generators others) (mark_apart term.negative other.negative sign) cc in
-        let rest = further_once terms others (All-tail (λ (x : Written). IsElementTree generators m x.tree) term terms ft) (All-tail (λ (x : Written). IsElementTree generators n x.tree) other others fu) one.1 in
-        ap (λ x. x ∷ terms) one.0 ∙ ap (λ xs. other ∷ xs) rest
+  further_once : (terms others : List Written) → ArePositive generators terms → ArePositive generators others → further_tokens generators terms ≡ further_tokens generators others → terms ≡ others
+  further_once [] [] ft fu e = refl
+  further_once [] (other ∷ others) ft fu e = absurd cc
+  further_once (term ∷ terms) [] ft fu e = absurd cc
+  further_once (term ∷ terms) (other ∷ others) ft fu e =
+      let sign : mark term.negative ≡ mark other.negative = cc in
+      let one = term_once term other (further_tokens generators terms) (further_tokens generators others) (first_tree term terms ft) (first_tree other others fu)
+      (further-no_star generators terms) (further-no_star generators others) (mark_apart term.negative other.negative sign) cc in
+      let rest = further_once terms others (other_trees term terms ft) (other_trees other others fu) one.1 in
+      ap (λ x. x ∷ terms) one.0 ∙ ap (λ xs. other ∷ xs) rest
 
-    one_sign : (a b : Bool) (term other : Written) (r s : List Token) → (if a then Byte 45 ∷ [] else []) ++ (term_tokens generators term ++ r) ≡ (if b then Byte 45 ∷ [] else []) ++ (term_tokens generators other ++ s)
-        → (a ≡ b) × (term_tokens generators term ++ r ≡ term_tokens generators other ++ s)
-    one_sign true true term other r s e = (refl, cc)
-    one_sign true false term other r s e = absurd (no_byte generators other.coefficient other.tree 45 (term_tokens generators term ++ r) s e)
-    one_sign false true term other r s e = absurd (no_byte generators term.coefficient term.tree 45 (term_tokens generators other ++ s) r (sym e))
-    one_sign false false term other r s e = (refl, e)
+  one_sign : (a b : Bool) (term other : Written) (r s : List Token) → (if a then Byte 45 ∷ [] else []) ++ (term_tokens generators term ++ r) ≡ (if b then Byte 45 ∷ [] else []) ++ (term_tokens generators other ++ s)
+      → (a ≡ b) × (term_tokens generators term ++ r ≡ term_tokens generators other ++ s)
+  one_sign true true term other r s e = (refl, cc)
+  one_sign true false term other r s e = absurd (no_byte generators other.coefficient other.tree 45 (term_tokens generators term ++ r) s e)
+  one_sign false true term other r s e = absurd (no_byte generators term.coefficient term.tree 45 (term_tokens generators other ++ s) r (sym e))
+  one_sign false false term other r s e = (refl, e)
 
-    terms_once : (terms others : List Written) → HaveTrees generators m terms → HaveTrees generators n others → element_tokens generators terms ≡ element_tokens generators others → terms ≡ others
-    terms_once [] [] ft fu e = refl
-    terms_once [] (other ∷ others) ft fu e =
-        absurd (zero_apart generators n other.negative other.coefficient other.tree (further_tokens generators others) (All-head (λ (x : Written). IsElementTree generators n x.tree) other others fu) e)
-    terms_once (term ∷ terms) [] ft fu e =
-        absurd (zero_apart generators m term.negative term.coefficient term.tree (further_tokens generators terms) (All-head (λ (x : Written). IsElementTree generators m x.tree) term terms ft) (sym e))
-    terms_once (term ∷ terms) (other ∷ others) ft fu e =
-        let signs = one_sign term.negative other.negative term other (further_tokens generators terms) (further_tokens generators others) e in
-        let one = term_once term other (further_tokens generators terms) (further_tokens generators others) (All-head (λ (x : Written). IsElementTree generators m x.tree) term terms ft)
-        (All-head (λ (x : Written). IsElementTree generators n x.tree) other others fu) (further-no_star generators terms) (further-no_star generators others) signs.0 signs.1 in
-        let rest = further_once terms others (All-tail (λ (x : Written). IsElementTree generators m x.tree) term terms ft) (All-tail (λ (x : Written). IsElementTree generators n x.tree) other others fu) one.1 in
-        ap (λ x. x ∷ terms) one.0 ∙ ap (λ xs. other ∷ xs) rest
+  -- tokens are those of one list of terms
+  pub terms_once : (terms others : List Written) → ArePositive generators terms → ArePositive generators others → element_tokens generators terms ≡ element_tokens generators others → terms ≡ others
+  terms_once [] [] ft fu e = refl
+  terms_once [] (other ∷ others) ft fu e =
+      absurd (zero_apart generators other.negative other.coefficient other.tree (further_tokens generators others) (first_tree other others fu) e)
+  terms_once (term ∷ terms) [] ft fu e =
+      absurd (zero_apart generators term.negative term.coefficient term.tree (further_tokens generators terms) (first_tree term terms ft) (sym e))
+  terms_once (term ∷ terms) (other ∷ others) ft fu e =
+      let signs = one_sign term.negative other.negative term other (further_tokens generators terms) (further_tokens generators others) e in
+      let one = term_once term other (further_tokens generators terms) (further_tokens generators others) (first_tree term terms ft) (first_tree other others fu)
+      (further-no_star generators terms) (further-no_star generators others) signs.0 signs.1 in
+      let rest = further_once terms others (other_trees term terms ft) (other_trees other others fu) one.1 in
+      ap (λ x. x ∷ terms) one.0 ∙ ap (λ xs. other ∷ xs) rest
 
--- the terms have trees of some arity
-some_trees : (generators : List Generator) (terms : List Written) (arity : Option ℕ) → HaveArity generators arity terms → (n : ℕ) × HaveTrees generators n terms
-some_trees generators terms None none = (0, λ k d l. absurd (omega (arith, l, ap length none)))
-some_trees generators terms (Some n) all = (n, all.1)
+-- the trees of an element are positive
+all_positive : (generators : List Generator) (terms : List Written) (arity : Option ℕ) → HaveArity generators arity terms → ArePositive generators terms
+all_positive generators terms None none = λ k d l. absurd (omega (arith, l, ap length none))
+all_positive generators terms (Some n) all =
+    All-weaker (λ (x : Written). IsElementTree generators n x.tree) (λ (x : Written). IsPositive generators x.tree) (λ x h. positive generators n x.tree h) terms all.1
 
 -- the terms have one arity
 arity_once : (generators : List Generator) (terms : List Written) (arity other : Option ℕ) → HaveArity generators arity terms → HaveArity generators other terms → arity ≡ other
@@ -140,7 +160,5 @@ arity_once generators (term ∷ terms) (Some m) (Some n) a b =
 
 pub once : ElementsAreReadOnce
 once generators table line terms others arity other a b =
-    let trees = some_trees generators terms arity a.arity_is in
-    let more = some_trees generators others other b.arity_is in
-    let same : terms ≡ others = terms_once generators table trees.0 more.0 terms others trees.1 more.1 (sym a.spelled ∙ b.spelled) in
+    let same : terms ≡ others = terms_once generators table terms others (all_positive generators terms arity a.arity_is) (all_positive generators others other b.arity_is) (sym a.spelled ∙ b.spelled) in
     (same, arity_once generators others arity other (subst (HaveArity generators arity) same a.arity_is) b.arity_is)

@@ -7,3 +7,4 @@ pub mod PrintedTokens
 pub mod ElementTerms
 pub mod ElementSums
 pub mod ElementsOnce
+pub mod PrintedSums

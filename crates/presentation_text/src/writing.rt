@@ -194,3 +194,8 @@ pub fn print_sum(
     write_sum(field, table, sum, &mut out)?;
     Ok(out)
 }
+
+/// Law: the text of a sum is read back to the sum, where the names are words.
+pub fn printed_sums_are_read_back()
+    ensures law { PrintedSumsAreReadBack }
+{}
