@@ -4,3 +4,7 @@ pub mod TreeTokens
 pub mod TreePrinting
 pub mod TreeReading
 pub mod PrintedTokens
+pub mod ElementTerms
+pub mod ElementSums
+pub mod ElementsOnce
+pub mod PrintedSums

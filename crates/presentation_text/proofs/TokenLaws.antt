@@ -1,5 +1,5 @@
 -- The tokens of a line: words are ASCII, short numbers fit, and what the tokens are.
-use Rattle.std.proofs.Common.{◌≡◌, ℕ, zero, suc, ◌+◌, ◌-◌, ◌^◌, ◌<◌, ◌≤◌, Bool, true, false, ◌&&◌, List, [], ◌∷◌, ◌++◌, length, get_or, drop, take, refl, ap, sym, ◌∙◌, subst, arith, add-one, append_assoc, append-nil, lit<, cond, Result, Ok, Err}
+use Rattle.std.proofs.Common.{◌≡◌, ℕ, zero, suc, ◌+◌, ◌-◌, ◌^◌, ◌<◌, ◌≤◌, Bool, true, false, ◌&&◌, List, [], ◌∷◌, ◌++◌, length, get_or, drop, take, refl, ap, sym, ◌∙◌, subst, arith, add-one, append_assoc, append-nil, lit<, cond, Result, Ok, Err, ⊎_elim, nat_le}
 use Rattle.std.specs.Prelude.{take_while, IsOk, MatchResult}
 use Rattle.std.specs.List.{list_all, prefix_len}
 use Rattle.std.specs.Str.{IsUtf8}
@@ -9,11 +9,12 @@ use Rattle.std.proofs.lemmas.List.Sums.{take_while-cons}
 use Rattle.std.proofs.lemmas.List.Folds.{length-prefix_len}
 use Rattle.std.proofs.lemmas.Bool.Decides.{nat_tests}
 use Rattle.std.proofs.Math.Nat.{pow-le-pow_right}
+use Rattle.modular_sums.specs.Lists.{Mem}
 use Rattle.presentation_text.specs.declared.lexing.Token.{Token}
-use Rattle.presentation_text.specs.declared.lexing.Token.TheVariants.{Word, Byte, Bad}
+use Rattle.presentation_text.specs.declared.lexing.Token.TheVariants.{Word, Number, Long, Byte, Bad}
 use Rattle.presentation_text.specs.Lines.{is_blank}
-use Rattle.presentation_text.specs.Tokens.{is_word_byte, is_letter, is_digit, is_single, numeral, StartsOtherwise, IsStray, AreTokens, no_bytes, blank, word, number, single, stray, tokens_behind, tokens}
-use Rattle.presentation_text.specs.Laws.{TokensAreDefined}
+use Rattle.presentation_text.specs.Tokens.{is_word_byte, is_letter, is_digit, is_single, numeral, value_behind, StartsOtherwise, IsWord, IsStray, AreTokens, no_bytes, blank, word, number, single, stray, tokens_behind, tokens}
+use Rattle.presentation_text.specs.Laws.{TokensAreDefined, WordsAreWords}
 
 -- ---- tests of bytes
 
@@ -198,6 +199,25 @@ are_tokens line = are_behind line 0
 
 pub tokens_defined : TokensAreDefined
 tokens_defined line found = (tokens_are line found, λ e. subst (AreTokens line) (sym e) (are_tokens line))
+
+-- ---- words
+
+no_word : (b : Bool) (n : ℕ) (name : List ℕ) → Word name ≡ cond b (Number n) Long → ⊥
+no_word true n name e = cc
+no_word false n name e = cc
+
+word_in : (line name : List ℕ) (ts : List Token) → AreTokens line ts → Mem (Word name) ts → IsWord name
+word_in _ name _ no_bytes m = absurd m
+word_in _ name _ (blank c rest ts h are) m = word_in rest name ts are m
+word_in _ name _ (word c cs rest ts letter all ends are) m =
+    ⊎_elim (λ e. let same : name ≡ c ∷ cs = cc in subst IsWord (sym same) (letter, all)) (λ behind. word_in rest name ts are behind) m
+word_in _ name _ (number c cs rest ts digit all ends are) m =
+    ⊎_elim (λ e. absurd (no_word (nat_le (length (c ∷ cs)) 18) (value_behind 0 (c ∷ cs)) name e)) (λ behind. word_in rest name ts are behind) m
+word_in _ name _ (single c rest ts h are) m = ⊎_elim (λ e. absurd cc) (λ behind. word_in rest name ts are behind) m
+word_in _ name _ (stray c rest ts h are) m = ⊎_elim (λ e. absurd cc) (λ behind. word_in rest name ts are behind) m
+
+pub words : WordsAreWords
+words line name m = word_in line name (tokens line) (are_tokens line) m
 
 -- ---- numbers
 

@@ -12,10 +12,9 @@ use Rattle.presentation_text.specs.TreeText.{name_of, tree_tokens, row_tokens, m
 -- ---- numbers
 
 -- the last digit behind the others, and a single digit
-pub number_long : (n : ℕ) (old front new : List ℕ) → n < 256 → 10 ≤ n → front ≡ old ++ decimal (n / 10) → new ≡ front ++ (48 + n % 10) ∷ [] → new ≡ old ++ decimal n
+pub number_long : (n : ℕ) (old front new : List ℕ) → n < 2 ^ 64 → 10 ≤ n → front ≡ old ++ decimal (n / 10) → new ≡ front ++ (48 + n % 10) ∷ [] → new ≡ old ++ decimal n
 number_long n old front new small long f e =
-    let wide : n < 2 ^ 64 = omega arith in
-    let steps : decimal n ≡ decimal (n / 10) ++ (48 + n % 10) ∷ [] = decimal_step n long wide in
+    let steps : decimal n ≡ decimal (n / 10) ++ (48 + n % 10) ∷ [] = decimal_step n long small in
     e ∙ ap (λ x. x ++ (48 + n % 10) ∷ []) f ∙ append_assoc old (decimal (n / 10)) ((48 + n % 10) ∷ []) ∙ ap (λ x. old ++ x) (sym steps)
 
 pub number_short : (n : ℕ) (old new : List ℕ) → n < 10 → new ≡ old ++ (48 + n % 10) ∷ [] → new ≡ old ++ decimal n

@@ -26,7 +26,7 @@ use Rattle.presentation_text.proofs.TreeTokens.{arity_in, in_table, name_of-is, 
 pub drop-at : (tokens : List Token) (at : ℕ) (x : Token) → slice_get tokens at ≡ Some x → drop at tokens ≡ x ∷ drop (at + 1) tokens
 drop-at tokens at x e = drop_more tokens at x (slice_get_within tokens at x e) ∙ ap (λ y. y ∷ drop (at + 1) tokens) (get_or_from_slice_get tokens at x x e)
 
-token_at : (tokens : List Token) (at : ℕ) (x : Token) (rest : List Token) → drop at tokens ≡ x ∷ rest → slice_get tokens at ≡ Some x
+pub token_at : (tokens : List Token) (at : ℕ) (x : Token) (rest : List Token) → drop at tokens ≡ x ∷ rest → slice_get tokens at ≡ Some x
 token_at [] zero x rest e = absurd cc
 token_at [] (suc at) x rest e = absurd cc
 token_at (y ∷ ys) zero x rest e = let same : y ≡ x = cc in ap Some same
@@ -46,7 +46,7 @@ tokens_some generators (leaf n) = omega arith
 tokens_some generators (node g r) = omega arith
 
 -- a tree whose tokens come next stands there
-stands-from : (generators : List Generator) (tokens : List Token) (at : ℕ) (t : Tree ℕ) (rest : List Token) → drop at tokens ≡ tree_tokens generators t ++ rest
+pub stands-from : (generators : List Generator) (tokens : List Token) (at : ℕ) (t : Tree ℕ) (rest : List Token) → drop at tokens ≡ tree_tokens generators t ++ rest
     → StandsAt generators tokens at t (at + length (tree_tokens generators t))
 stands-from generators tokens at t rest e =
     let some = tokens_some generators t in

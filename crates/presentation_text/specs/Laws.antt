@@ -1,5 +1,7 @@
 -- What holds of lines, tokens and the tokens of trees.
-use Rattle.std.specs.Prelude.{ℕ, ◌≡◌, ◌<◌, ◌^◌, ◌↔◌, List, ◌++◌}
+use Rattle.std.specs.Prelude.{ℕ, ◌≡◌, ◌<◌, ◌^◌, ◌↔◌, List, ◌++◌, map, Option}
+use Rattle.modular_sums.specs.Lists.{Mem}
+use Rattle.prime_field.specs.Primes.{IsFieldPrime}
 use Rattle.labelled_trees.specs.Trees.{Tree}
 use Rattle.labelled_trees.specs.Leaves.{AllLeaves}
 use Rattle.symmetric_trees.specs.Generators.{IsTable}
@@ -7,8 +9,11 @@ use Rattle.symmetric_trees.specs.Trees.{Fits}
 use Rattle.symmetric_trees.specs.declared.generators.Generator.{Generator}
 use Rattle.presentation_text.specs.declared.lexing.Token.{Token}
 use Rattle.presentation_text.specs.Lines.{AreLines, lines}
-use Rattle.presentation_text.specs.Tokens.{AreTokens, tokens}
+use Rattle.presentation_text.specs.declared.lexing.Token.TheVariants.{Word}
+use Rattle.presentation_text.specs.Tokens.{AreTokens, IsWord, tokens}
 use Rattle.presentation_text.specs.TreeText.{HasWords, tree_tokens, tree_text}
+use Rattle.presentation_text.specs.Elements.{Written, IsElement, element_tokens, said}
+use Rattle.presentation_text.specs.SumText.{IsPrintable, sum_text}
 
 -- Each text has exactly one list of lines, the one that `lines` gives.
 abbrev pub LinesAreDefined : Type 0
@@ -26,3 +31,27 @@ TreesAreReadOnce = (generators : List Generator) → IsTable generators → (t u
 -- The text of a tree over a table whose names are words has the tree's tokens, where the leaf numbers have at most 18 digits.
 abbrev pub PrintedTreesAreReadBack : Type 0
 PrintedTreesAreReadBack = (generators : List Generator) → HasWords generators → (t : Tree ℕ) → Fits generators t → AllLeaves t (λ n. n < 10 ^ 18) → tokens (tree_text generators t) ≡ tree_tokens generators t
+
+-- The word of a token is a word.
+abbrev pub WordsAreWords : Type 0
+WordsAreWords = (line name : List ℕ) → Mem (Word name) (tokens line) → IsWord name
+
+-- Tokens are those of at most one element: they have one list of terms, and so one arity.
+abbrev pub ElementsAreReadOnce : Type 0
+ElementsAreReadOnce = (generators : List Generator) → IsTable generators → (line : List Token) (terms others : List Written) (arity other : Option ℕ)
+    → IsElement generators line terms arity → IsElement generators line others other → (terms ≡ others) × (arity ≡ other)
+
+-- what reading the text of a sum gives: the tokens of an element that says the sum, with the same trees
+pub record IsReadBack (p : ℕ) (generators : List Generator) (e : List (ℕ × Tree ℕ)) : Type 0 where
+  pub terms : List Written
+  pub read : tokens (sum_text p generators e) ≡ element_tokens generators terms
+  pub same : said p terms ≡ e
+  pub trees : map (λ term. term.tree) terms ≡ map (λ x. x.1) e
+
+-- The text of a sum over a table whose names are words is read back to the sum, and two sums with one text are equal.
+pub record PrintedSumsLaw (p : ℕ) (generators : List Generator) : Type 0 where
+  pub read_back : (e : List (ℕ × Tree ℕ)) → IsPrintable p generators e → IsReadBack p generators e
+  pub apart : (e f : List (ℕ × Tree ℕ)) → IsPrintable p generators e → IsPrintable p generators f → sum_text p generators e ≡ sum_text p generators f → e ≡ f
+
+abbrev pub PrintedSumsAreReadBack : Type 0
+PrintedSumsAreReadBack = (p : ℕ) (generators : List Generator) → IsFieldPrime p → IsTable generators → HasWords generators → PrintedSumsLaw p generators

@@ -1,7 +1,7 @@
 ghost use Rattle.std.specs.Prelude.{◌≡◌, ◌≤◌, ◌<◌, ◌∷◌, IfOk, IsTrue, MatchOption, length, take_while};
 ghost use Rattle.std.specs.List.{list_all};
 ghost use Rattle.presentation_text.specs.Tokens as spec;
-ghost use Rattle.presentation_text.specs.Laws.{TokensAreDefined};
+ghost use Rattle.presentation_text.specs.Laws.{TokensAreDefined, WordsAreWords};
 
 use crate::lines::is_blank;
 use std::alloc::{AllocError, Global};
@@ -140,4 +140,9 @@ pub fn tokens(alloc: Global, line: &[u8]) -> Result<Vec<Token>, AllocError>
 /// Law: what the tokens of a line are, and the function that gives them.
 pub fn tokens_are_defined()
     ensures law { TokensAreDefined }
+{}
+
+/// Law: the word of a token of a line is a word.
+pub fn words_are_words()
+    ensures law { WordsAreWords }
 {}
