@@ -74,7 +74,7 @@ as_said-front n front back h = ⊎_elim
 
 -- ---- where the lines go wrong
 
-cancel_front : {X : Type 0} (front a b : List X) → front ++ a ≡ front ++ b → a ≡ b
+pub cancel_front : {X : Type 0} (front a b : List X) → front ++ a ≡ front ++ b → a ≡ b
 cancel_front [] a b e = e
 cancel_front (x ∷ front) a b e = let further : front ++ a ≡ front ++ b = cc in cancel_front front a b further
 

@@ -1,5 +1,8 @@
 pub mod AnswerSteps
+pub mod Decides
 pub mod DocumentLines
+pub mod FormsSteps
+pub mod OneAnswer
 pub mod OneTable
 pub mod OpeningSteps
 pub mod QueryElements

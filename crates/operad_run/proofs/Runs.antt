@@ -3,7 +3,8 @@ use Rattle.std.proofs.Common.{◌≡◌, ℕ, ◌+◌, ◌≤◌, ⊎_elim, inl,
 use Rattle.std.specs.Io.KnownBytes.{Consumes, IsAtEnd}
 use Rattle.outside_io.specs.Taken.{Takes}
 use Rattle.operad_run.specs.Commands.{IsForms}
-use Rattle.operad_run.specs.OneGenerator.{IsDocument}
+use Rattle.operad_run.specs.OneGenerator.{IsDocument, IsFirstFault, token_lines}
+use Rattle.operad_run.proofs.DocumentLines.{no_fault}
 use Rattle.operad_run.specs.Runs.{Outside, Came, CameTooMany, Says, Told, Wrote, Ends, IsComplete, IsRun, most_bytes}
 use Rattle.operad_run.specs.declared.status.Status.{Status}
 use Rattle.operad_run.specs.declared.status.Status.TheVariants.{Done, Refused, Usage, Document, Limit, Budget, ReadFault, WriteFault, NoMemory}
@@ -60,9 +61,9 @@ complete_from_ends Limit words o ends n bytes generator queries h e few d r w = 
 complete_from_ends Document words o ends n bytes generator queries h e few d r w =
     let says = ends.1 in
     let arity = one_arity words n says.0 h says.1 in
-    let came = says.3 in
-    let none = says.4 in
-    absurd (none generator queries (subst (λ m. IsDocument says.2 m generator queries) arity (subst (λ b. IsDocument b n generator queries) (sym (same_bytes o bytes says.2 e came)) d)))
+    let same = same_bytes o bytes says.2 e says.3 in
+    let here = subst (λ b. IsDocument b n generator queries) (sym same) d in
+    absurd (no_fault n (token_lines says.2) says.4 generator queries (subst (λ m. IsFirstFault m (token_lines says.2) says.4) (sym arity) says.5) here)
 complete_from_ends Refused words o ends n bytes generator queries h e few d r w = absurd ends.1
 complete_from_ends Budget words o ends n bytes generator queries h e few d r w = absurd ends.1
 

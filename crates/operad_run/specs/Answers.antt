@@ -1,5 +1,5 @@
 -- The lines of the answers to queries.
-use Rattle.std.specs.Prelude.{ℕ, ◌≡◌, ◌↔◌, ◌-◌, List, [], ◌∷◌, ◌++◌}
+use Rattle.std.specs.Prelude.{ℕ, ◌≡◌, ◌≤◌, ◌↔◌, ◌-◌, List, [], ◌∷◌, ◌++◌}
 use Rattle.modular_sums.specs.Sums.{scale, AllTerms}
 use Rattle.labelled_trees.specs.Trees.{Tree}
 use Rattle.operad_ideals.specs.Presentations.{Presentation}
@@ -30,8 +30,8 @@ line text = text ++ 10 ∷ []
 abbrev pub free : ℕ → List Generator → Presentation
 free p generators = record { q = p - 1; generators = generators_of generators; relations = [] }
 
--- Answers tell elements apart modulo symmetry: those to two elements of one arity are equal, byte for byte, exactly where the
--- difference of the elements is in the ideal of the presentation without relations.
+-- Answers tell elements apart modulo symmetry: those to two elements of one arity, at most 9, are equal, byte for byte, exactly
+-- where the difference of the elements is in the ideal of the presentation without relations.
 abbrev pub AnswersDecide : ℕ → List Generator → Type 0
-AnswersDecide p generators = (n : ℕ) (d e : List (ℕ × Tree ℕ)) (answer other : List ℕ) → IsAnswer p generators d answer → IsAnswer p generators e other
+AnswersDecide p generators = (n : ℕ) → n ≤ 9 → (d e : List (ℕ × Tree ℕ)) (answer other : List ℕ) → IsAnswer p generators d answer → IsAnswer p generators e other
     → AllTerms d (IsLabelled generators n) → AllTerms e (IsLabelled generators n) → (answer ≡ other) ↔ InIdeal (free p generators) n (d ++ scale (p - 1) e)

@@ -31,7 +31,7 @@ fn fault_text(alloc: Global, line: u32) -> Result<Vec<u8>, AllocError>
 {
     let mut text = Vec::new(alloc);
     text.extend_from_slice(b"fault document ")?;
-    write_number(line, &mut text)?;
+    write_number(u64::from(line), &mut text)?;
     text.extend_from_slice(b" NotBuilt\n")?;
     Ok(text)
 }

@@ -14,9 +14,10 @@ use std::alloc::{AllocError, Global};
 use symmetric_sums::{Sum, Term};
 use symmetric_trees::GenTable;
 
-// Puts the decimal digits of a number behind `out`, without a `String` in between.
-fn write_number(number: u64, out: &mut Vec<u8>) -> Result<(), AllocError>
-    ensures { OnOk result (out.new.items ≡ out.old.items ++ decimal number) }
+/// Puts the decimal digits of a number behind `out`, without a `String` in between. `AllocError` comes for want of
+/// memory alone; `out` may then hold a part of the digits.
+pub fn write_number(number: u64, out: &mut Vec<u8>) -> Result<(), AllocError>
+    ensures digits { OnOk result (out.new.items ≡ out.old.items ++ decimal number) }
 {
     if number >= 10 {
         write_number(number / 10, out)?;
