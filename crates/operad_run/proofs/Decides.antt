@@ -36,8 +36,7 @@ answers_decide generators table words n few d e answer other a b ld le =
     let two = form_labelled 101 n parts e b.form le b.is_collected in
     let forms = (collected_decide (free 101 generators) n).decide d e a.form b.form ld le a.is_collected b.is_collected in
     let apart = (read_back 101 generators field_101 table words).apart a.form b.form
-    (printable 101 n generators a.form few a.is_collected.reduced.residues one) (printable 101 n generators b.form few b.is_collected.reduced.residues two) in
-    (
+    (printable 101 n generators a.form few a.is_collected.reduced.residues one) (printable 101 n generators b.form few b.is_collected.reduced.residues two) in (
       λ same. forms.0 (apart (sym a.answer_is ∙ same ∙ b.answer_is)),
       λ gone. a.answer_is ∙ ap (sum_text 101 generators) (forms.1 gone) ∙ sym b.answer_is,
     )

@@ -58,13 +58,17 @@ document-front n front back generator queries d = ⊎_elim
         let first : l ≡ d.generator_line = cc in
         let further : d.query_lines ≡ ls ++ back = cc in
         let part = queries-front 101 n (generator ∷ []) ls back queries (subst (λ xs. AreQueryLines 101 (generator ∷ []) n xs queries) further d.queries_are) in
-        inr (generator, part.0, record {
-          generator_line = l;
-          query_lines = ls;
-          lines_are = e;
-          generator_is = subst (λ x. IsGeneratorLine x generator) (sym first) d.generator_is;
-          queries_are = part.1;
-        })
+        inr (
+          generator,
+          part.0,
+          record {
+            generator_line = l;
+            query_lines = ls;
+            lines_are = e;
+            generator_is = subst (λ x. IsGeneratorLine x generator) (sym first) d.generator_is;
+            queries_are = part.1;
+          },
+        )
 
 pub as_said-front : (n : ℕ) (front back : List (List Token)) → AreAsSaid n (front ++ back) → AreAsSaid n front
 as_said-front n front back h = ⊎_elim
@@ -98,9 +102,9 @@ opening-wrong n front missing further [] e w = let len = ap length e ∙ length-
 opening-wrong n front missing further (l ∷ ls) e w = λ a. ⊎_elim
     (λ begins. missing_apart front missing l further ls begins.0 w e (begins.1 ∙ append_assoc front (l ∷ []) begins.0))
     (λ whole.
-        let len = ap length e ∙ length-append front (missing ∷ further) in
-        let one = length-append front (l ∷ []) in
-        omega (arith, len, one, four_or_more n (front ++ l ∷ []) whole.0 whole.1 whole.2))
+    let len = ap length e ∙ length-append front (missing ∷ further) in
+    let one = length-append front (l ∷ []) in
+    omega (arith, len, one, four_or_more n (front ++ l ∷ []) whole.0 whole.1 whole.2))
     a
 
 pub opening_fault : (n : ℕ) (document : List (List Token)) (number : ℕ) → IsOpeningFault document number → IsFirstFault n document number
@@ -142,10 +146,10 @@ generator_fault n document line lines e none = record {
   wrong = λ a. ⊎_elim
       (λ begins. opening_is_short line [] begins.0 begins.1)
       (λ whole.
-          let d = whole.2 in
-          let same = behind_opening (line ∷ []) d.generator_line d.query_lines d.lines_are in
-          let first : d.generator_line ≡ line = cc in
-          none whole.0 (subst (λ x. IsGeneratorLine x whole.0) first d.generator_is))
+      let d = whole.2 in
+      let same = behind_opening (line ∷ []) d.generator_line d.query_lines d.lines_are in
+      let first : d.generator_line ≡ line = cc in
+      none whole.0 (subst (λ x. IsGeneratorLine x whole.0) first d.generator_is))
       a;
   number_is = refl;
 }
@@ -156,13 +160,13 @@ query-wrong : (n : ℕ) (line : List Token) (generator : Generator) (front : Lis
 query-wrong n line generator front other h none a = ⊎_elim
     (λ begins. opening_is_short line (front ++ other ∷ []) begins.0 begins.1)
     (λ whole.
-        let d = whole.2 in
-        let same = behind_opening (line ∷ (front ++ other ∷ [])) d.generator_line d.query_lines d.lines_are in
-        let first : d.generator_line ≡ line = cc in
-        let further : d.query_lines ≡ front ++ other ∷ [] = cc in
-        let one = one_generator line whole.0 generator (subst (λ x. IsGeneratorLine x whole.0) first d.generator_is) h in
-        let queries = subst (λ g. AreQueryLines 101 (g ∷ []) n d.query_lines whole.1) one d.queries_are in
-        no_query_among 101 n (generator ∷ []) front other [] whole.1 none (subst (λ xs. AreQueryLines 101 (generator ∷ []) n xs whole.1) further queries))
+    let d = whole.2 in
+    let same = behind_opening (line ∷ (front ++ other ∷ [])) d.generator_line d.query_lines d.lines_are in
+    let first : d.generator_line ≡ line = cc in
+    let further : d.query_lines ≡ front ++ other ∷ [] = cc in
+    let one = one_generator line whole.0 generator (subst (λ x. IsGeneratorLine x whole.0) first d.generator_is) h in
+    let queries = subst (λ g. AreQueryLines 101 (g ∷ []) n d.query_lines whole.1) one d.queries_are in
+    no_query_among 101 n (generator ∷ []) front other [] whole.1 none (subst (λ xs. AreQueryLines 101 (generator ∷ []) n xs whole.1) further queries))
     a
 
 pub query_fault : (n : ℕ) (document : List (List Token)) (line : List Token) (generator : Generator) (lines : List (List Token)) (number : ℕ) → document ≡ opening ++ line ∷ lines
@@ -203,7 +207,7 @@ not_before n front others more behind w a g = go g.middle g.front_is g.back_is
 pub one_fault : (n : ℕ) (document : List (List Token)) (number other : ℕ) → IsFirstFault n document number → IsFirstFault n document other → number ≡ other
 one_fault n document number other f g =
     let same : length f.front ≡ length g.front = ⊎_elim
-        (λ on. not_before n f.front f.others g.front g.others f.wrong g.as_said on)
-        (λ on. sym (not_before n g.front g.others f.front f.others g.wrong f.as_said on))
-        (two_fronts f.front f.others g.front g.others (sym f.lines_are ∙ g.lines_are)) in
+    (λ on. not_before n f.front f.others g.front g.others f.wrong g.as_said on)
+    (λ on. sym (not_before n g.front g.others f.front f.others g.wrong f.as_said on))
+    (two_fronts f.front f.others g.front g.others (sym f.lines_are ∙ g.lines_are)) in
     f.number_is ∙ ap (λ k. k + 1) same ∙ sym g.number_is

@@ -1,7 +1,7 @@
 ghost use Rattle.std.specs.Prelude.{◌<◌};
 
 use crate::{Status, operad_run};
-use outside_io::{MemorySink, MemorySource};
+use outside_io::{MemorySink, MemorySource, SureSink, SureSource};
 use std::alloc::{AllocError, Global};
 use std::test::Fail;
 
@@ -24,13 +24,25 @@ fn sink(alloc: Global, chunk: usize, fail_at: &[u32]) -> Result<MemorySink, Allo
     MemorySink::new(alloc, 1000, chunk, fail_at.to_vec(alloc)?)
 }
 
-// The status and the text of `forms N 100` on a document.
-fn forms(alloc: Global, most: &str, document: &[u8]) -> Result<(Status, Vec<u8>), AllocError> {
-    let mut source = MemorySource::new(document.to_vec(alloc)?, 4096, Vec::new(alloc));
-    let mut sink = sink(alloc, 4096, &[])?;
+// The status and the text of `forms N 100` on a document, over a source and a sink of so many bytes a call.
+fn forms_by(
+    alloc: Global,
+    most: &str,
+    document: &[u8],
+    chunk: usize,
+) -> Result<(Status, Vec<u8>), AllocError>
+    requires { 0 < chunk }
+{
+    let mut source = MemorySource::new(document.to_vec(alloc)?, chunk, Vec::new(alloc));
+    let mut sink = sink(alloc, chunk, &[])?;
     let words = words(alloc, &["forms", most, "100"])?;
     let status = operad_run(alloc, &words, &mut source, &mut sink);
     Ok((status, sink.bytes().to_vec(alloc)?))
+}
+
+// The same, with many bytes a call.
+fn forms(alloc: Global, most: &str, document: &[u8]) -> Result<(Status, Vec<u8>), AllocError> {
+    forms_by(alloc, most, document, 4096)
 }
 
 // The document of the bracket with these lines behind it.
@@ -52,6 +64,49 @@ fn queries_are_answered_in_order(rt: HostRuntime) -> Result<(), Fail> {
     assert_eq!(rt;
         text.as_slice(),
         b"-l(1,2)\nl(l(1,2),3)\n-l(1,l(2,3))\n1\n".as_slice()
+    );
+    Ok(())
+}
+
+#[test]
+fn elements_are_collected(rt: HostRuntime) -> Result<(), Fail> {
+    let alloc = rt.alloc();
+    let rows: &[(&[u8], &[u8])] = &[
+        (b"query l(2,1)\n", b"-l(1,2)\n"),
+        (b"query l(1,2) + l(2,1)\n", b"0\n"),
+        (b"query 10*l(1,2)\n", b"10*l(1,2)\n"),
+        (b"query 0\n", b"0\n"),
+        (b"query 3*1 + 5*1\n", b"8*1\n"),
+        (b"query -51 * l(2,1)\n", b"-50*l(1,2)\n"),
+        (b"query 101*l(1,l(2,3))\n", b"0\n"),
+        (b"query - l(2,1) - 203*l(1,2)\n", b"0\n"),
+    ];
+    for (query, answer) in rows {
+        let document = bracket(alloc, query)?;
+        for chunk in [10, 1] {
+            if chunk > 0 {
+                let (status, text) = forms_by(alloc, "2", &document, chunk)?;
+                assert_eq!(rt; status, Status::Done);
+                assert_eq!(rt; text.as_slice(), *answer);
+            }
+        }
+    }
+    Ok(())
+}
+
+// The Jacobi sum is no sum of instances of symmetry rules; skew symmetry makes equal lines of equal elements.
+#[test]
+fn equal_elements_have_equal_lines(rt: HostRuntime) -> Result<(), Fail> {
+    let alloc = rt.alloc();
+    let document = bracket(
+        alloc,
+        b"query l(l(1,2),3) + l(l(2,3),1) + l(l(3,1),2)\nquery l(3,l(2,1)) - l(l(3,2),1) + l(2,l(1,3))\n",
+    )?;
+    let (status, text) = forms(alloc, "3", &document)?;
+    assert_eq!(rt; status, Status::Done);
+    assert_eq!(rt;
+        text.as_slice(),
+        b"-l(1,l(2,3)) + l(l(1,2),3) - l(l(1,3),2)\n-l(1,l(2,3)) + l(l(1,2),3) - l(l(1,3),2)\n".as_slice()
     );
     Ok(())
 }
@@ -105,28 +160,60 @@ fn other_words_are_refused(rt: HostRuntime) -> Result<(), Fail> {
 }
 
 #[test]
-fn other_documents_are_refused(rt: HostRuntime) -> Result<(), Fail> {
+fn the_first_line_that_is_not_as_said_is_named(rt: HostRuntime) -> Result<(), Fail> {
     let alloc = rt.alloc();
-    let others: &[&[u8]] = &[
-        b"",
-        b"operad 2\nfield 101\norder path\ngen l 2 alt\n",
-        b"operad 1\nfield 102\norder path\ngen l 2 alt\n",
-        b"operad 1\nfield 101\norder paths\ngen l 2 alt\n",
-        b"operad 1\nfield 101\norder path\n",
-        b"operad 1\nfield 101\norder path\ngen l 3 alt\n",
-        b"operad 1\nfield 101\norder path\ngen l 2 all\n",
-        b"operad 1\nfield 101\norder path\ngen abcdefghijklmnopq 2 alt\n",
-        b"operad 1\nfield 101\norder path\ngen l 2 alt\nquery l(1,2) 3\n",
-        b"operad 1\nfield 101\norder path\ngen l 2 alt\nquery l(1,1)\n",
-        b"operad 1\nfield 101\norder path\ngen l 2 alt\nquery l(1,3)\n",
-        b"operad 1\nfield 101\norder path\ngen l 2 alt\nquery l(1,l(2,3))\n",
-        b"operad 1\nfield 101\norder path\ngen l 2 alt\nquery k(1,2)\n",
-        b"operad 1\nfield 101\norder path\ngen l 2 alt\nask l(1,2)\n",
+    let first: &[u8] = b"fault document 1 NotBuilt\n";
+    let second: &[u8] = b"fault document 2 NotBuilt\n";
+    let third: &[u8] = b"fault document 3 NotBuilt\n";
+    let fourth: &[u8] = b"fault document 4 NotBuilt\n";
+    let others: &[(&[u8], &[u8])] = &[
+        (b"", first),
+        (b"operad 2\nfield 101\norder path\ngen l 2 alt\n", first),
+        (b"operad 1", second),
+        (b"operad 1\nfield 102\norder paths\ngen l 2 alt\n", second),
+        (b"operad 1\nfield 101\norder paths\ngen l 2 alt\n", third),
+        (b"operad 1\nfield 101\norder path\n", fourth),
+        (b"operad 1\nfield 101\norder path\ngen l 3 alt\n", fourth),
+        (b"operad 1\nfield 101\norder path\ngen l 2 all\n", fourth),
+        (
+            b"operad 1\nfield 101\norder path\ngen abcdefghijklmnopq 2 alt\n",
+            fourth,
+        ),
     ];
-    for document in others {
+    for (document, fault) in others {
         let (status, text) = forms(alloc, "2", document)?;
         assert_eq!(rt; status, Status::Document);
-        assert_eq!(rt; text.as_slice(), b"fault document 0 NotBuilt\n".as_slice());
+        assert_eq!(rt; text.as_slice(), *fault);
+    }
+    Ok(())
+}
+
+#[test]
+fn lines_that_are_no_queries_are_refused(rt: HostRuntime) -> Result<(), Fail> {
+    let alloc = rt.alloc();
+    let lines: &[&[u8]] = &[
+        b"",
+        b"query",
+        b"query l(1,2) 3",
+        b"query l(1,1)",
+        b"query l(1,3)",
+        b"query l(1,l(2,3))",
+        b"query 1 + l(1,2)",
+        b"query 0*1 + l(1,2)",
+        b"query 0 + 1",
+        b"query +1",
+        b"query l(1,2) -",
+        b"query 1234567890123456789*1",
+        b"query k(1,2)",
+        b"ask l(1,2)",
+    ];
+    for line in lines {
+        let mut document = bracket(alloc, b"query 1\nquery l(2,1)\n")?;
+        document.extend_from_slice(line)?;
+        document.extend_from_slice(b"\nquery 1 1\n")?;
+        let (status, text) = forms(alloc, "2", &document)?;
+        assert_eq!(rt; status, Status::Document);
+        assert_eq!(rt; text.as_slice(), b"fault document 7 NotBuilt\n".as_slice());
     }
     Ok(())
 }
@@ -136,16 +223,20 @@ fn faults_of_the_source_and_the_sink_are_told(rt: HostRuntime) -> Result<(), Fai
     let alloc = rt.alloc();
     let words = words(alloc, &["forms", "2", "100"])?;
     let document = bracket(alloc, b"query l(2,1)\n")?;
-    let mut source = MemorySource::new(document.to_vec(alloc)?, 10, [2].to_vec(alloc)?);
-    let mut ample = sink(alloc, 4096, &[])?;
-    let status = operad_run(alloc, &words, &mut source, &mut ample);
-    assert_eq!(rt; status, Status::ReadFault);
-    assert_eq!(rt; ample.bytes(), b"fault read\n".as_slice());
-    let mut source = MemorySource::new(document.to_vec(alloc)?, 10, Vec::new(alloc));
-    let mut closed = sink(alloc, 4096, &[1])?;
-    let status = operad_run(alloc, &words, &mut source, &mut closed);
-    assert_eq!(rt; status, Status::WriteFault);
-    assert_eq!(rt; closed.bytes(), b"".as_slice());
+    for chunk in [10, 1] {
+        if chunk > 0 {
+            let mut source = MemorySource::new(document.to_vec(alloc)?, chunk, [2].to_vec(alloc)?);
+            let mut ample = sink(alloc, chunk, &[])?;
+            let status = operad_run(alloc, &words, &mut source, &mut ample);
+            assert_eq!(rt; status, Status::ReadFault);
+            assert_eq!(rt; ample.bytes(), b"fault read\n".as_slice());
+            let mut source = MemorySource::new(document.to_vec(alloc)?, chunk, Vec::new(alloc));
+            let mut closed = sink(alloc, chunk, &[1])?;
+            let status = operad_run(alloc, &words, &mut source, &mut closed);
+            assert_eq!(rt; status, Status::WriteFault);
+            assert_eq!(rt; closed.bytes(), b"".as_slice());
+        }
+    }
     Ok(())
 }
 
@@ -165,9 +256,24 @@ fn bytes_come_and_go_one_by_one(rt: HostRuntime) -> Result<(), Fail> {
 fn too_many_bytes_are_refused(rt: HostRuntime) -> Result<(), Fail> {
     let alloc = rt.alloc();
     let document = vec![in alloc; b'#'; MOST_BYTES + 1]?;
-    let (status, text) = forms(alloc, "2", &document)?;
-    assert_eq!(rt; status, Status::Limit);
-    assert_eq!(rt; text.as_slice(), b"fault limit bytes\n".as_slice());
+    for chunk in [10, 1] {
+        if chunk > 0 {
+            let (status, text) = forms_by(alloc, "2", &document, chunk)?;
+            assert_eq!(rt; status, Status::Limit);
+            assert_eq!(rt; text.as_slice(), b"fault limit bytes\n".as_slice());
+        }
+    }
+    Ok(())
+}
+
+#[test]
+fn sure_sources_and_sinks_serve(rt: HostRuntime) -> Result<(), Fail> {
+    let alloc = rt.alloc();
+    let words = words(alloc, &["forms", "2", "100"])?;
+    let mut source = SureSource::new(bracket(alloc, b"query l(2,1)\n")?, 10);
+    let mut sink = SureSink::new(vec![in alloc; 0; 100]?);
+    let status = operad_run(alloc, &words, &mut source, &mut sink);
+    assert_eq!(rt; status, Status::Done);
     Ok(())
 }
 

@@ -15,7 +15,7 @@ loop-line-init c = (
 pub loop-line-preserved : goal.loop-line-preserved
 loop-line-preserved c = (
   one_more c.args.field c.args.most c.args.first c.args.table.now (token_lines c.args.text.now) (token_lines c.loop-line.rest.now) (tokens c.in-Some.line.now)
-  (token_lines c.in-Some.behind.now) c.loop-line.out.items c.answer_line.new.out.items c.loop-line.number (ap (map tokens) c.in-Some.ensures.lines) c.loop-line.invariant.0
-  (subst (λ b. OnTrue b (IsAnswered c.args.field c.args.table.now c.args.most (tokens c.in-Some.line.now) c.loop-line.out.items c.answer_line.new.out.items)) c.in-Ok-true.field-0-test c.in-Ok-true.ensures.answered),
+      (token_lines c.in-Some.behind.now) c.loop-line.out.items c.answer_line.new.out.items c.loop-line.number (ap (map tokens) c.in-Some.ensures.lines) c.loop-line.invariant.0
+      (subst (λ b. OnTrue b (IsAnswered c.args.field c.args.table.now c.args.most (tokens c.in-Some.line.now) c.loop-line.out.items c.answer_line.new.out.items)) c.in-Ok-true.field-0-test c.in-Ok-true.ensures.answered),
   omega (arith, c.loop-line.invariant.1, c.in-Some.ensures.shorter),
 )
