@@ -3,7 +3,7 @@ use Rattle.std.proofs.Common.{◌≡◌, ℕ, zero, suc, ◌+◌, ◌*◌, ◌%�
 use mathlib.Core.Path.{ap₂}
 use Rattle.modular_sums.specs.Residues.{Alike}
 use Rattle.modular_sums.specs.Sums.{hit, coef, scale, Same, expand, moved, AllTerms}
-use Rattle.modular_sums.proofs.Residues.{alike_add, alike_mul}
+use Rattle.modular_sums.proofs.Residues.{alike_add, alike_mul, alike_of_gone, less_alike}
 use Rattle.modular_sums.proofs.Sums.{hit-mul, coef-append, coef-scale}
 use Rattle.modular_sums.proofs.Replacements.{sum_over}
 use Rattle.modular_sums.proofs.Images.{same_sum}
@@ -12,20 +12,22 @@ use Rattle.labelled_trees.specs.Contexts.{Ctx, RowCtx, hole, inside, here, past,
 use Rattle.labelled_trees.specs.Equality.{tree_discrete}
 use Rattle.labelled_trees.specs.Labelled.{IsLabelled}
 use Rattle.labelled_trees.proofs.Rows.{row-inputs}
+use Rattle.labelled_trees.proofs.Numbered.{labelled_once}
 use Rattle.labelled_trees.proofs.Fitting.{fits_of_fill}
 use Rattle.operad_ideals.specs.Parts.{Sign, minus, times, InOnePart}
 use Rattle.operad_ideals.specs.Spelling.{Agrees, exchanged, inside as inside_one}
 use Rattle.operad_ideals.specs.Sorting.{spelled, spelled_sign}
 use Rattle.operad_ideals.specs.Presentations.{Presentation, residue_of, parts, arity_of, without_relations}
+use Rattle.operad_ideals.specs.SpelledSums.{spelled_sum}
 use Rattle.operad_ideals.specs.Rules.{numbered, exchanged_at, Rule, relation, symmetry, rule_terms}
 use Rattle.operad_ideals.specs.Ideals.{InIdeal}
 use Rattle.operad_ideals.specs.HoleInstances.{HoleInstance, hole_element}
-use Rattle.operad_ideals.specs.IdealLaws.{less_signed, collected, CollectedForms}
+use Rattle.operad_ideals.specs.IdealLaws.{less_signed, CollectedForms}
 use Rattle.operad_ideals.proofs.Signs.{times_assoc}
 use Rattle.operad_ideals.proofs.Links.{two_gone}
-use Rattle.operad_ideals.proofs.Residues.{residue-times, residue_gone, alike_of_gone, less_alike}
+use Rattle.operad_ideals.proofs.Residues.{residue-times, residue_gone}
 use Rattle.operad_ideals.proofs.Exchanged.{graft_row-exchanged}
-use Rattle.operad_ideals.proofs.Spellings.{labelled_once, spelled-agrees}
+use Rattle.operad_ideals.proofs.Spellings.{spelled-agrees}
 use Rattle.operad_ideals.proofs.Ideals.{ideal_zero, ideal-append, ideal-scale, ideal-same}
 use Rattle.operad_ideals.proofs.HoleInstances.{ideals_are_one}
 use Rattle.operad_ideals.proofs.AgreementLinks.{near_spelled}
@@ -65,6 +67,10 @@ record Among (c : RowCtx ℕ) : Type 0 where
   inner : Ctx ℕ
   back : List (Tree ℕ)
   is : (x : Tree ℕ) → fill_row c x ≡ row (front ++ fill inner x ∷ back)
+
+-- the spelled sum over a presentation
+abbrev collected : Presentation → List (ℕ × Tree ℕ) → List (ℕ × Tree ℕ)
+collected p e = spelled_sum p.q (parts p) e
 
 nothing_at : (t : Tree ℕ) → coef {M = Tree ℕ} tree_discrete [] t ≡ 0
 unfolding coef
@@ -178,7 +184,7 @@ module _ (p : Presentation) where
 
   -- ---- an element, less its collected form
 
-  less_collected : (n : ℕ) (e : List (ℕ × Tree ℕ)) → AllTerms e (IsLabelled (arity_of p) n) → InIdeal (without_relations p) n (e ++ scale p.q (collected p e))
+  pub less_collected : (n : ℕ) (e : List (ℕ × Tree ℕ)) → AllTerms e (IsLabelled (arity_of p) n) → InIdeal (without_relations p) n (e ++ scale p.q (collected p e))
   unfolding scale coef
   less_collected n [] h = ideal_zero (without_relations p) n
   less_collected n (x ∷ e) h = ideal-same (without_relations p) n ((x ∷ e) ++ scale p.q (collected p (x ∷ e))) (scale x.0 (less_signed p.q x.1 s u) ++ (e ++ scale p.q (collected p e))) adds_up

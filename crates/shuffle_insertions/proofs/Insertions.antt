@@ -1,6 +1,6 @@
 -- What fills a slot.
 use Rattle.std.proofs.Common.{◌≡◌, ℕ, ◌<◌, ◌≤◌, sym, ◌∙◌, ap, arith, subst}
-use native.Mathlib.Decide.{ℕ_discrete, dec_lt}
+use native.Mathlib.Decide.{ℕ_discrete}
 use Rattle.labelled_trees.specs.Trees.{Tree, leaf, graft}
 use Rattle.shuffle_insertions.specs.ShuffleTrees.{least, IsRising, IsShuffle}
 use Rattle.labelled_trees.specs.Labelled.{Fits}
@@ -11,7 +11,7 @@ use Rattle.labelled_trees.proofs.Leaves.{by_leaf, at_leaf}
 use Rattle.labelled_trees.proofs.GraftLeaves.{sum_leaves-graft}
 use Rattle.shuffle_insertions.proofs.LabelSums.{same_counts, same_sums}
 use Rattle.labelled_trees.proofs.ContextLeaves.{sum-fill}
-use Rattle.shuffle_insertions.proofs.Rising.{head, rising_change, rising-fill, least-occurs, least-le}
+use Rattle.shuffle_insertions.proofs.Rising.{head, rising_change, rising-fill, least_same}
 use Rattle.labelled_trees.proofs.Fitting.{fits_parts, fits-graft, fits_of_fill, fits-fill, fits_of_graft}
 
 abbrev pub InRange : ℕ → ℕ → Type 0
@@ -22,10 +22,7 @@ all_among k x h = by_leaf x (InRange k) h.only
 
 -- shuffle trees with the same labels have the same least leaf
 pub same_least : (k : ℕ) (x y : Tree ℕ) → IsShuffle k x → IsShuffle k y → least x ≡ least y
-same_least k x y hx hy =
-    let a : least y ≤ least x = at_leaf y (λ i. least y ≤ i) (least x) (least-le y hy.rising) (subst (λ n. 0 < n) (same_counts k x y hx hy (least x)) (least-occurs x hx.rising)) in
-    let b : least x ≤ least y = at_leaf x (λ i. least x ≤ i) (least y) (least-le x hx.rising) (subst (λ n. 0 < n) (sym (same_counts k x y hx hy (least y))) (least-occurs y hy.rising)) in
-    omega arith
+same_least k x y hx hy = least_same x y hx.rising hy.rising (same_counts k x y hx hy)
 
 module _ (k : ℕ) (s : ℕ → Tree ℕ) (h : PartsRise k s) (x : Tree ℕ) (hx : IsShuffle k x) where
   order_kept : (i j : ℕ) → InRange k i → InRange k j → i < j → least (s i) < least (s j)
@@ -56,13 +53,6 @@ fill_slot-valid k n f x y h hx hy w = record {
 
     counts : (i : ℕ) → occurs i (fill_slot f x) ≡ occurs i (fill_slot f y)
     counts i = sum-fill f.context (graft x f.parts) (graft y f.parts) (λ n. one_if (ℕ_discrete n i)) (occurs-graft k f.parts x y hx hy i)
-
-pub once_of : (n : ℕ) (x : Tree ℕ) → IsShuffle n x → (j : ℕ) → occurs j x ≤ 1
-once_of n x h j = go (dec_lt 0 (occurs j x))
-  where
-    go : Dec (0 < occurs j x) → occurs j x ≤ 1
-    go (yes o) = let r = h.only j o in let e : occurs j x ≡ 1 = h.each j r.0 r.1 in omega arith
-    go (no z) = omega arith
 
 -- and over labels
 pub fill_slot-fits : (arity : ℕ → ℕ) (k : ℕ) (f : Slot) (x y : Tree ℕ) → IsShuffle k x → IsShuffle k y → Fits arity (fill_slot f x) → Fits arity y → Fits arity (fill_slot f y)

@@ -6,7 +6,7 @@ use native.Mathlib.Decide.{ℕ_discrete, dec_lt}
 use Rattle.labelled_trees.specs.Trees.{Tree, Row, leaf, node, none, more, graft, graft_row, join, IsNode, vertices}
 use Rattle.labelled_trees.specs.Contexts.{fill}
 use Rattle.shuffle_insertions.specs.ShuffleTrees.{least, IsRising, IsShuffle}
-use Rattle.labelled_trees.specs.Leaves.{one_if, occurs}
+use Rattle.labelled_trees.specs.Leaves.{one_if, choose, occurs}
 use Rattle.shuffle_insertions.specs.Slots.{Slot, fill_slot, PartsRise}
 use Rattle.labelled_trees.specs.Ranks.{below, standard}
 use Rattle.labelled_trees.specs.Trees.{leaves}
@@ -18,7 +18,7 @@ use Rattle.modular_sums.specs.Lists.{Mem}
 use Rattle.shuffle_insertions.proofs.Counted.{times_mem, mem_times}
 use Rattle.shuffle_insertions.proofs.TreeOrders.{length_leaves, leaves_count}
 use Rattle.shuffle_insertions.proofs.Frames.{frame_of}
-use Rattle.shuffle_places.specs.Places.{divisor_of, choose, of_rank, inputs_of, frame_at}
+use Rattle.shuffle_places.specs.Places.{divisor_of, of_rank, inputs_of, frame_at}
 use Rattle.shuffle_places.proofs.RankedParts.{Ranked, ranked}
 use Rattle.shuffle_places.proofs.Places.{of_pattern}
 use Rattle.shuffle_places.specs.Cuts.{numbers, numbers_row, start, IsCut}
@@ -27,7 +27,8 @@ use Rattle.labelled_trees.proofs.GraftLeaves.{graft_ext, sum_leaves-graft}
 use Rattle.labelled_trees.proofs.Leaves.{sum_leaves-same, AllLeaves-imp}
 use Rattle.labelled_trees.proofs.ContextLeaves.{sum_of_fill}
 use Rattle.shuffle_insertions.proofs.Rising.{rising_of_fill}
-use Rattle.shuffle_insertions.proofs.Insertions.{InRange, all_among, once_of}
+use Rattle.shuffle_insertions.proofs.Insertions.{InRange, all_among}
+use Rattle.shuffle_insertions.proofs.LabelSums.{once_of}
 use Rattle.labelled_trees.proofs.Ranks.{same_if, below_sum}
 
 mutual

@@ -7,15 +7,16 @@ use Rattle.labelled_trees.specs.Trees.{Tree, leaf, graft}
 use Rattle.labelled_trees.specs.Leaves.{sum_leaves, leaf_count, occurs, one_if}
 use Rattle.labelled_trees.specs.Equality.{tree_discrete}
 use Rattle.labelled_trees.specs.Labelled.{IsLabelled}
-use Rattle.labelled_trees.proofs.Leaves.{by_leaf, sum_leaves-≤, AllLeaves-each}
-use Rattle.labelled_trees.proofs.Counts.{leaf_count-labelled}
+use Rattle.labelled_trees.proofs.Leaves.{by_leaf, sum_leaves-≤}
+use Rattle.labelled_trees.proofs.Counts.{leaf_count-numbered}
 use Rattle.labelled_trees.proofs.ContextLeaves.{sum_of_fill}
 use Rattle.labelled_trees.proofs.GraftLeaves.{sum_leaves-graft}
 use Rattle.shuffle_insertions.specs.ShuffleTrees.{least, IsRising, IsShuffleTree}
 use Rattle.shuffle_insertions.specs.Frames.{Frame, insert, IsFrame}
 use Rattle.shuffle_insertions.specs.Slots.{Slot, fill_slot, PartsRise}
 use Rattle.shuffle_insertions.specs.Orders.{IsTreeOrder}
-use Rattle.shuffle_insertions.proofs.Rising.{least-occurs}
+use Rattle.shuffle_insertions.proofs.Rising.{rising-some_leaf}
+use Rattle.shuffle_insertions.proofs.LabelSums.{numbered_of_shuffle}
 use Rattle.shuffle_insertions.proofs.Frames.{SlotOf, slot_of}
 use Rattle.shuffle_places.specs.Places.{frame_at}
 use Rattle.shuffle_places.proofs.Sizes.{one_size}
@@ -50,26 +51,13 @@ setting_of c = setting c.presentation c.compare c.elements
 
 -- ---- arities
 
-leaves_of : (arity : ℕ → ℕ) (n : ℕ) (t : Tree ℕ) → IsShuffleTree arity n t → leaf_count t ≡ n
-leaves_of arity n t h = leaf_count-labelled arity n t record { fits = h.fits; each = h.shuffle.each; only = h.shuffle.only }
-
-some_leaf : (t : Tree ℕ) → IsRising t → 1 ≤ leaf_count t
-some_leaf t h =
-    let a : occurs (least t) t ≤ leaf_count t = sum_leaves-≤ t _ (λ i. 1) (AllLeaves-each t _ (λ k. at_most _)) in
-    let b : 0 < occurs (least t) t = least-occurs t h in
-    omega (arith, a, b)
-  where
-    at_most : {C : Type 0} (d : Dec C) → one_if d ≤ 1
-    at_most (yes _) = omega arith
-    at_most (no _) = omega arith
-
 -- what stands in a slot has no greater arity
 arity_le : (arity : ℕ → ℕ) (m n : ℕ) (f : Slot) → PartsRise m f.parts → (x : Tree ℕ) → IsShuffleTree arity m x → IsShuffleTree arity n (fill_slot f x) → m ≤ n
 arity_le arity m n f rises x hx v =
     let k : leaf_count (graft x f.parts) ≤ leaf_count (fill_slot f x) = sum_of_fill f.context (graft x f.parts) (λ i. 1) in
     let l : leaf_count x ≤ sum_leaves x (λ i. leaf_count (f.parts i))
-    = sum_leaves-≤ x (λ i. 1) (λ i. leaf_count (f.parts i)) (by_leaf x (λ i. 1 ≤ leaf_count (f.parts i)) (λ i o. let r = hx.shuffle.only i o in some_leaf (f.parts i) (rises.each i r.0 r.1))) in
-    omega (arith, k, l, sum_leaves-graft x f.parts (λ i. 1), leaves_of arity m x hx, leaves_of arity n (fill_slot f x) v)
+    = sum_leaves-≤ x (λ i. 1) (λ i. leaf_count (f.parts i)) (by_leaf x (λ i. 1 ≤ leaf_count (f.parts i)) (λ i o. let r = hx.shuffle.only i o in rising-some_leaf (f.parts i) (rises.each i r.0 r.1))) in
+    omega (arith, k, l, sum_leaves-graft x f.parts (λ i. 1), leaf_count-numbered m x (numbered_of_shuffle hx.shuffle), leaf_count-numbered n (fill_slot f x) (numbered_of_shuffle v.shuffle))
 
 module _ (c : Given) (n : ℕ) (le : n ≤ c.most) where
   abbrev p : Presentation

@@ -19,7 +19,7 @@ use Rattle.operad_ideals.specs.Laws.{arity}
 use Rattle.operad_ideals.specs.Presentations.{residue_of}
 use Rattle.operad_ideals.proofs.Signs.{times_comm, sign_of-add}
 use Rattle.operad_ideals.proofs.Residues.{residue-times}
-use Rattle.operad_ideals.proofs.LeastLeaves.{occurs-least_leaf}
+use Rattle.operad_ideals.proofs.LeastLeaves.{occurs-least_leaf, least_leaf-le}
 use Rattle.operad_ideals.proofs.SameOrder.{parts_sign-order}
 use Rattle.operad_ideals.proofs.Spellings.{least_leaves-spelled_row}
 use Rattle.operad_ideals.proofs.SortedLists.{tested, below, in_itself}
@@ -46,26 +46,6 @@ sign-turn plus = refl
 sign-turn minus = refl
 
 -- ---- least leaves
-
-lower : (P : ℕ → Type 0) (a b : ℕ) → P a → P b → P (min a b)
-lower P a b h k = go (dec_lt a b)
-  where
-    go : Dec (a < b) → P (min a b)
-    go (yes lt) = let e : a ≡ min a b = omega (arith, lt) in subst P e h
-    go (no f) = let e : b ≡ min a b = omega (arith, f) in subst P e k
-
-mutual
-  least_leaf-le : (t : Tree ℕ) → AllLeaves t (λ i. least_leaf t ≤ i)
-  least_leaf-le (leaf n) = omega arith
-  least_leaf-le (node g r) = least_leaf_row-le r
-
-  least_leaf_row-le : (r : Row ℕ) → AllRow r (λ i. least_leaf_row r ≤ i)
-  least_leaf_row-le none = tt
-  least_leaf_row-le (more t none) = (least_leaf-le t, tt)
-  least_leaf_row-le (more t (more u r)) = (
-    AllLeaves-imp t (λ i. least_leaf t ≤ i) (λ i. min (least_leaf t) (least_leaf_row (more u r)) ≤ i) (λ i k. omega (arith, k)) (least_leaf-le t),
-    AllRow-imp (more u r) (λ i. least_leaf_row (more u r) ≤ i) (λ i. min (least_leaf t) (least_leaf_row (more u r)) ≤ i) (λ i k. omega (arith, k)) (least_leaf_row-le (more u r)),
-  )
 
 -- the least leaf of a tree is the first leaf of a rising tree with the same leaves
 pub least_leaf-is : (arity : ℕ → ℕ) (t s : Tree ℕ) → Fits arity t → IsRising s → ((i : ℕ) → occurs i t ≡ occurs i s) → least_leaf t ≡ least s

@@ -25,7 +25,7 @@ use Rattle.operad_ideals.proofs.ArityOne.{part_below}
 use Rattle.operad_ideals.proofs.Exchanged.{graft_row-exchanged}
 use Rattle.operad_ideals.proofs.SortedLists.{exchange, exchange-map, sort_by-exchange, below, below_less, below_more, tested}
 use Rattle.operad_ideals.proofs.SortedParts.{sort_parts-exchange, parts_sign-exchange}
-use Rattle.operad_ideals.proofs.Spellings.{labelled_once}
+use Rattle.labelled_trees.proofs.Numbered.{labelled_once}
 use Rattle.shuffle_transfer.specs.Orderings.{IsOrdering}
 use Rattle.shuffle_transfer.specs.ShuffleForms.{ranks, form, form_row}
 use Rattle.shuffle_transfer.specs.Labels.{letters, place_of, label, shuffle_form}

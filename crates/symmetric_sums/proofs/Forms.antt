@@ -16,7 +16,8 @@ use Rattle.symmetric_trees.specs.SpellingOrder.{order}
 use Rattle.symmetric_trees.proofs.TreeOrder.{order_is_total}
 use Rattle.symmetric_sums.specs.Collected.{IsReduced, OneCollectedForm}
 use Rattle.symmetric_sums.specs.Collecting.{Pairs}
-use Rattle.symmetric_sums.proofs.LastOnes.{each-imp, pairs_from_AllPairs}
+use Rattle.operad_ideals.proofs.SortedLists.{every_weaker}
+use Rattle.symmetric_sums.proofs.LastOnes.{pairs_from_AllPairs}
 
 -- the coefficient of t, where t is first, and where it isn't
 coef-here : (x : ℕ × Tree ℕ) (e : List (ℕ × Tree ℕ)) → coef tree_discrete (x ∷ e) x.1 ≡ x.0 + coef tree_discrete e x.1
@@ -48,7 +49,7 @@ coef-after t [] h = coef-none t
 coef-after t (x ∷ e) h = coef-other x e t (not_itself t x.1 h.0) ∙ coef-after t e h.1
 
 later : (t u : Tree ℕ) (e : List (ℕ × Tree ℕ)) → order t u ≡ Less → AllByRecursion (λ x. order u x.1 ≡ Less) e → AllByRecursion (λ x. order t x.1 ≡ Less) e
-later t u e l h = each-imp (λ x. order u x.1 ≡ Less) (λ x. order t x.1 ≡ Less) e (λ x k. order_is_total.transitive t u x.1 l k) h
+later t u e l h = every_weaker (λ x. order u x.1 ≡ Less) (λ x. order t x.1 ≡ Less) e (λ x k. order_is_total.transitive t u x.1 l k) h
 
 one_residue : (p a b : ℕ) → a < p → b < p → Alike (p - 1) a b → a ≡ b
 one_residue p a b la lb h =

@@ -4,5 +4,4 @@ pub mod Weights
 pub mod Joining
 pub mod SpelledTerms
 pub mod Forms
-pub mod SymmetryInstances
 pub mod Decisions
