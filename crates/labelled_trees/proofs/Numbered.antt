@@ -1,9 +1,10 @@
 -- Trees numbered by 1 to n.
-use Rattle.std.proofs.Common.{◌≡◌, ℕ, suc, ◌*◌, ◌<◌, ◌≤◌, sym, ◌∙◌, ap, arith}
+use Rattle.std.proofs.Common.{◌≡◌, ℕ, zero, suc, ◌+◌, ◌*◌, ◌<◌, ◌≤◌, sym, ◌∙◌, ap, arith}
 use native.Mathlib.Decide.{dec_lt}
 use Rattle.labelled_trees.specs.Trees.{Tree}
 use Rattle.labelled_trees.specs.Leaves.{sum_leaves, occurs}
 use Rattle.labelled_trees.specs.Labelled.{Fits, IsNumbered, IsLabelled}
+use Rattle.labelled_trees.specs.Ranks.{below}
 use Rattle.labelled_trees.proofs.Leaves.{by_leaf}
 use Rattle.labelled_trees.proofs.RangeSums.{range_sum_ext, by_counts}
 
@@ -59,3 +60,8 @@ numbered_sums {n = n} {x = x} {y = y} hx hy f =
     by_counts (suc n) x f (by_leaf x (λ i. i < suc n) (λ i o. let r = hx.only i o in omega (arith, r.1)))
     ∙ range_sum_ext (suc n) (λ i. occurs i x * f i) (λ i. occurs i y * f i) (λ i. ap (λ k. k * f i) (numbered_counts hx hy i))
     ∙ sym (by_counts (suc n) y f (by_leaf y (λ i. i < suc n) (λ i o. let r = hy.only i o in omega (arith, r.1))))
+
+-- below each number of the range stand the numbers before it
+pub below_numbered : {n : ℕ} {t : Tree ℕ} → IsNumbered n t → (k : ℕ) → k ≤ n → below (suc k) t ≡ k
+below_numbered h zero le = omega (arith, numbered_no_zero h)
+below_numbered {t = t} h (suc k) le = let o : occurs (suc k) t ≡ 1 = h.each (suc k) (omega arith) le in omega (arith, o, below_numbered h k (omega (arith, le)))

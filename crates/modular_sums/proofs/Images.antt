@@ -1,5 +1,5 @@
 -- The image of a sum depends on its coefficients alone.
-use Rattle.std.proofs.Common.{◌≡◌, ◌≢◌, ℕ, zero, suc, ◌+◌, ◌*◌, ◌≤◌, List, [], ◌∷◌, arith, refl, sym, ◌∙◌, ap}
+use Rattle.std.proofs.Common.{◌≡◌, ◌≢◌, ℕ, zero, suc, ◌+◌, ◌*◌, ◌≤◌, List, [], ◌∷◌, length, arith, refl, sym, ◌∙◌, ap}
 use mathlib.Core.List.{◌++◌}
 use mathlib.Core.Path.{ap₂}
 use Rattle.modular_sums.specs.Residues.{Alike}
@@ -7,10 +7,6 @@ use Rattle.modular_sums.specs.Sums.{hit, coef, scale, Same, expand, moved, AllTe
 use Rattle.modular_sums.proofs.Residues.{alike_add, alike_mul, alike_gone, alike_of_gone}
 use Rattle.modular_sums.proofs.Sums.{coef-append, coef-scale}
 use Rattle.modular_sums.proofs.Replacements.{sum_over, coef-moved}
-
-abbrev size : {X : Type 0} → List X → ℕ
-size [] = 0
-size (x ∷ l) = suc (size l)
 
 abbrev keep : {X C : Type 0} → Dec C → X → List X → List X
 keep (yes _) x l = l
@@ -59,11 +55,11 @@ module _ (M : Type 0) (dec : Discrete M) (q : ℕ) where
   without m [] = []
   without m (x ∷ e) = keep (dec x.1 m) x (without m e)
 
-  keep_size : (d : (ℕ × M)) (C : Type 0) (c : Dec C) (l : List (ℕ × M)) → size (keep c d l) ≤ suc (size l)
+  keep_size : (d : (ℕ × M)) (C : Type 0) (c : Dec C) (l : List (ℕ × M)) → length (keep c d l) ≤ suc (length l)
   keep_size d C (yes _) l = omega arith
   keep_size d C (no _) l = omega arith
 
-  without_size : (m : M) (e : List (ℕ × M)) → size (without m e) ≤ size e
+  without_size : (m : M) (e : List (ℕ × M)) → length (without m e) ≤ length e
   unfolding without
   without_size m [] = omega arith
   without_size m (x ∷ e) = omega (arith, keep_size x (x.1 ≡ m) (dec x.1 m) (without m e), without_size m e)
@@ -122,7 +118,7 @@ module _ (M : Type 0) (dec : Discrete M) (q : ℕ) where
       go (yes _) = omega (arith, sum_without x.1 e f)
       go (no n) = absurd (n refl)
 
-  sums_zero : (n : ℕ) (e : List (ℕ × M)) (f : M → ℕ) → size e ≤ n → ((t : M) → Alike q (coef dec e t) 0) → Alike q (sum_over e f) 0
+  sums_zero : (n : ℕ) (e : List (ℕ × M)) (f : M → ℕ) → length e ≤ n → ((t : M) → Alike q (coef dec e t) 0) → Alike q (sum_over e f) 0
   sums_zero n [] f le h = refl
   sums_zero zero (x ∷ e) f le h = absurd (omega arith)
   sums_zero (suc n) (x ∷ e) f le h =
@@ -137,7 +133,7 @@ module _ (M : Type 0) (dec : Discrete M) (q : ℕ) where
   -- a sum of values at the trees of an element depends on its coefficients alone
   pub same_sum : (e g : List (ℕ × M)) (f : M → ℕ) → Same dec q e g → Alike q (sum_over e f) (sum_over g f)
   same_sum e g f h =
-      let z : Alike q (sum_over (e ++ scale q g) f) 0 = sums_zero (size (e ++ scale q g)) (e ++ scale q g) f (omega arith) gone in
+      let z : Alike q (sum_over (e ++ scale q g) f) 0 = sums_zero (length (e ++ scale q g)) (e ++ scale q g) f (omega arith) gone in
       let s : Alike q (sum_over e f + q * sum_over g f) 0 = rw (sum_over-append e (scale q g) f, sum_over-scale q g f) at z in
       alike_of_gone q (sum_over e f) (sum_over g f) s
     where

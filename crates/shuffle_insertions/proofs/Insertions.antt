@@ -1,6 +1,6 @@
 -- What fills a slot.
 use Rattle.std.proofs.Common.{◌≡◌, ℕ, ◌<◌, ◌≤◌, sym, ◌∙◌, ap, arith, subst}
-use native.Mathlib.Decide.{ℕ_discrete}
+use native.Mathlib.Decide.{ℕ_discrete, dec_lt}
 use Rattle.labelled_trees.specs.Trees.{Tree, leaf, graft}
 use Rattle.shuffle_insertions.specs.ShuffleTrees.{least, IsRising, IsShuffle}
 use Rattle.labelled_trees.specs.Labelled.{Fits}
@@ -24,17 +24,27 @@ all_among k x h = by_leaf x (InRange k) h.only
 pub same_least : (k : ℕ) (x y : Tree ℕ) → IsShuffle k x → IsShuffle k y → least x ≡ least y
 same_least k x y hx hy = least_same x y hx.rising hy.rising (same_counts k x y hx hy)
 
-module _ (k : ℕ) (s : ℕ → Tree ℕ) (h : PartsRise k s) (x : Tree ℕ) (hx : IsShuffle k x) where
-  order_kept : (i j : ℕ) → InRange k i → InRange k j → i < j → least (s i) < least (s j)
-  order_kept i j a b lt = h.order i j a.0 lt b.1
+-- the parts of a slot stand in order
+pub parts_in_order : (k : ℕ) (s : ℕ → Tree ℕ) → PartsRise k s → (i j : ℕ) → InRange k i → InRange k j → i < j → least (s i) < least (s j)
+parts_in_order k s h i j a b lt = h.order i j a.0 lt b.1
 
+-- a function that rises on some numbers tells their order
+pub order_back : (P : ℕ → Type 0) (f : ℕ → ℕ) → ((i j : ℕ) → P i → P j → i < j → f i < f j) → (i j : ℕ) → P i → P j → f i < f j → i < j
+order_back P f up i j a b lt = go (dec_lt i j) (ℕ_discrete i j)
+  where
+    go : Dec (i < j) → Dec (i ≡ j) → i < j
+    go (yes h) e = h
+    go (no h) (yes e) = let same : f i ≡ f j = ap f e in absurd (omega (arith, same, lt))
+    go (no h) (no n) = let turned : f j < f i = up j i b a (omega (arith, h, n)) in absurd (omega (arith, turned, lt))
+
+module _ (k : ℕ) (s : ℕ → Tree ℕ) (h : PartsRise k s) (x : Tree ℕ) (hx : IsShuffle k x) where
   pub least-graft : least (graft x s) ≡ least (s (least x))
   least-graft =
-      let y = head ℕ (InRange k) leaf s (λ i a. h.each i a.0 a.1) order_kept x (rw graft_leaf hx.rising) (all_among k x hx) in
+      let y = head ℕ (InRange k) leaf s (λ i a. h.each i a.0 a.1) (parts_in_order k s h) x (rw graft_leaf hx.rising) (all_among k x hx) in
       y.3 ∙ ap (λ n. least (s n)) (sym y.2 ∙ ap least (graft_leaf x))
 
   pub rising-graft : IsRising (graft x s)
-  rising-graft = rising_change ℕ (InRange k) leaf s (λ i a. h.each i a.0 a.1) order_kept x (rw graft_leaf hx.rising) (all_among k x hx)
+  rising-graft = rising_change ℕ (InRange k) leaf s (λ i a. h.each i a.0 a.1) (parts_in_order k s h) x (rw graft_leaf hx.rising) (all_among k x hx)
 
 pub occurs-graft : (k : ℕ) (s : ℕ → Tree ℕ) (x y : Tree ℕ) → IsShuffle k x → IsShuffle k y → (i : ℕ) → occurs i (graft x s) ≡ occurs i (graft y s)
 occurs-graft k s x y hx hy i =

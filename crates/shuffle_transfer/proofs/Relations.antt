@@ -14,7 +14,7 @@ use Rattle.labelled_trees.proofs.Fitting.{fits_parts}
 use Rattle.labelled_trees.proofs.Ranks.{below-mono, below_all, standard_each, standard_only}
 use Rattle.shuffle_insertions.specs.ShuffleTrees.{least, IsRising}
 use Rattle.shuffle_insertions.specs.Slots.{PartsRise}
-use Rattle.shuffle_insertions.proofs.Insertions.{InRange}
+use Rattle.shuffle_insertions.proofs.Insertions.{InRange, order_back}
 use Rattle.shuffle_insertions.proofs.Rising.{least-occurs}
 use Rattle.shuffle_insertions.proofs.Named.{one_if_le}
 use Rattle.shuffle_transfer.specs.ShuffleForms.{form}
@@ -151,12 +151,7 @@ module _ (label : ℕ → List ℕ → ℕ) (arity : ℕ → ℕ) (m n : ℕ) (g
   lined_order i j a b lt = in_order i j a b lt (dec_lt (least (G (behind i))) (least (G (behind j))))
 
   pub lined_back : (i j : ℕ) → InRange m i → InRange m j → least (form label (lined i)) < least (form label (lined j)) → i < j
-  lined_back i j a b lt = go (dec_lt i j) (ℕ_discrete i j)
-    where
-      go : Dec (i < j) → Dec (i ≡ j) → i < j
-      go (yes h) e = h
-      go (no h) (yes e) = let l : least (form label (lined i)) ≡ least (form label (lined j)) = ap (λ k. least (form label (lined k))) e in absurd (omega (arith, l, lt))
-      go (no h) (no f) = let l : least (form label (lined j)) < least (form label (lined i)) = lined_order j i b a (omega (arith, h, f)) in absurd (omega (arith, l, lt))
+  lined_back = order_back (InRange m) (λ k. least (form label (lined k))) lined_order
 
   pub lined_rise : PartsRise m (λ j. form label (lined j))
   unfolding lined G
