@@ -7,7 +7,7 @@ use Rattle.labelled_trees.specs.Contexts.{Ctx, RowCtx, hole, inside, here, past,
 use Rattle.labelled_trees.specs.Leaves.{one_if, choose, occurs, occurs_row}
 use Rattle.labelled_trees.proofs.Contexts.{graft-fill, node-eq, more-eq}
 use Rattle.labelled_trees.proofs.GraftLeaves.{graft_ext, graft_row_ext}
-use Rattle.labelled_trees.proofs.Leaves.{by_leaf, by_row, one_if-yes, occurs_self}
+use Rattle.labelled_trees.proofs.Leaves.{by_leaf, by_row, occurs_self}
 use Rattle.labelled_trees.proofs.Factors.{choose-yes, choose-no}
 
 mutual

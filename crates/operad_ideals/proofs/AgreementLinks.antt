@@ -1,10 +1,9 @@
 -- A labelled tree less the sign times a tree that agrees with it is a sum of instances of symmetry rules.
-use Rattle.std.proofs.Common.{◌≡◌, ℕ, ◌*◌, ◌<◌, List, [], ◌∷◌, ◌++◌, length, refl, sym, ◌∙◌, ap, subst}
+use Rattle.std.proofs.Common.{◌≡◌, ℕ, ◌*◌, List, [], ◌∷◌, ◌++◌, length, refl, sym, ◌∙◌, ap, subst}
 use mathlib.Core.Path.{ap₂}
 use Rattle.modular_sums.proofs.Sums.{Member-same}
 use Rattle.labelled_trees.specs.Trees.{Tree, Row, node, more, row, graft_row}
 use Rattle.labelled_trees.specs.Contexts.{Ctx, RowCtx, hole, inside, here, past, fill, fill_row, compose}
-use Rattle.labelled_trees.specs.Leaves.{occurs}
 use Rattle.labelled_trees.specs.Equality.{tree_discrete}
 use Rattle.labelled_trees.specs.Labelled.{IsLabelled}
 use Rattle.labelled_trees.proofs.Contexts.{fill-compose}

@@ -1,11 +1,11 @@
 -- The sorted spelling: what it keeps, that it agrees and is sorted, and that it is the only one.
-use Rattle.std.proofs.Common.{◌≡◌, ⊎_elim, ℕ, suc, ◌<◌, ◌≤◌, List, [], ◌∷◌, ◌++◌, length, map, take, drop, get_or, refl, sym, ap, ap₂, ◌∙◌, subst, arith}
+use Rattle.std.proofs.Common.{◌≡◌, ℕ, suc, ◌<◌, ◌≤◌, List, [], ◌∷◌, ◌++◌, length, map, take, drop, get_or, refl, sym, ap, ap₂, ◌∙◌, subst, arith}
 use native.Mathlib.Decide.{ℕ_discrete}
 use Rattle.std.specs.List.{AllByRecursion}
 use Rattle.std.proofs.Math.ListN.{length-map}
 use Rattle.labelled_trees.specs.Trees.{Tree, Row, leaf, node, none, more, row, inputs, width}
 use Rattle.labelled_trees.specs.Leaves.{sum_leaves, occurs, occurs_row, one_if}
-use Rattle.labelled_trees.specs.Labelled.{Fits, FitsRow, IsLabelled}
+use Rattle.labelled_trees.specs.Labelled.{Fits, FitsRow}
 use Rattle.labelled_trees.proofs.Numbered.{labelled_once}
 use Rattle.labelled_trees.proofs.Rows.{inputs-row, row-inputs, fits_input, sum_leaves-le_row}
 use Rattle.operad_ideals.specs.Parts.{Part, Sign, plus, times, total}
@@ -13,7 +13,7 @@ use Rattle.operad_ideals.specs.Spelling.{least_leaf, Agrees, same, exchanged, in
 use Rattle.operad_ideals.specs.Sorting.{sort_parts, parts_sign, spelled, spelled_row, spelled_sign, spelled_sign_row}
 use Rattle.operad_ideals.specs.Laws.{arity, OneSpelling}
 use Rattle.operad_ideals.proofs.Signs.{times-plus, times_assoc, times_left_comm}
-use Rattle.operad_ideals.proofs.SortedLists.{Apart, exchange, exchange-map, apart-at, apart-take, apart-drop, apart-map, apart-unmap, tested}
+use Rattle.operad_ideals.proofs.SortedLists.{Apart, exchange, exchange-map, apart-at, apart-take, apart-drop, apart-map, apart-unmap}
 use Rattle.operad_ideals.proofs.SortedParts.{Rise, sort_parts-exchange, parts_sign-exchange, every_sort_parts, sort_parts-same, parts_sign-ascending, sort_parts-rise}
 use Rattle.operad_ideals.proofs.Exchanges.{Reaches, reaches_spelled}
 use Rattle.operad_ideals.proofs.LeastLeaves.{row_apart}

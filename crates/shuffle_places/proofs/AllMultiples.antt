@@ -1,6 +1,5 @@
 -- The list of multiples has exactly the small common multiples.
 use Rattle.std.proofs.Common.{◌≡◌, ℕ, ◌<◌, ◌≤◌, List, [], ◌∷◌, Bool, true, false, cond, refl, sym, ◌∙◌, ap, arith, subst, inl, inr, ◌⊎◌}
-use mathlib.Core.List.{◌++◌}
 use native.Mathlib.Decide.{dec_lt}
 use Rattle.std.specs.declared.cmp.Ordering.TheVariants.{Less}
 use Rattle.std.specs.Ordering.{nat_cmp, is_lt}

@@ -10,7 +10,7 @@ use Rattle.operad_ideals.specs.Sorting.{spelled_sign}
 use Rattle.operad_ideals.specs.Presentations.{Presentation, parts}
 use Rattle.shuffle_transfer.proofs.Labels.{lettered}
 use Rattle.shuffle_transfer.specs.Orderings.{orderings}
-use Rattle.shuffle_transfer.specs.Labels.{Letter, letters, labels, inputs_of, shuffle_form, symmetric_tree, word_discrete, same_cons, letter_discrete, same_letter}
+use Rattle.shuffle_transfer.specs.Labels.{letters, labels, inputs_of, shuffle_form, symmetric_tree, word_discrete, same_cons, letter_discrete, same_letter}
 use Rattle.shuffle_transfer.specs.Transfer.{relabellings, shuffled}
 use Rattle.shuffle_transfer.specs.NormalTrees.{normal_list}
 

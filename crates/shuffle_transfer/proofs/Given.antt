@@ -1,17 +1,17 @@
 -- A certified list of elements, its insertions, and the trees that no leading tree divides.
-use Rattle.std.proofs.Common.{◌≡◌, ℕ, ◌<◌, ◌≤◌, List, [], ◌∷◌, refl, sym, ◌∙◌, arith, subst}
+use Rattle.std.proofs.Common.{◌≡◌, ℕ, ◌≤◌, List, [], ◌∷◌, refl, sym, ◌∙◌, arith, subst}
 use Rattle.std.specs.declared.cmp.Ordering.{Ordering}
 use Rattle.modular_sums.specs.Sums.{Member, moved, AllTerms}
 use Rattle.modular_sums.proofs.Images.{moved_ext}
 use Rattle.labelled_trees.specs.Trees.{Tree, leaf, graft}
-use Rattle.labelled_trees.specs.Leaves.{sum_leaves, leaf_count, occurs, one_if}
+use Rattle.labelled_trees.specs.Leaves.{sum_leaves, leaf_count}
 use Rattle.labelled_trees.specs.Equality.{tree_discrete}
 use Rattle.labelled_trees.specs.Labelled.{IsLabelled}
 use Rattle.labelled_trees.proofs.Leaves.{by_leaf, sum_leaves-≤}
 use Rattle.labelled_trees.proofs.Counts.{leaf_count-numbered}
 use Rattle.labelled_trees.proofs.ContextLeaves.{sum_of_fill}
 use Rattle.labelled_trees.proofs.GraftLeaves.{sum_leaves-graft}
-use Rattle.shuffle_insertions.specs.ShuffleTrees.{least, IsRising, IsShuffleTree}
+use Rattle.shuffle_insertions.specs.ShuffleTrees.{IsShuffleTree}
 use Rattle.shuffle_insertions.specs.Frames.{Frame, insert, IsFrame}
 use Rattle.shuffle_insertions.specs.Slots.{Slot, fill_slot, PartsRise}
 use Rattle.shuffle_insertions.specs.Orders.{IsTreeOrder}

@@ -1,6 +1,5 @@
 -- Lists that come from one another by picking entry after entry.
 use Rattle.std.proofs.Common.{◌≡◌, ℕ, zero, suc, List, [], ◌∷◌, map, length, refl, sym, ◌∙◌, ap, arith, subst, inl, inr, ◌⊎◌}
-use Rattle.std.specs.Prelude.{flat_map}
 use Rattle.modular_sums.specs.Lists.{Mem, Distinct, Rises}
 use Rattle.modular_sums.proofs.Lists.{mem_map, mem_of_map, mem_flat, mem_of_flat}
 use Rattle.shuffle_transfer.specs.Orderings.{Pick, behind, picks, permutations}

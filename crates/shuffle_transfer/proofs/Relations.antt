@@ -1,5 +1,5 @@
 -- Any inputs are rising inputs behind a permutation: an instance of a relation has, with its sign, the shuffle form of an insertion.
-use Rattle.std.proofs.Common.{◌≡◌, ℕ, zero, suc, ◌*◌, ◌<◌, ◌≤◌, List, sym, ◌∙◌, ap, arith, subst}
+use Rattle.std.proofs.Common.{◌≡◌, ℕ, suc, ◌<◌, ◌≤◌, List, sym, ◌∙◌, ap, arith, subst}
 use native.Mathlib.Decide.{dec_lt, ℕ_discrete}
 use Rattle.labelled_trees.specs.Trees.{Tree, leaf, graft}
 use Rattle.labelled_trees.specs.Leaves.{one_if, AllLeaves, occurs}

@@ -1,19 +1,18 @@
 -- The turns of a tree count for the sign of its sorted spelling.
-use Rattle.std.proofs.Common.{◌≡◌, ⊎_elim, ℕ, zero, suc, ◌^◌, ◌<◌, ◌≤◌, List, ◌∷◌, map, min, refl, sym, ◌∙◌, ap, arith, subst}
+use Rattle.std.proofs.Common.{◌≡◌, ⊎_elim, ℕ, zero, suc, ◌^◌, ◌<◌, ◌≤◌, List, ◌∷◌, map, refl, sym, ◌∙◌, ap, arith, subst}
 use mathlib.Core.Path.{ap₂}
 use Rattle.std.proofs.lemmas.List.{map-id}
-use native.Mathlib.Decide.{dec_lt}
 use Rattle.std.proofs.Math.Nat.{pow-zero, pow-succ'}
 use Rattle.modular_sums.specs.Residues.{Alike}
 use Rattle.modular_sums.proofs.Residues.{alike_mul}
 use Rattle.labelled_trees.specs.Trees.{Tree, Row, leaf, node, none, more, inputs}
-use Rattle.labelled_trees.specs.Leaves.{occurs, occurs_row, AllLeaves, AllRow}
+use Rattle.labelled_trees.specs.Leaves.{occurs, occurs_row}
 use Rattle.labelled_trees.specs.Labelled.{Fits, FitsRow}
-use Rattle.labelled_trees.proofs.Leaves.{at_leaf, AllLeaves-imp, AllRow-imp}
+use Rattle.labelled_trees.proofs.Leaves.{at_leaf}
 use Rattle.shuffle_insertions.specs.ShuffleTrees.{least, IsRising}
 use Rattle.shuffle_insertions.proofs.Rising.{least-occurs, least-le}
 use Rattle.operad_ideals.specs.Parts.{Part, Sign, plus, minus, times, sign_of}
-use Rattle.operad_ideals.specs.Spelling.{least_leaf, least_leaf_row}
+use Rattle.operad_ideals.specs.Spelling.{least_leaf}
 use Rattle.operad_ideals.specs.Sorting.{parts_sign, spelled_row, spelled_sign, spelled_sign_row}
 use Rattle.operad_ideals.specs.Laws.{arity}
 use Rattle.operad_ideals.specs.Presentations.{residue_of}

@@ -2,7 +2,7 @@
 use Rattle.std.proofs.Common.{◌≡◌, inl, inr, ⊎_elim, ℕ, ◌<◌, ◌≤◌, Bool, true, false, cond, List, [], ◌∷◌, ◌++◌, length, take, drop, refl, sym, ap, ap₂, ◌∙◌, subst, arith, lt-ltb, le-ltb, length-take, length-drop, take-append-drop}
 use Rattle.std.proofs.Math.Seq.{take-append_seam, drop-append_seam}
 use Rattle.modular_sums.specs.Lists.{Mem, Distinct}
-use Rattle.modular_sums.proofs.Lists.{both_true, true_both, mem_either, mem_left, mem_right, Distinct-append}
+use Rattle.modular_sums.proofs.Lists.{both_true, true_both, mem_left, mem_right, Distinct-append}
 use Rattle.operad_ideals.specs.Parts.{Kind, symmetric, skew, free, Part, plus, times, total}
 use Rattle.operad_ideals.specs.Sorting.{sort_by, sort_part, part_sign, sort_parts, parts_sign}
 use Rattle.operad_ideals.proofs.SortedLists.{Apart, Ascends, every_weaker, tested, every_in, in_itself, sort_by-ascends, sort_by-same, order_sign-ascending, apart-take, apart-drop}

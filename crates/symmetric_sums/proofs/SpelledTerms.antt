@@ -11,9 +11,7 @@ use Rattle.modular_sums.proofs.Residues.{alike_add, alike_cancel, alike_drop}
 use Rattle.labelled_trees.specs.Trees.{Tree}
 use Rattle.labelled_trees.specs.Equality.{tree_discrete}
 use Rattle.labelled_trees.specs.Meaning.{tree_of}
-use Rattle.operad_ideals.specs.Parts.{plus, minus}
 use Rattle.operad_ideals.specs.Parts as math
-use Rattle.operad_ideals.specs.Laws.{arity}
 use Rattle.operad_ideals.specs.Spelling.{IsSorted}
 use Rattle.operad_ideals.specs.Sorting.{spelled, spelled_sign}
 use Rattle.operad_ideals.specs.SpelledSums.{spelled_sum}

@@ -1,5 +1,4 @@
 use Rattle.std.proofs.Common.{refl, sym, subst, arith, ◌<◌}
-use Rattle.labelled_trees.specs.Meaning.{tree_of}
 use Rattle.operad_ideals.specs.Laws.{arity}
 use Rattle.symmetric_trees.specs.Generators.{parts_at}
 use Rattle.symmetric_sums.specs.Terms.{HaveArity}
