@@ -8,6 +8,7 @@ use Rattle.labelled_trees.specs.Insertions.{IsContext}
 use Rattle.labelled_trees.specs.Labelled.{Fits, IsLabelled}
 use Rattle.labelled_trees.proofs.Fitting.{fits-fill}
 use Rattle.labelled_trees.proofs.Leaves.{occurs_self}
+use Rattle.labelled_trees.proofs.Numbered.{labelled_once}
 
 mutual
   pub sum-fill : {A : Type 0} (c : Ctx A) (x y : Tree A) (f : A → ℕ) → sum_leaves x f ≡ sum_leaves y f → sum_leaves (fill c x) f ≡ sum_leaves (fill c y) f
@@ -71,3 +72,7 @@ labelled-replaced arity n c x y h k e = record {
   where
     counts : (i : ℕ) → occurs i (fill c x) ≡ occurs i (fill c y)
     counts i = sum-fill c x y (λ n. one_if (ℕ_discrete n i)) (e i)
+
+-- in a part of a labelled tree no number stands twice
+pub once_inside : (arity : ℕ → ℕ) (n : ℕ) (c : Ctx ℕ) (x : Tree ℕ) → IsLabelled arity n (fill c x) → (i : ℕ) → occurs i x ≤ 1
+once_inside arity n c x h i = let k : occurs i x ≤ occurs i (fill c x) = sum_of_fill c x (λ m. one_if (ℕ_discrete m i)) in omega (arith, k, labelled_once h i)

@@ -18,6 +18,11 @@ pub hit-mul : {A : Type 0} (d : Dec A) (k c : ℕ) → hit d (k * c) ≡ k * hit
 hit-mul (yes _) k c = refl
 hit-mul (no _) k c = omega arith
 
+pub scale-scale : {M : Type 0} (c d : ℕ) (e : List (ℕ × M)) → scale (c * d) e ≡ scale c (scale d e)
+unfolding scale
+scale-scale c d [] = refl
+scale-scale c d (x ∷ e) = let a : c * d * x.0 ≡ c * (d * x.0) = omega arith in ap₂ (λ k l. (k, x.1) ∷ l) a (scale-scale c d e)
+
 module _ {M : Type 0} (dec : Discrete M) where
   pub coef-append : (e f : List (ℕ × M)) (t : M) → coef dec (e ++ f) t ≡ coef dec e t + coef dec f t
   unfolding coef

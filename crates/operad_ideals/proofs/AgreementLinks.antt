@@ -16,7 +16,7 @@ use Rattle.operad_ideals.specs.Presentations.{Presentation, residue_of, parts, a
 use Rattle.operad_ideals.specs.Rules.{numbered, exchanged_at, symmetry}
 use Rattle.operad_ideals.specs.HoleInstances.{HoleInstance, hole_element, InHoleIdeal}
 use Rattle.operad_ideals.specs.IdealLaws.{less_signed, AgreementIsInIdeal}
-use Rattle.operad_ideals.proofs.Links.{two_alike, Link, link_refl, link_move, link_alike, link_trans, member_one}
+use Rattle.modular_sums.proofs.Links.{two_alike, Link, link_refl, link_move, link_alike, link_trans, member_one}
 use Rattle.operad_ideals.proofs.Residues.{residue-times}
 use Rattle.operad_ideals.proofs.Exchanged.{for_leaf, numbered-for_leaf, exchanged-row, graft_row-exchanged}
 use Rattle.operad_ideals.proofs.Agreement.{occurs-agrees, fits-agrees}

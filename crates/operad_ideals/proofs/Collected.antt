@@ -5,6 +5,7 @@ use Rattle.modular_sums.specs.Residues.{Alike}
 use Rattle.modular_sums.specs.Sums.{hit, coef, scale, Same, expand, moved, AllTerms}
 use Rattle.modular_sums.proofs.Residues.{alike_add, alike_mul, alike_of_gone, less_alike}
 use Rattle.modular_sums.proofs.Sums.{hit-mul, coef-append, coef-scale}
+use Rattle.modular_sums.proofs.Coefficients.{coef_nothing}
 use Rattle.modular_sums.proofs.Replacements.{sum_over}
 use Rattle.modular_sums.proofs.Images.{same_sum}
 use Rattle.labelled_trees.specs.Trees.{Tree, Row, node, none, more, row, inputs, width, graft, graft_row}
@@ -24,7 +25,7 @@ use Rattle.operad_ideals.specs.Ideals.{InIdeal}
 use Rattle.operad_ideals.specs.HoleInstances.{HoleInstance, hole_element}
 use Rattle.operad_ideals.specs.IdealLaws.{less_signed, CollectedForms}
 use Rattle.operad_ideals.proofs.Signs.{times_assoc}
-use Rattle.operad_ideals.proofs.Links.{two_gone}
+use Rattle.modular_sums.proofs.Links.{two_gone}
 use Rattle.operad_ideals.proofs.Residues.{residue-times, residue_gone}
 use Rattle.operad_ideals.proofs.Exchanged.{graft_row-exchanged}
 use Rattle.operad_ideals.proofs.Spellings.{spelled-agrees}
@@ -71,10 +72,6 @@ record Among (c : RowCtx ℕ) : Type 0 where
 -- the spelled sum over a presentation
 abbrev collected : Presentation → List (ℕ × Tree ℕ) → List (ℕ × Tree ℕ)
 collected p e = spelled_sum p.q (parts p) e
-
-nothing_at : (t : Tree ℕ) → coef {M = Tree ℕ} tree_discrete [] t ≡ 0
-unfolding coef
-nothing_at t = refl
 
 module _ (p : Presentation) where
   abbrev Agree : Sign → Tree ℕ → Tree ℕ → Type 0
@@ -180,7 +177,7 @@ module _ (p : Presentation) where
           → Alike p.q (coef tree_discrete (collected p (scale x.0 first ++ others)) t) (coef {M = Tree ℕ} tree_discrete [] t)
       go a b = rw (collected-append (scale x.0 first) others, collected-scale x.0 first, coef-append tree_discrete (scale x.0 (collected p first)) (collected p others) t, coef-scale tree_discrete x.0 (collected p first) t)
           (alike_add p.q (x.0 * coef tree_discrete (collected p first) t) (x.0 * coef {M = Tree ℕ} tree_discrete [] t) (coef tree_discrete (collected p others) t) (coef {M = Tree ℕ} tree_discrete [] t)
-          (alike_mul p.q x.0 x.0 (coef tree_discrete (collected p first) t) (coef {M = Tree ℕ} tree_discrete [] t) refl a) b ∙ zeros (coef {M = Tree ℕ} tree_discrete [] t) (nothing_at t))
+          (alike_mul p.q x.0 x.0 (coef tree_discrete (collected p first) t) (coef {M = Tree ℕ} tree_discrete [] t) refl a) b ∙ zeros (coef {M = Tree ℕ} tree_discrete [] t) (coef_nothing tree_discrete t))
 
   -- ---- an element, less its collected form
 
@@ -236,7 +233,7 @@ collected_forms p n d e hd he = (
       alike_of_gone p.q (coef tree_discrete (collected p d) t) (coef tree_discrete (collected p e) t)
       (ap (λ a. a % suc p.q) (sym (ap (λ l. coef tree_discrete l t) (collected-append p d (scale p.q e) ∙ ap (λ l. collected p d ++ l) (collected-scale p p.q e))
       ∙ coef-append tree_discrete (collected p d) (scale p.q (collected p e)) t ∙ ap (λ a. coef tree_discrete (collected p d) t + a) (coef-scale tree_discrete p.q (collected p e) t)))
-      ∙ z ∙ ap (λ a. a % suc p.q) (nothing_at t)),
+      ∙ z ∙ ap (λ a. a % suc p.q) (coef_nothing tree_discrete t)),
   λ s. ideal-same (without_relations p) n (d ++ scale p.q e) ((d ++ scale p.q (collected p d)) ++ scale p.q (e ++ scale p.q (collected p e)))
       (λ t. rw (
         coef-append tree_discrete d (scale p.q e) t,

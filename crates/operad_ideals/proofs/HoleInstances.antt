@@ -23,7 +23,7 @@ use Rattle.operad_ideals.specs.Rules.{numbered, Rule, relation, symmetry, rule_a
 use Rattle.operad_ideals.specs.Ideals.{placed, Instance, element, InIdeal}
 use Rattle.operad_ideals.specs.HoleInstances.{HoleInstance, hole_element, InHoleIdeal}
 use Rattle.operad_ideals.specs.IdealLaws.{OneIdeal}
-use Rattle.operad_ideals.proofs.Links.{member_zero, member_one}
+use Rattle.modular_sums.proofs.Links.{member_zero, member_one}
 use Rattle.operad_ideals.proofs.Exchanged.{all_row-exchanged, numbered_within, numbered_each}
 use Rattle.operad_ideals.proofs.Ideals.{ideal_zero, ideal_one, ideal-append, ideal-same}
 

@@ -14,7 +14,7 @@ use Rattle.labelled_trees.specs.Equality.{tree_discrete}
 use Rattle.labelled_trees.specs.Labelled.{Fits, IsLabelled}
 use Rattle.labelled_trees.proofs.Leaves.{by_leaf, AllLeaves-each}
 use Rattle.labelled_trees.proofs.GraftLeaves.{graft_ext, sum_leaves-graft}
-use Rattle.labelled_trees.proofs.ContextLeaves.{sum_of_fill}
+use Rattle.labelled_trees.proofs.ContextLeaves.{sum_of_fill, once_inside}
 use Rattle.labelled_trees.proofs.Fitting.{fits_of_fill, fits-graft}
 use Rattle.shuffle_insertions.specs.ShuffleTrees.{least, IsShuffleTree}
 use Rattle.shuffle_insertions.specs.Slots.{Slot, fill_slot, PartsRise}
@@ -24,7 +24,7 @@ use Rattle.shuffle_insertions.proofs.Insertions.{InRange}
 use Rattle.operad_ideals.specs.Presentations.{Relation, Presentation, parts, arity_of, IsSound}
 use Rattle.operad_ideals.specs.Rules.{Rule, relation, symmetry, rule_terms}
 use Rattle.operad_ideals.specs.HoleInstances.{HoleInstance, hole_element}
-use Rattle.operad_ideals.proofs.Links.{member_one, member_zero}
+use Rattle.modular_sums.proofs.Links.{member_one, member_zero}
 use Rattle.shuffle_transfer.specs.Orderings.{IsOrdering, entry}
 use Rattle.shuffle_transfer.specs.Labels.{label, inputs_of, shuffle_form}
 use Rattle.shuffle_transfer.specs.Transfer.{relabelled}
@@ -35,7 +35,7 @@ use Rattle.shuffle_transfer.proofs.Forms.{form_rises, occurs-form}
 use Rattle.shuffle_transfer.proofs.Signs.{twist}
 use Rattle.shuffle_transfer.proofs.Forth.{forth}
 use Rattle.shuffle_transfer.proofs.Turned.{turns_of, turned, Same-turned, member_turned}
-use Rattle.shuffle_transfer.proofs.Vanish.{once_inside, symmetry_gone}
+use Rattle.shuffle_transfer.proofs.Vanish.{symmetry_gone}
 use Rattle.shuffle_transfer.proofs.SlotInsertions.{SlotInsertion, slot_inserted}
 use Rattle.shuffle_transfer.proofs.Relations.{Inputs, ranked, rank_within, rank_apart, lined, lined_order, lined_back, lined_rise, lined_graft, relabel_among}
 

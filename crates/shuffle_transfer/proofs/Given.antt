@@ -21,11 +21,11 @@ use Rattle.shuffle_insertions.proofs.Frames.{SlotOf, slot_of}
 use Rattle.shuffle_places.specs.Places.{frame_at}
 use Rattle.shuffle_places.proofs.Sizes.{one_size}
 use Rattle.shuffle_places.proofs.Laws.{place_frames}
-use Rattle.shuffle_bases.specs.Elements.{Element, terms, Setting, IsMonic, Insertion, value_of}
+use Rattle.shuffle_bases.specs.Elements.{Element, terms, Setting, Insertion, value_of}
 use Rattle.shuffle_normal_forms.specs.NormalForms.{InSpan}
 use Rattle.operad_ideals.specs.Presentations.{Relation, Presentation, arity_of, IsWide, IsSound}
 use Rattle.operad_ideals.specs.Ideals.{InIdeal}
-use Rattle.operad_ideals.proofs.Links.{member_zero, member_through}
+use Rattle.modular_sums.proofs.Links.{member_zero, member_through}
 use Rattle.shuffle_transfer.specs.Orderings.{entry}
 use Rattle.shuffle_transfer.specs.Labels.{inputs_of, shuffle_form}
 use Rattle.shuffle_transfer.specs.Transfer.{relabelled, shuffled, RelationInsertion, inserted_relation, IsSumOfInsertions}
@@ -92,9 +92,6 @@ module _ (c : Given) (n : ℕ) (le : n ≤ c.most) where
 
   -- ---- an insertion of an element
 
-  monic_of : (i : Insertion (setting_of c) n) → IsMonic (setting_of c) i.of
-  monic_of i = c.certified.monic.each i.of i.member
-
   abbrev frame_of : Insertion (setting_of c) n → Frame
   frame_of i = frame_at i.set i.tree
 
@@ -105,7 +102,7 @@ module _ (c : Given) (n : ℕ) (le : n ≤ c.most) where
   framed : (i : Insertion (setting_of c) n) → Framed i
   framed i =
       let k = place_frames.0 n i.tree i.set i.of.lead i.valid.shuffle i.place in
-      record { is_frame = subst (λ m. IsFrame m (frame_at i.set i.tree)) (one_size k.0 i.of.arity i.of.lead k.1 (monic_of i).lead_valid.shuffle) k.2; back = k.3 }
+      record { is_frame = subst (λ m. IsFrame m (frame_at i.set i.tree)) (one_size k.0 i.of.arity i.of.lead k.1 (c.certified.monic.each i.of i.member).lead_valid.shuffle) k.2; back = k.3 }
 
   -- an insertion lies in the ideal of the shuffle forms
   pub insertion_in_ideal : (i : Insertion (setting_of c) n) → IsSumOfInsertions c.presentation n (value_of i)
@@ -114,7 +111,7 @@ module _ (c : Given) (n : ℕ) (le : n ≤ c.most) where
       let s : SlotOf i.of.arity (frame_of i) = slot_of i.of.arity (frame_of i) f.is_frame in
       let v : Shuffles (fill_slot s.slot i.of.lead) = subst Shuffles (sym f.back ∙ s.inserts i.of.lead) i.valid in
       subst (IsSumOfInsertions p n) (sym (moved_ext (insert (frame_of i)) (fill_slot s.slot) (terms i.of) s.inserts))
-      (relations_carried p c.sound i.of.arity n s.slot s.rises i.of.lead (monic_of i).lead_valid.shuffle v (terms i.of) (c.certified.in_ideal i.of i.member))
+      (relations_carried p c.sound i.of.arity n s.slot s.rises i.of.lead (c.certified.monic.each i.of i.member).lead_valid.shuffle v (terms i.of) (c.certified.in_ideal i.of i.member))
 
   -- an element whose shuffle form lies in the span lies in the ideal
   pub span_ideal : (e : List (ℕ × Tree ℕ)) → AllTerms e (IsLabelled (arity_of c.presentation) n) → InSpan (setting_of c) n (shuffled c.presentation e) → InIdeal c.presentation n e

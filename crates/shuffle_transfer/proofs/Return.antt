@@ -30,7 +30,7 @@ use Rattle.operad_ideals.specs.Sorting.{spelled_sign}
 use Rattle.operad_ideals.specs.Presentations.{Relation, Presentation, residue_of, parts, arity_of, IsSound}
 use Rattle.operad_ideals.specs.Rules.{relation}
 use Rattle.operad_ideals.specs.HoleInstances.{hole_element}
-use Rattle.operad_ideals.proofs.Links.{member_one, member_zero, two_alike}
+use Rattle.modular_sums.proofs.Links.{member_one, member_zero, two_alike}
 use Rattle.operad_ideals.proofs.Residues.{residue-times}
 use Rattle.operad_ideals.proofs.AgreementLinks.{near_spelled}
 use Rattle.shuffle_transfer.specs.Orderings.{entry}

@@ -9,6 +9,7 @@ use Rattle.std.specs.Ordering.{ordering_reverse}
 use Rattle.modular_sums.specs.Residues.{Alike}
 use Rattle.modular_sums.specs.Sums.{hit, coef, Same}
 use Rattle.modular_sums.proofs.Residues.{alike_cancel}
+use Rattle.modular_sums.proofs.Coefficients.{coef_nothing}
 use Rattle.labelled_trees.specs.Trees.{Tree}
 use Rattle.labelled_trees.specs.Equality.{tree_discrete}
 use Rattle.operad_ideals.specs.Parts.{Part}
@@ -36,16 +37,12 @@ coef-other x e t ne = go (tree_discrete x.1 t)
     go (yes s) = absurd (ne s)
     go (no _) = omega arith
 
-coef-none : (t : Tree ℕ) → coef tree_discrete [] t ≡ 0
-unfolding coef
-coef-none t = refl
-
 -- a tree that is before another isn't that one
 not_itself : (t u : Tree ℕ) → order t u ≡ Less → u ≢ t
 not_itself t u l e = let equal : order t u ≡ Equal = (order_is_total.equal t u).1 (sym e) in let wrong : Less ≡ Equal = sym l ∙ equal in cc
 
 coef-after : (t : Tree ℕ) (e : List (ℕ × Tree ℕ)) → AllByRecursion (λ x. order t x.1 ≡ Less) e → coef tree_discrete e t ≡ 0
-coef-after t [] h = coef-none t
+coef-after t [] h = coef_nothing tree_discrete t
 coef-after t (x ∷ e) h = coef-other x e t (not_itself t x.1 h.0) ∙ coef-after t e h.1
 
 later : (t u : Tree ℕ) (e : List (ℕ × Tree ℕ)) → order t u ≡ Less → AllByRecursion (λ x. order u x.1 ≡ Less) e → AllByRecursion (λ x. order t x.1 ≡ Less) e
@@ -89,8 +86,8 @@ module _ (p : ℕ) where
 
   pub one_form : (e f : List (ℕ × Tree ℕ)) → Rising e → Rising f → Small e → Small f → Alikes e f → e ≡ f
   one_form [] [] r s a b h = refl
-  one_form [] (y ∷ f) r s a b h = absurd (not_gone y f [] s b.0 (coef-none y.1) (λ t. sym (h t)))
-  one_form (x ∷ e) [] r s a b h = absurd (not_gone x e [] r a.0 (coef-none x.1) h)
+  one_form [] (y ∷ f) r s a b h = absurd (not_gone y f [] s b.0 (coef_nothing tree_discrete y.1) (λ t. sym (h t)))
+  one_form (x ∷ e) [] r s a b h = absurd (not_gone x e [] r a.0 (coef_nothing tree_discrete x.1) h)
   one_form (x ∷ e) (y ∷ f) r s a b h = go (order x.1 y.1) refl (λ k. one_form e f r.1 s.1 a.1 b.1 k)
     where
       go : (o : Ordering) → order x.1 y.1 ≡ o → (Alikes e f → e ≡ f) → x ∷ e ≡ y ∷ f

@@ -5,7 +5,7 @@ use Rattle.modular_sums.specs.Residues.{Alike}
 use Rattle.modular_sums.specs.Sums.{coef, scale, Same}
 use Rattle.modular_sums.proofs.Residues.{alike_drop, alike_of_gone, less_alike}
 use Rattle.modular_sums.proofs.Sums.{coef-append, coef-scale, Same-cancelled}
-use Rattle.shuffle_normal_forms.proofs.Coefficients.{coef_nothing, coef_times}
+use Rattle.modular_sums.proofs.Coefficients.{coef_nothing, coef_times}
 
 module _ (q : ℕ) where
   -- h - (- f) is (h + l) - (l - f)
