@@ -8,13 +8,14 @@ use Rattle.labelled_trees.specs.Ranks.{below}
 use Rattle.labelled_trees.proofs.Leaves.{by_leaf}
 use Rattle.labelled_trees.proofs.RangeSums.{range_sum_ext, by_counts}
 
--- a labelled tree fits and is numbered
+-- a labelled tree is a tree that fits and is numbered
 pub numbered_of_labelled : {arity : ℕ → ℕ} {n : ℕ} {t : Tree ℕ} → IsLabelled arity n t → IsNumbered n t
 numbered_of_labelled h = record { each = h.each; only = h.only }
 
 pub labelled_of_numbered : {arity : ℕ → ℕ} {n : ℕ} {t : Tree ℕ} → Fits arity t → IsNumbered n t → IsLabelled arity n t
 labelled_of_numbered f h = record { fits = f; each = h.each; only = h.only }
 
+-- no leaf has the number 0
 pub numbered_no_zero : {n : ℕ} {t : Tree ℕ} → IsNumbered n t → occurs 0 t ≡ 0
 numbered_no_zero {t = t} h = go (dec_lt 0 (occurs 0 t))
   where
@@ -46,6 +47,7 @@ not_fewer m n t a b = go (dec_lt m n)
 pub one_number : (m n : ℕ) (t : Tree ℕ) → IsNumbered m t → IsNumbered n t → m ≡ n
 one_number m n t a b = omega (arith, not_fewer m n t a b, not_fewer n m t b a)
 
+-- two trees numbered by one range have each number equally often
 pub numbered_counts : {n : ℕ} {x y : Tree ℕ} → IsNumbered n x → IsNumbered n y → (i : ℕ) → occurs i x ≡ occurs i y
 numbered_counts {x = x} {y = y} hx hy i = go (dec_lt 0 (occurs i x)) (dec_lt 0 (occurs i y))
   where

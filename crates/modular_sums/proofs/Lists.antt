@@ -37,11 +37,13 @@ mem_of_map f y [] h = absurd h
 mem_of_map f y (x ∷ l) (inl e) = (x, inl refl, e)
 mem_of_map f y (x ∷ l) (inr h) = let k = mem_of_map f y l h in (k.0, inr k.1, k.2)
 
+-- what stands in a list for a member stands in the lists put together
 pub mem_flat : {A B : Type 0} (f : A → List B) (x : A) (y : B) (l : List A) → Mem x l → Mem y (f x) → Mem y (flat_map f l)
 mem_flat f x y [] h k = absurd h
 mem_flat f x y (z ∷ l) (inl e) k = mem_left y (f z) (flat_map f l) (subst (λ w. Mem y (f w)) e k)
 mem_flat f x y (z ∷ l) (inr h) k = mem_right y (f z) (flat_map f l) (mem_flat f x y l h k)
 
+-- and what stands there stands in the list for some member
 pub mem_of_flat : {A B : Type 0} (f : A → List B) (y : B) (l : List A) → Mem y (flat_map f l) → (x : A) × Mem x l × Mem y (f x)
 mem_of_flat f y [] h = absurd h
 mem_of_flat {A} f y (x ∷ l) h = go (mem_either y (f x) (flat_map f l) h) (λ b. mem_of_flat f y l b)
@@ -119,6 +121,7 @@ pub both_true : (b c : Bool) → cond b c false ≡ true → (b ≡ true) × (c 
 both_true true c e = (refl, e)
 both_true false c e = absurd (cc e)
 
+-- two tests that hold
 pub true_both : (b c : Bool) → b ≡ true → c ≡ true → cond b c false ≡ true
 true_both true c d e = e
 true_both false c d e = absurd (cc d)

@@ -6,6 +6,7 @@ use Rattle.modular_sums.specs.Sums.{moved, AllTerms, hit, coef, scale, Same, exp
 use Rattle.modular_sums.proofs.Residues.{alike_drop, alike_add, alike_mul, alike_gone}
 use Rattle.modular_sums.specs.Residues.{Alike}
 
+-- what a number counts at a fact that holds, and at one that does not
 pub hit-yes : {A : Type 0} (d : Dec A) (c : ℕ) → A → hit d c ≡ c
 hit-yes (yes _) c a = refl
 hit-yes (no f) c a = absurd (f a)
