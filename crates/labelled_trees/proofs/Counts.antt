@@ -3,8 +3,9 @@ use Rattle.std.proofs.Common.{◌≡◌, ℕ, zero, suc, ◌+◌, ◌≤◌, ◌
 use native.Mathlib.Decide.{ℕ_discrete, dec_lt}
 use Rattle.labelled_trees.specs.Trees.{Tree}
 use Rattle.labelled_trees.specs.Leaves.{sum_leaves, one_if, occurs, leaf_count}
-use Rattle.labelled_trees.specs.Labelled.{IsLabelled}
+use Rattle.labelled_trees.specs.Labelled.{IsNumbered, IsLabelled}
 use Rattle.labelled_trees.proofs.Leaves.{one_if-yes, one_if-no, sum_leaves-add, sum_leaves-≤, sum_leaves-same, by_leaf, AllLeaves-each, sum_leaves-zero}
+use Rattle.labelled_trees.proofs.Numbered.{numbered_of_labelled}
 
 -- 1 where x is from 1 to n, else 0
 abbrev pub is_label : ℕ → ℕ → ℕ
@@ -66,11 +67,14 @@ only_labels n t all each j out =
     let few = sum_leaves-≤ t (λ x. is_label n x + one_if (ℕ_discrete x j)) (λ x. 1) (AllLeaves-each t (λ x. is_label n x + one_if (ℕ_discrete x j) ≤ 1) (λ x. apart n j x out (ℕ_discrete x j))) in
     omega (arith, both, few, all, sum_leaves-is_label n t, labels_upto-each n t each)
 
--- a tree labelled by 1 to n has n leaves
-pub leaf_count-labelled : (arity : ℕ → ℕ) (n : ℕ) (t : Tree ℕ) → IsLabelled arity n t → leaf_count t ≡ n
-leaf_count-labelled arity n t h =
+-- a tree numbered by 1 to n has n leaves
+pub leaf_count-numbered : (n : ℕ) (t : Tree ℕ) → IsNumbered n t → leaf_count t ≡ n
+leaf_count-numbered n t h =
     let ones = sum_leaves-same t (λ x. 1) (is_label n) (by_leaf t (λ x. 1 ≡ is_label n x) (λ i o. let w = h.only i o in sym (is_label-one n i w.0 w.1))) in
     ones ∙ sum_leaves-is_label n t ∙ labels_upto-each n t h.each
+
+pub leaf_count-labelled : (arity : ℕ → ℕ) (n : ℕ) (t : Tree ℕ) → IsLabelled arity n t → leaf_count t ≡ n
+leaf_count-labelled arity n t h = leaf_count-numbered n t (numbered_of_labelled h)
 
 within : (n i : ℕ) → Dec (0 < i) → Dec (i < suc n) → ((0 < i → i ≤ n → ⊥) → ⊥) → (0 < i) × (i ≤ n)
 within n i (yes a) (yes b) k = (a, omega (arith, b))

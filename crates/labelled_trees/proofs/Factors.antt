@@ -4,38 +4,34 @@ use mathlib.Core.Path.{ap₂}
 use native.Mathlib.Decide.{dec_lt}
 use Rattle.std.proofs.Common.{◌≡◌, ℕ, ◌<◌, ◌≤◌, refl, sym, ◌∙◌, ap, arith}
 use Rattle.labelled_trees.specs.Trees.{Tree, Row, leaf, node, none, more, graft, graft_row, join}
-use Rattle.labelled_trees.specs.Leaves.{AllLeaves, occurs, occurs_row}
+use Rattle.labelled_trees.specs.Leaves.{AllLeaves, choose, occurs, occurs_row}
 use Rattle.labelled_trees.proofs.Contexts.{node-eq, more-eq}
 use Rattle.labelled_trees.proofs.Grafts.{graft_assoc}
 use Rattle.labelled_trees.proofs.GraftLeaves.{graft_row_ext, graft_ext, agree}
 use Rattle.labelled_trees.proofs.Leaves.{by_row, by_leaf, at_leaf}
 
-abbrev pub pick : {B C : Type 0} → Dec C → B → B → B
-pick (yes _) x y = x
-pick (no _) x y = y
+pub choose-yes : {B C : Type 0} (d : Dec C) (x y : B) → C → choose d x y ≡ x
+choose-yes (yes _) x y c = refl
+choose-yes (no f) x y c = absurd (f c)
 
-pub pick_yes : {B C : Type 0} (d : Dec C) (x y : B) → C → pick d x y ≡ x
-pick_yes (yes _) x y c = refl
-pick_yes (no f) x y c = absurd (f c)
-
-pub pick_no : {B C : Type 0} (d : Dec C) (x y : B) → ¬ C → pick d x y ≡ y
-pick_no (yes c) x y f = absurd (f c)
-pick_no (no _) x y f = refl
+pub choose-no : {B C : Type 0} (d : Dec C) (x y : B) → ¬ C → choose d x y ≡ y
+choose-no (yes c) x y f = absurd (f c)
+choose-no (no _) x y f = refl
 
 -- the choice at a row: the first tree's where the number occurs there
 unfoldable pub both_ways : {B : Type 0} (t : Tree ℕ) (f g : ℕ → B) → ℕ → B
-both_ways t f g i = pick (dec_lt 0 (occurs i t)) (f i) (g i)
+both_ways t f g i = choose (dec_lt 0 (occurs i t)) (f i) (g i)
 
 pub both_ways_left : {B : Type 0} (t : Tree ℕ) (f g : ℕ → B) → graft t (λ i. leaf (f i)) ≡ graft t (λ i. leaf (both_ways t f g i))
 unfolding both_ways
 both_ways_left t f g = graft_ext t (λ i. leaf (f i)) (λ i. leaf (both_ways t f g i))
-    (by_leaf t (λ i. leaf (f i) ≡ leaf (both_ways t f g i)) (λ i h. ap leaf (sym (pick_yes (dec_lt 0 (occurs i t)) (f i) (g i) h))))
+    (by_leaf t (λ i. leaf (f i) ≡ leaf (both_ways t f g i)) (λ i h. ap leaf (sym (choose-yes (dec_lt 0 (occurs i t)) (f i) (g i) h))))
 
 pub both_ways_right : {B : Type 0} (t : Tree ℕ) (r : Row ℕ) (f g : ℕ → B) → ((i : ℕ) → occurs i t + occurs_row i r ≤ 1)
     → graft_row r (λ i. leaf (g i)) ≡ graft_row r (λ i. leaf (both_ways t f g i))
 unfolding both_ways
 both_ways_right t r f g d = graft_row_ext r (λ i. leaf (g i)) (λ i. leaf (both_ways t f g i))
-    (by_row r (λ i. leaf (g i) ≡ leaf (both_ways t f g i)) (λ i h. ap leaf (sym (pick_no (dec_lt 0 (occurs i t)) (f i) (g i) (λ k. absurd (omega (arith, d i, h, k)))))))
+    (by_row r (λ i. leaf (g i) ≡ leaf (both_ways t f g i)) (λ i h. ap leaf (sym (choose-no (dec_lt 0 (occurs i t)) (f i) (g i) (λ k. absurd (omega (arith, d i, h, k)))))))
 
 mutual
   -- a tree of the shape of t is t with its leaves changed, where t holds no number twice
@@ -74,7 +70,7 @@ refine part s x d e = record {
   by = both_ways part f.0 (λ i. leaf (s i));
   is = f.1 ∙ both_ways_left part f.0 (λ i. leaf (s i));
   joins = λ i. joined i (dec_lt 0 (occurs i part));
-  bare = λ i z. pick_no (dec_lt 0 (occurs i part)) (f.0 i) (leaf (s i)) (λ k. absurd (omega (arith, z, k)));
+  bare = λ i z. choose-no (dec_lt 0 (occurs i part)) (f.0 i) (leaf (s i)) (λ k. absurd (omega (arith, z, k)));
 }
   where
     f : (f : ℕ → Tree (Tree ℕ)) × (x ≡ graft part (λ i. leaf (f i)))
@@ -83,6 +79,6 @@ refine part s x d e = record {
     same : AllLeaves part (λ i. join (f.0 i) ≡ s i)
     same = agree part (λ i. join (f.0 i)) s (sym (graft_assoc part (λ i. leaf (f.0 i)) (λ v. leaf (join v))) ∙ ap (λ y. graft y (λ v. leaf (join v))) (sym f.1) ∙ e)
 
-    joined : (i : ℕ) (c : Dec (0 < occurs i part)) → join (pick c (f.0 i) (leaf (s i))) ≡ s i
+    joined : (i : ℕ) (c : Dec (0 < occurs i part)) → join (choose c (f.0 i) (leaf (s i))) ≡ s i
     joined i (yes k) = at_leaf part (λ j. join (f.0 j) ≡ s j) i same k
     joined i (no k) = refl

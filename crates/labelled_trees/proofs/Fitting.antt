@@ -1,8 +1,8 @@
 -- What fits the arities: grafts, parts, fillings.
-use Rattle.std.proofs.Common.{◌≡◌, ℕ, suc, refl, sym, ◌∙◌, ap}
+use Rattle.std.proofs.Common.{◌≡◌, ℕ, suc, ◌≤◌, refl, sym, ◌∙◌, ap, arith}
 use Rattle.labelled_trees.specs.Trees.{Tree, Row, leaf, node, none, more, graft, graft_row, width}
 use Rattle.labelled_trees.specs.Contexts.{Ctx, RowCtx, hole, inside, here, past, fill, fill_row}
-use Rattle.labelled_trees.specs.Leaves.{AllLeaves, AllRow}
+use Rattle.labelled_trees.specs.Leaves.{AllLeaves, AllRow, leaf_count, leaf_count_row}
 use Rattle.labelled_trees.specs.Labelled.{Fits, FitsRow}
 use Rattle.labelled_trees.specs.Unions.{union_row, union}
 
@@ -75,3 +75,13 @@ module _ (arity : ℕ → ℕ) where
     fits_row-union none s h k = tt
     fits_row-union (more t r) none h k = h
     fits_row-union (more t r) (more u s) h k = (fits-union t u h.0 k.0, fits_row-union r s h.1 k.1)
+
+  mutual
+    -- what fits has a leaf
+    pub some_leaf : {A : Type 0} (t : Tree A) → Fits arity t → 1 ≤ leaf_count t
+    some_leaf (leaf a) h = omega arith
+    some_leaf (node l r) h = omega (arith, some_leaves r h.2, h.0, h.1)
+
+    some_leaves : {A : Type 0} (r : Row A) → FitsRow arity r → width r ≤ leaf_count_row r
+    some_leaves none h = omega arith
+    some_leaves (more t r) h = omega (arith, some_leaf t h.0, some_leaves r h.1)

@@ -4,20 +4,46 @@ use mathlib.Core.Path.{ap₂}
 use native.Mathlib.Decide.{ℕ_discrete, dec_lt}
 use Rattle.labelled_trees.specs.Trees.{Tree, Row, leaf, node, none, more, graft, graft_row}
 use Rattle.labelled_trees.specs.Contexts.{Ctx, RowCtx, hole, inside, here, past, fill, fill_row, graft_ctx, graft_row_ctx}
-use Rattle.labelled_trees.specs.Leaves.{one_if, occurs, occurs_row}
-use Rattle.labelled_trees.proofs.Contexts.{graft-fill}
+use Rattle.labelled_trees.specs.Leaves.{one_if, choose, occurs, occurs_row}
+use Rattle.labelled_trees.proofs.Contexts.{graft-fill, node-eq, more-eq}
 use Rattle.labelled_trees.proofs.GraftLeaves.{graft_ext, graft_row_ext}
-use Rattle.labelled_trees.proofs.Leaves.{by_leaf, by_row, one_if-yes}
-use Rattle.labelled_trees.proofs.Factors.{pick, pick_yes, pick_no}
+use Rattle.labelled_trees.proofs.Leaves.{by_leaf, by_row, occurs_self}
+use Rattle.labelled_trees.proofs.Factors.{choose-yes, choose-no}
 
 mutual
   pub occurs_in_fill : (c : Ctx ℕ) (k : ℕ) → 0 < occurs k (fill c (leaf k))
-  occurs_in_fill hole k = let e : one_if (ℕ_discrete k k) ≡ 1 = one_if-yes (ℕ_discrete k k) refl in omega arith
+  occurs_in_fill hole k = let e = occurs_self k in omega (arith, e)
   occurs_in_fill (inside l c) k = occurs_in_fill_row c k
 
   pub occurs_in_fill_row : (c : RowCtx ℕ) (k : ℕ) → 0 < occurs_row k (fill_row c (leaf k))
   occurs_in_fill_row (here c r) k = omega (arith, occurs_in_fill c k)
   occurs_in_fill_row (past t c) k = omega (arith, occurs_in_fill_row c k)
+
+mutual
+  -- where a number stands once, there is one context round it
+  pub one_context : (m : ℕ) (c d : Ctx ℕ) → fill c (leaf m) ≡ fill d (leaf m) → occurs m (fill c (leaf m)) ≤ 1 → c ≡ d
+  one_context m hole hole e o = refl
+  one_context m hole (inside g d) e o = absurd (cc e)
+  one_context m (inside g c) hole e o = absurd (cc e)
+  one_context m (inside g c) (inside h d) e o =
+      let k = node-eq g h (fill_row c (leaf m)) (fill_row d (leaf m)) e in
+      ap₂ inside k.0 (one_row m c d k.1 o)
+
+  one_row : (m : ℕ) (c d : RowCtx ℕ) → fill_row c (leaf m) ≡ fill_row d (leaf m) → occurs_row m (fill_row c (leaf m)) ≤ 1 → c ≡ d
+  one_row m (here c r) (here d s) e o =
+      let k = more-eq (fill c (leaf m)) (fill d (leaf m)) r s e in
+      ap₂ here (one_context m c d k.0 (omega (arith, o))) k.1
+  one_row m (past t c) (past u d) e o =
+      let k = more-eq t u (fill_row c (leaf m)) (fill_row d (leaf m)) e in
+      ap₂ past k.0 (one_row m c d k.1 (omega (arith, o)))
+  one_row m (here c r) (past u d) e o =
+      let k = more-eq (fill c (leaf m)) u r (fill_row d (leaf m)) e in
+      let a : occurs_row m r ≡ occurs_row m (fill_row d (leaf m)) = ap (occurs_row m) k.1 in
+      absurd (omega (arith, a, occurs_in_fill c m, occurs_in_fill_row d m, o))
+  one_row m (past t c) (here d s) e o =
+      let k = more-eq t (fill d (leaf m)) (fill_row c (leaf m)) s e in
+      let a : occurs m t ≡ occurs m (fill d (leaf m)) = ap (occurs m) k.0 in
+      absurd (omega (arith, a, occurs_in_fill d m, occurs_in_fill_row c m, o))
 
 not_there : (r : Row ℕ) (k : ℕ) (s u : ℕ → Tree ℕ) → occurs_row k r ≡ 0 → ((i : ℕ) → i ≢ k → s i ≡ u i) → graft_row r s ≡ graft_row r u
 not_there r k s u z h = graft_row_ext r s u (by_row r (λ i. s i ≡ u i) (λ i o. h i (λ e. let z' : occurs_row i r ≡ 0 = ap (λ m. occurs_row m r) e ∙ z in omega arith)))
@@ -62,21 +88,21 @@ mutual
 
 -- s with v for k
 unfoldable pub updated : (ℕ → Tree ℕ) → ℕ → Tree ℕ → ℕ → Tree ℕ
-updated s k v i = pick (ℕ_discrete i k) v (s i)
+updated s k v i = choose (ℕ_discrete i k) v (s i)
 
 pub updated_same : (s : ℕ → Tree ℕ) (k : ℕ) (v : Tree ℕ) → updated s k v k ≡ v
 unfolding updated
-updated_same s k v = pick_yes (ℕ_discrete k k) v (s k) refl
+updated_same s k v = choose-yes (ℕ_discrete k k) v (s k) refl
 
 pub updated_other : (s : ℕ → Tree ℕ) (k : ℕ) (v : Tree ℕ) (i : ℕ) → i ≢ k → updated s k v i ≡ s i
 unfolding updated
-updated_other s k v i h = pick_no (ℕ_discrete i k) v (s i) h
+updated_other s k v i h = choose-no (ℕ_discrete i k) v (s i) h
 
 pub updated_back : (s : ℕ → Tree ℕ) (k : ℕ) (i : ℕ) → updated s k (s k) i ≡ s i
 unfolding updated
 updated_back s k i = go (ℕ_discrete i k)
   where
-    go : (d : Dec (i ≡ k)) → pick d (s k) (s i) ≡ s i
+    go : (d : Dec (i ≡ k)) → choose d (s k) (s i) ≡ s i
     go (yes e) = ap s (sym e)
     go (no _) = refl
 

@@ -34,7 +34,7 @@ contexts = (
   λ d x o. put-fill d x (omega (arith, o)),
 )
 
-pub length-listed : (s : ℕ → Tree ℕ) (a k : ℕ) → length (listed s a k) ≡ k
+pub length-listed : {A : Type 0} (s : ℕ → A) (a k : ℕ) → length (listed s a k) ≡ k
 length-listed s a zero = refl
 length-listed s a (suc k) = ap suc (length-listed s (suc a) k)
 
@@ -49,6 +49,6 @@ item-listed s k zero p le = absurd (omega arith)
 item-listed s k (suc i) p le = let e : suc (0 + i) ≡ suc i = omega arith in item_of s 0 k i le ∙ ap s e
 
 -- listed functions that agree in the range give one list
-pub listed_ext : (s u : ℕ → Tree ℕ) (a k : ℕ) → ((i : ℕ) → a < i → i ≤ a + k → s i ≡ u i) → listed s a k ≡ listed u a k
+pub listed_ext : {A : Type 0} (s u : ℕ → A) (a k : ℕ) → ((i : ℕ) → a < i → i ≤ a + k → s i ≡ u i) → listed s a k ≡ listed u a k
 listed_ext s u a zero h = refl
 listed_ext s u a (suc k) h = ap₂ (λ x l. x ∷ l) (h (suc a) (omega arith) (omega arith)) (listed_ext s u (suc a) k (λ i lt le. h i (omega arith) (omega (arith, le))))

@@ -1,9 +1,9 @@
 -- Sums and facts over leaves.
-use Rattle.std.proofs.Common.{◌≡◌, ℕ, ◌+◌, ◌≤◌, ◌<◌, refl, arith, subst}
+use Rattle.std.proofs.Common.{◌≡◌, ℕ, ◌+◌, ◌≤◌, ◌<◌, refl, ◌∙◌, arith, subst}
 use mathlib.Core.Path.{ap₂}
 use native.Mathlib.Decide.{ℕ_discrete, dec_lt}
 use Rattle.labelled_trees.specs.Trees.{Tree, Row, leaf, node, none, more}
-use Rattle.labelled_trees.specs.Leaves.{sum_leaves, sum_row, AllLeaves, AllRow, one_if, occurs, occurs_row}
+use Rattle.labelled_trees.specs.Leaves.{sum_leaves, sum_row, AllLeaves, AllRow, one_if, occurs, occurs_row, leaf_count}
 
 pub one_if-yes : {C : Type 0} (d : Dec C) → C → one_if d ≡ 1
 one_if-yes (yes _) c = refl
@@ -12,6 +12,10 @@ one_if-yes (no f) c = absurd (f c)
 pub one_if-no : {C : Type 0} (d : Dec C) → (C → ⊥) → one_if d ≡ 0
 one_if-no (yes c) f = absurd (f c)
 one_if-no (no _) f = refl
+
+pub one_if-≤ : {C : Type 0} (d : Dec C) → one_if d ≤ 1
+one_if-≤ (yes _) = omega arith
+one_if-≤ (no _) = omega arith
 
 pub holds_if_one : {C : Type 0} (d : Dec C) → 0 < one_if d → C
 holds_if_one (yes c) h = c
@@ -67,13 +71,14 @@ mutual
   at_row none P i h o = absurd (omega arith)
   at_row (more t r) P i h o = either_part (occurs i t) (occurs_row i r) (P i) (dec_lt 0 (occurs i t)) (λ k. at_leaf t P i h.0 k) (λ k. at_row r P i h.1 k) o
 
-itself : (n : ℕ) → 0 < one_if (ℕ_discrete n n)
-itself n = let one = one_if-yes (ℕ_discrete n n) refl in omega (arith, one)
+-- a leaf has its number once
+pub occurs_self : (n : ℕ) → occurs n (leaf n) ≡ 1
+occurs_self n = one_if-yes (ℕ_discrete n n) refl
 
 mutual
   -- what holds of each number that occurs holds of each leaf
   pub by_leaf : (t : Tree ℕ) (P : ℕ → Type 0) → ((i : ℕ) → 0 < occurs i t → P i) → AllLeaves t P
-  by_leaf (leaf n) P f = f n (itself n)
+  by_leaf (leaf n) P f = f n (let one = occurs_self n in omega (arith, one))
   by_leaf (node l r) P f = by_row r P f
 
   pub by_row : (r : Row ℕ) (P : ℕ → Type 0) → ((i : ℕ) → 0 < occurs_row i r → P i) → AllRow r P
@@ -107,3 +112,25 @@ mutual
   pub AllRow-and : {A : Type 0} (r : Row A) (P Q : A → Type 0) → AllRow r P → AllRow r Q → AllRow r (λ a. P a × Q a)
   AllRow-and none P Q h k = tt
   AllRow-and (more t r) P Q h k = (AllLeaves-and t P Q h.0 k.0, AllRow-and r P Q h.1 k.1)
+
+mutual
+  -- where a sum over the leaves is at most k, so is each value
+  pub AllLeaves-≤ : {A : Type 0} (t : Tree A) (f : A → ℕ) (k : ℕ) → sum_leaves t f ≤ k → AllLeaves t (λ a. f a ≤ k)
+  AllLeaves-≤ (leaf a) f k h = h
+  AllLeaves-≤ (node l r) f k h = AllRow-≤ r f k h
+
+  pub AllRow-≤ : {A : Type 0} (r : Row A) (f : A → ℕ) (k : ℕ) → sum_row r f ≤ k → AllRow r (λ a. f a ≤ k)
+  AllRow-≤ none f k h = tt
+  AllRow-≤ (more t r) f k h = (AllLeaves-≤ t f k (omega (arith, h)), AllRow-≤ r f k (omega (arith, h)))
+
+-- where a sum over the leaves is 0, so is each value
+pub AllLeaves-zero : {A : Type 0} (t : Tree A) (f : A → ℕ) → sum_leaves t f ≡ 0 → AllLeaves t (λ a. f a ≡ 0)
+AllLeaves-zero t f h = AllLeaves-imp t (λ a. f a ≤ 0) (λ a. f a ≡ 0) (λ a k. omega (arith, k)) (AllLeaves-≤ t f 0 (omega (arith, h)))
+
+-- and where each value is 0, so is the sum
+pub sum_leaves-all_zero : {A : Type 0} (t : Tree A) (f : A → ℕ) → AllLeaves t (λ a. f a ≡ 0) → sum_leaves t f ≡ 0
+sum_leaves-all_zero t f h = sum_leaves-same t f (λ a. 0) h ∙ sum_leaves-zero t
+
+-- a number stands at no more leaves than there are
+pub occurs-≤ : (i : ℕ) (t : Tree ℕ) → occurs i t ≤ leaf_count t
+occurs-≤ i t = sum_leaves-≤ t (λ n. one_if (ℕ_discrete n i)) (λ n. 1) (AllLeaves-each t (λ n. one_if (ℕ_discrete n i) ≤ 1) (λ n. one_if-≤ (ℕ_discrete n i)))

@@ -10,6 +10,8 @@ pub mod Holes
 pub mod Insertions
 pub mod Leaves
 pub mod Meetings
+pub mod Numbered
+pub mod Orderings
 pub mod Permutations
 pub mod ProgramTrees
 pub mod RangeSums

@@ -3,10 +3,10 @@ use Rattle.std.proofs.Common.{◌≡◌, ◌≢◌, ℕ, zero, suc, ◌+◌, ◌
 use native.Mathlib.Decide.{ℕ_discrete, dec_lt}
 use Rattle.std.proofs.Common.{◌≡◌, ℕ, zero, suc, ◌+◌, ◌<◌, ◌≤◌, refl, sym, ◌∙◌, ap, arith}
 use Rattle.labelled_trees.specs.Trees.{Tree, leaf}
-use Rattle.labelled_trees.specs.Leaves.{sum_leaves, AllLeaves, one_if, occurs}
+use Rattle.labelled_trees.specs.Leaves.{sum_leaves, AllLeaves, one_if, occurs, leaf_count}
 use Rattle.labelled_trees.specs.Ranks.{below, standard}
 use Rattle.labelled_trees.proofs.GraftLeaves.{sum_leaves-graft}
-use Rattle.labelled_trees.proofs.Leaves.{AllLeaves-each, sum_leaves-zero, sum_leaves-add, sum_leaves-same, one_if-no}
+use Rattle.labelled_trees.proofs.Leaves.{AllLeaves-each, AllLeaves-imp, sum_leaves-zero, sum_leaves-add, sum_leaves-same, one_if-yes, one_if-no}
 use Rattle.labelled_trees.specs.RangeSums.{range_sum}
 use Rattle.labelled_trees.proofs.RangeSums.{by_counts}
 
@@ -89,6 +89,10 @@ below_sum (suc n) t =
     ∙ sym (sum_leaves-add t (λ a. one_if (dec_lt a n)) (λ a. one_if (ℕ_discrete a n)))
     ∙ sum_leaves-same t (λ a. one_if (dec_lt a n) + one_if (ℕ_discrete a n)) (λ a. one_if (dec_lt a (suc n)))
     (AllLeaves-each t (λ a. one_if (dec_lt a n) + one_if (ℕ_discrete a n) ≡ one_if (dec_lt a (suc n))) (λ a. step_below n a (dec_lt a n) (ℕ_discrete a n) (dec_lt a (suc n))))
+
+-- below a bound of all leaves stand all
+pub below_all : (b : ℕ) (t : Tree ℕ) → AllLeaves t (λ x. x < b) → below b t ≡ leaf_count t
+below_all b t h = below_sum b t ∙ sum_leaves-same t (λ a. one_if (dec_lt a b)) (λ a. 1) (AllLeaves-imp t (λ x. x < b) (λ x. one_if (dec_lt x b) ≡ 1) (λ x l. one_if-yes (dec_lt x b) l) h)
 
 pub same_if : {P Q : Type 0} (d : Dec P) (e : Dec Q) → (P → Q) → (Q → P) → one_if d ≡ one_if e
 same_if (yes p) (yes q) f g = refl

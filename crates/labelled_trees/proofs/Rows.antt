@@ -1,4 +1,5 @@
 -- Rows of trees and their lists of inputs.
+use Rattle.std.specs.List.{AllByRecursion}
 use Rattle.std.proofs.Common.{◌≡◌, ℕ, suc, ◌+◌, ◌≤◌, List, [], ◌∷◌, ◌++◌, length, refl, ap, arith}
 use Rattle.labelled_trees.specs.Trees.{Tree, Row, none, more, row, inputs, width}
 use Rattle.labelled_trees.specs.Leaves.{sum_leaves, sum_row}
@@ -57,3 +58,13 @@ fits_input arity (t ∷ ts) a back h = fits_input arity ts a back h.1
 pub sum_leaves-le_row : {A : Type 0} (f : A → ℕ) (front : List (Tree A)) (a : Tree A) (back : List (Tree A)) → sum_leaves a f ≤ sum_row (row (front ++ a ∷ back)) f
 sum_leaves-le_row f [] a back = omega arith
 sum_leaves-le_row f (t ∷ ts) a back = omega (arith, sum_leaves-le_row f ts a back)
+
+-- ---- a row fits where each input does
+
+pub fits_row : {A : Type 0} (arity : ℕ → ℕ) (ts : List (Tree A)) → AllByRecursion (Fits arity) ts → FitsRow arity (row ts)
+fits_row arity [] h = tt
+fits_row arity (t ∷ ts) h = (h.0, fits_row arity ts h.1)
+
+pub row_fits : {A : Type 0} (arity : ℕ → ℕ) (ts : List (Tree A)) → FitsRow arity (row ts) → AllByRecursion (Fits arity) ts
+row_fits arity [] h = tt
+row_fits arity (t ∷ ts) h = (h.0, row_fits arity ts h.1)

@@ -25,6 +25,6 @@ item (t ∷ ts) (suc zero) = t
 item (t ∷ ts) (suc (suc i)) = item ts (suc i)
 
 -- the list of s (a + 1) to s (a + k)
-abbrev pub listed : (ℕ → Tree ℕ) → ℕ → ℕ → List (Tree ℕ)
+abbrev pub listed : {A : Type 0} → (ℕ → A) → ℕ → ℕ → List A
 listed s a zero = []
 listed s a (suc k) = s (suc a) ∷ listed s (suc a) k

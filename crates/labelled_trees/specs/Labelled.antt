@@ -14,6 +14,11 @@ abbrev mutual
   FitsRow arity none = Unit {0}
   FitsRow arity (more t r) = Fits arity t × FitsRow arity r
 
+-- A tree is numbered by 1 to n: each number from 1 to n stands at one leaf, and no other number stands at a leaf.
+pub record IsNumbered (n : ℕ) (t : Tree ℕ) : Type 0 where
+  pub each : (i : ℕ) → 0 < i → i ≤ n → occurs i t ≡ 1
+  pub only : (i : ℕ) → 0 < occurs i t → (0 < i) × (i ≤ n)
+
 -- A labelled tree of arity n: it fits the generators, each number from 1 to n stands at one leaf,
 -- and no other number stands at a leaf (Bremner and Dotsenko 2016, tree monomials of a symmetric operad).
 pub record IsLabelled (arity : ℕ → ℕ) (n : ℕ) (t : Tree ℕ) : Type 0 where

@@ -28,6 +28,11 @@ abbrev pub one_if : {A : Type 0} → Dec A → ℕ
 one_if (yes _) = 1
 one_if (no _) = 0
 
+-- v where a decided fact holds, else w
+abbrev pub choose : {A B : Type 0} → Dec A → B → B → B
+choose (yes _) v w = v
+choose (no _) v w = w
+
 -- how often a thing stands in a list
 abbrev pub times : {X : Type 0} → Discrete X → X → List X → ℕ
 times dec x [] = 0

@@ -6,7 +6,7 @@ use Rattle.modular_sums.specs.Ranks.{count_less}
 use Rattle.modular_sums.specs.Residues.{Alike}
 use Rattle.modular_sums.specs.Sums.{hit, coef, scale, Same, expand, Member, moved}
 use Rattle.modular_sums.specs.Diamond.{HaveHosts, Meet, Led}
-use Rattle.modular_sums.proofs.Sums.{Same-cancelled}
+use Rattle.modular_sums.proofs.Sums.{hit-no, Same-cancelled}
 use Rattle.modular_sums.proofs.Sameness.{same_if_agree}
 use Rattle.modular_sums.proofs.Laws.{diamond_law, rank_law, image_law}
 
@@ -27,10 +27,6 @@ value i = (1, 5) ∷ ((100, 3) ∷ [])
 abbrev host : Unit {0} → ℕ
 host i = 5
 
-missed : (c x t : ℕ) (d : Dec (x ≡ t)) → x ≢ t → hit d c ≡ 0
-missed c x t (yes e) f = absurd (f e)
-missed c x t (no _) f = refl
-
 at_five : Alike 100 (coef ℕ_discrete (value tt) 5) 1
 unfolding coef ℕ_discrete
 at_five = refl
@@ -38,8 +34,8 @@ at_five = refl
 nothing_above : (t : ℕ) → t ≢ 5 → 5 ≤ t → Alike 100 (coef ℕ_discrete (value tt) t) 0
 unfolding coef
 nothing_above t ne le =
-    let a = missed 1 5 t (ℕ_discrete 5 t) (λ e. absurd (ne (sym e))) in
-    let b = missed 100 3 t (ℕ_discrete 3 t) (λ e. absurd (omega (arith, e, le))) in
+    let a = hit-no (ℕ_discrete 5 t) 1 (λ e. absurd (ne (sym e))) in
+    let b = hit-no (ℕ_discrete 3 t) 100 (λ e. absurd (omega (arith, e, le))) in
     let z : hit (ℕ_discrete 5 t) 1 + (hit (ℕ_discrete 3 t) 100 + 0) ≡ 0 = omega (arith, a, b) in
     ap (λ n. n % suc 100) z
 

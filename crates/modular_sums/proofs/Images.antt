@@ -1,16 +1,12 @@
 -- The image of a sum depends on its coefficients alone.
-use Rattle.std.proofs.Common.{◌≡◌, ◌≢◌, ℕ, zero, suc, ◌+◌, ◌*◌, ◌≤◌, List, [], ◌∷◌, arith, refl, sym, ◌∙◌, ap}
+use Rattle.std.proofs.Common.{◌≡◌, ◌≢◌, ℕ, zero, suc, ◌+◌, ◌*◌, ◌≤◌, List, [], ◌∷◌, length, arith, refl, sym, ◌∙◌, ap}
 use mathlib.Core.List.{◌++◌}
 use mathlib.Core.Path.{ap₂}
 use Rattle.modular_sums.specs.Residues.{Alike}
 use Rattle.modular_sums.specs.Sums.{hit, coef, scale, Same, expand, moved, AllTerms}
-use Rattle.modular_sums.proofs.Residues.{alike_add, alike_mul, alike_drop}
+use Rattle.modular_sums.proofs.Residues.{alike_add, alike_mul, alike_gone, alike_of_gone}
 use Rattle.modular_sums.proofs.Sums.{coef-append, coef-scale}
 use Rattle.modular_sums.proofs.Replacements.{sum_over, coef-moved}
-
-abbrev size : {X : Type 0} → List X → ℕ
-size [] = 0
-size (x ∷ l) = suc (size l)
 
 abbrev keep : {X C : Type 0} → Dec C → X → List X → List X
 keep (yes _) x l = l
@@ -19,6 +15,11 @@ keep (no _) x l = x ∷ l
 pub sum_over-append : {X : Type 0} (k l : List (ℕ × X)) (f : X → ℕ) → sum_over (k ++ l) f ≡ sum_over k f + sum_over l f
 sum_over-append [] l f = omega arith
 sum_over-append (x ∷ k) l f = omega (arith, sum_over-append k l f)
+
+pub sum_over-scale : {X : Type 0} (c : ℕ) (e : List (ℕ × X)) (f : X → ℕ) → sum_over (scale c e) f ≡ c * sum_over e f
+unfolding scale
+sum_over-scale c [] f = omega arith
+sum_over-scale c (x ∷ e) f = omega (arith, sum_over-scale c e f)
 
 pub moved-append : {X Y : Type 0} (f : X → Y) (k l : List (ℕ × X)) → moved f (k ++ l) ≡ moved f k ++ moved f l
 moved-append f [] l = refl
@@ -54,11 +55,11 @@ module _ (M : Type 0) (dec : Discrete M) (q : ℕ) where
   without m [] = []
   without m (x ∷ e) = keep (dec x.1 m) x (without m e)
 
-  keep_size : (d : (ℕ × M)) (C : Type 0) (c : Dec C) (l : List (ℕ × M)) → size (keep c d l) ≤ suc (size l)
+  keep_size : (d : (ℕ × M)) (C : Type 0) (c : Dec C) (l : List (ℕ × M)) → length (keep c d l) ≤ suc (length l)
   keep_size d C (yes _) l = omega arith
   keep_size d C (no _) l = omega arith
 
-  without_size : (m : M) (e : List (ℕ × M)) → size (without m e) ≤ size e
+  without_size : (m : M) (e : List (ℕ × M)) → length (without m e) ≤ length e
   unfolding without
   without_size m [] = omega arith
   without_size m (x ∷ e) = omega (arith, keep_size x (x.1 ≡ m) (dec x.1 m) (without m e), without_size m e)
@@ -117,7 +118,7 @@ module _ (M : Type 0) (dec : Discrete M) (q : ℕ) where
       go (yes _) = omega (arith, sum_without x.1 e f)
       go (no n) = absurd (n refl)
 
-  sums_zero : (n : ℕ) (e : List (ℕ × M)) (f : M → ℕ) → size e ≤ n → ((t : M) → Alike q (coef dec e t) 0) → Alike q (sum_over e f) 0
+  sums_zero : (n : ℕ) (e : List (ℕ × M)) (f : M → ℕ) → length e ≤ n → ((t : M) → Alike q (coef dec e t) 0) → Alike q (sum_over e f) 0
   sums_zero n [] f le h = refl
   sums_zero zero (x ∷ e) f le h = absurd (omega arith)
   sums_zero (suc n) (x ∷ e) f le h =
@@ -129,31 +130,17 @@ module _ (M : Type 0) (dec : Discrete M) (q : ℕ) where
       at t (yes p) = rw p (rw (without_same x.1 e) refl)
       at t (no ne) = rw (without_other x.1 t ne e, ← head_other x e t ne) (h t)
 
-  sum_over-scale : (c : ℕ) (e : List (ℕ × M)) (f : M → ℕ) → sum_over (scale c e) f ≡ c * sum_over e f
-  unfolding scale
-  sum_over-scale c [] f = omega arith
-  sum_over-scale c (x ∷ e) f = omega (arith, sum_over-scale c e f)
-
   -- a sum of values at the trees of an element depends on its coefficients alone
   pub same_sum : (e g : List (ℕ × M)) (f : M → ℕ) → Same dec q e g → Alike q (sum_over e f) (sum_over g f)
   same_sum e g f h =
-      let z : Alike q (sum_over (e ++ scale q g) f) 0 = sums_zero (size (e ++ scale q g)) (e ++ scale q g) f (omega arith) gone in
+      let z : Alike q (sum_over (e ++ scale q g) f) 0 = sums_zero (length (e ++ scale q g)) (e ++ scale q g) f (omega arith) gone in
       let s : Alike q (sum_over e f + q * sum_over g f) 0 = rw (sum_over-append e (scale q g) f, sum_over-scale q g f) at z in
-      settle (sum_over e f) (sum_over g f) s
+      alike_of_gone q (sum_over e f) (sum_over g f) s
     where
       gone : (t : M) → Alike q (coef dec (e ++ scale q g) t) 0
       gone t =
           let a : Alike q (coef dec e t + q * coef dec g t) (coef dec g t + q * coef dec g t) = alike_add q (coef dec e t) (coef dec g t) _ _ (h t) refl in
-          let b : Alike q (0 + (coef dec g t + q * coef dec g t)) 0 = alike_drop q 0 (coef dec g t) in
-          let z : 0 + (coef dec g t + q * coef dec g t) ≡ coef dec g t + q * coef dec g t = omega arith in
-          rw (coef-append dec e (scale q g) t, coef-scale dec q g t) (a ∙ (rw z at b))
-
-      settle : (a b : ℕ) → Alike q (a + q * b) 0 → Alike q a b
-      settle a b s =
-          let k : Alike q (a + q * b + b) (0 + b) = alike_add q (a + q * b) 0 b b s refl in
-          let e1 : a + q * b + b ≡ a + (b + q * b) = omega arith in
-          let e2 : 0 + b ≡ b = omega arith in
-          sym (alike_drop q a b) ∙ (rw (e1, e2) at k)
+          rw (coef-append dec e (scale q g) t, coef-scale dec q g t) (a ∙ alike_gone q (coef dec g t))
 
 -- the images of one sum are one sum
 pub Same-moved : {M N : Type 0} (dec : Discrete M) (decn : Discrete N) (q : ℕ) (f : M → N) (e g : List (ℕ × M)) → Same dec q e g → Same decn q (moved f e) (moved f g)

@@ -1,7 +1,10 @@
+pub mod Coefficients
 pub mod Diamond
+pub mod Differences
 pub mod Examples
 pub mod Images
 pub mod Laws
+pub mod Links
 pub mod Lists
 pub mod Ranks
 pub mod Replacements

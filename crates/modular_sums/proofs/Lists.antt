@@ -1,9 +1,10 @@
 -- Membership in lists, and rising lists.
-use Rattle.std.proofs.Common.{false, Bool, cond, ◌≡◌, ℕ, ◌<◌, List, [], ◌∷◌, true, map, refl, sym, ap, arith, inl, inr, ◌⊎◌}
+use Rattle.std.proofs.Common.{false, Bool, cond, ◌≡◌, ℕ, ◌<◌, List, [], ◌∷◌, true, map, refl, sym, ap, arith, subst, inl, inr, ◌⊎◌}
+use Rattle.std.specs.Prelude.{flat_map}
 use mathlib.Core.List.{◌++◌}
 use mathlib.Core.Path.{ap₂}
 use native.Mathlib.Decide.{ℕ_discrete}
-use Rattle.modular_sums.specs.Lists.{Mem, Rises, holds, has_by, has}
+use Rattle.modular_sums.specs.Lists.{Mem, Distinct, Rises, holds, has_by, has}
 
 pub tail_same : {A : Type 0} (x y : A) (k l : List A) → x ∷ k ≡ y ∷ l → (x ≡ y) × (k ≡ l)
 tail_same x y k l e = (cc, cc)
@@ -35,6 +36,30 @@ pub mem_of_map : {X Y : Type 0} (f : X → Y) (y : Y) (l : List X) → Mem y (ma
 mem_of_map f y [] h = absurd h
 mem_of_map f y (x ∷ l) (inl e) = (x, inl refl, e)
 mem_of_map f y (x ∷ l) (inr h) = let k = mem_of_map f y l h in (k.0, inr k.1, k.2)
+
+-- what stands in a list for a member stands in the lists put together
+pub mem_flat : {A B : Type 0} (f : A → List B) (x : A) (y : B) (l : List A) → Mem x l → Mem y (f x) → Mem y (flat_map f l)
+mem_flat f x y [] h k = absurd h
+mem_flat f x y (z ∷ l) (inl e) k = mem_left y (f z) (flat_map f l) (subst (λ w. Mem y (f w)) e k)
+mem_flat f x y (z ∷ l) (inr h) k = mem_right y (f z) (flat_map f l) (mem_flat f x y l h k)
+
+-- and what stands there stands in the list for some member
+pub mem_of_flat : {A B : Type 0} (f : A → List B) (y : B) (l : List A) → Mem y (flat_map f l) → (x : A) × Mem x l × Mem y (f x)
+mem_of_flat f y [] h = absurd h
+mem_of_flat {A} f y (x ∷ l) h = go (mem_either y (f x) (flat_map f l) h) (λ b. mem_of_flat f y l b)
+  where
+    go : Mem y (f x) ⊎ Mem y (flat_map f l) → (Mem y (flat_map f l) → (z : A) × Mem z l × Mem y (f z)) → (z : A) × Mem z (x ∷ l) × Mem y (f z)
+    go (inl a) ih = (x, inl refl, a)
+    go (inr b) ih = let k = ih b in (k.0, inr k.1, k.2)
+
+-- two lists without repetition and without a common member, one behind the other
+pub Distinct-append : {X : Type 0} (k l : List X) → Distinct k → Distinct l → ((x : X) → Mem x k → Mem x l → ⊥) → Distinct (k ++ l)
+Distinct-append [] l a b h = b
+Distinct-append {X = X} (x ∷ k) l a b h = (λ m. go (mem_either x k l m), Distinct-append k l a.1 b (λ z m n. h z (inr m) n))
+  where
+    go : Mem x k ⊎ Mem x l → ⊥
+    go (inl m) = a.0 m
+    go (inr m) = h x (inl refl) m
 
 pub has_by_mem : {X : Type 0} (dec : Discrete X) (l : List X) (v : X) → has_by dec l v ≡ true → Mem v l
 has_by_mem dec [] v e = absurd (cc e)
@@ -95,3 +120,8 @@ same_rising (x ∷ k) (y ∷ l) a b f g = ap₂ (λ v m. v ∷ m) one (same_risi
 pub both_true : (b c : Bool) → cond b c false ≡ true → (b ≡ true) × (c ≡ true)
 both_true true c e = (refl, e)
 both_true false c e = absurd (cc e)
+
+-- two tests that hold
+pub true_both : (b c : Bool) → b ≡ true → c ≡ true → cond b c false ≡ true
+true_both true c d e = e
+true_both false c d e = absurd (cc d)

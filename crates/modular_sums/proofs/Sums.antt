@@ -3,12 +3,26 @@ use Rattle.std.proofs.Common.{suc, ◌%◌, sym, ap, ◌≡◌, ℕ, ◌+◌, �
 use mathlib.Core.List.{◌++◌}
 use mathlib.Core.Path.{ap₂}
 use Rattle.modular_sums.specs.Sums.{moved, AllTerms, hit, coef, scale, Same, expand, Member}
-use Rattle.modular_sums.proofs.Residues.{alike_drop, alike_add, alike_mul}
+use Rattle.modular_sums.proofs.Residues.{alike_drop, alike_add, alike_mul, alike_gone}
 use Rattle.modular_sums.specs.Residues.{Alike}
+
+-- what a number counts at a fact that holds, and at one that does not
+pub hit-yes : {A : Type 0} (d : Dec A) (c : ℕ) → A → hit d c ≡ c
+hit-yes (yes _) c a = refl
+hit-yes (no f) c a = absurd (f a)
+
+pub hit-no : {A : Type 0} (d : Dec A) (c : ℕ) → (A → ⊥) → hit d c ≡ 0
+hit-no (yes a) c f = absurd (f a)
+hit-no (no _) c f = refl
 
 pub hit-mul : {A : Type 0} (d : Dec A) (k c : ℕ) → hit d (k * c) ≡ k * hit d c
 hit-mul (yes _) k c = refl
 hit-mul (no _) k c = omega arith
+
+pub scale-scale : {M : Type 0} (c d : ℕ) (e : List (ℕ × M)) → scale (c * d) e ≡ scale c (scale d e)
+unfolding scale
+scale-scale c d [] = refl
+scale-scale c d (x ∷ e) = let a : c * d * x.0 ≡ c * (d * x.0) = omega arith in ap₂ (λ k l. (k, x.1) ∷ l) a (scale-scale c d e)
 
 module _ {M : Type 0} (dec : Discrete M) where
   pub coef-append : (e f : List (ℕ × M)) (t : M) → coef dec (e ++ f) t ≡ coef dec e t + coef dec f t
@@ -71,9 +85,7 @@ module _ {M : Type 0} (dec : Discrete M) (q : ℕ) where
 
   -- a sum less itself
   pub Same-cancelled : (e : List (ℕ × M)) (t : M) → Alike q (coef dec (e ++ scale q e) t) 0
-  Same-cancelled e t =
-      let z : coef dec e t + q * coef dec e t ≡ 0 + (coef dec e t + q * coef dec e t) = omega arith in
-      rw (coef-append dec e (scale q e) t, coef-scale dec q e t, z) (alike_drop q 0 (coef dec e t))
+  Same-cancelled e t = rw (coef-append dec e (scale q e) t, coef-scale dec q e t) (alike_gone q (coef dec e t))
 
 -- a multiple of a sum of instances is the sum of the multiples
 pub Same-expand_scale : {M I : Type 0} (dec : Discrete M) (q c : ℕ) (value : I → List (ℕ × M)) (l : List (ℕ × I)) → Same dec q (scale c (expand value l)) (expand value (scale c l))

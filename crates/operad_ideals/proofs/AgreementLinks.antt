@@ -1,16 +1,14 @@
 -- A labelled tree less the sign times a tree that agrees with it is a sum of instances of symmetry rules.
-use Rattle.std.proofs.Common.{◌≡◌, ℕ, ◌*◌, ◌<◌, List, [], ◌∷◌, ◌++◌, length, refl, sym, ◌∙◌, ap, subst}
+use Rattle.std.proofs.Common.{◌≡◌, ℕ, ◌*◌, List, [], ◌∷◌, ◌++◌, length, refl, sym, ◌∙◌, ap, subst}
 use mathlib.Core.Path.{ap₂}
-use native.Mathlib.Decide.{ℕ_discrete}
 use Rattle.modular_sums.proofs.Sums.{Member-same}
 use Rattle.labelled_trees.specs.Trees.{Tree, Row, node, more, row, graft_row}
 use Rattle.labelled_trees.specs.Contexts.{Ctx, RowCtx, hole, inside, here, past, fill, fill_row, compose}
-use Rattle.labelled_trees.specs.Leaves.{one_if, occurs}
 use Rattle.labelled_trees.specs.Equality.{tree_discrete}
-use Rattle.labelled_trees.specs.Labelled.{Fits, IsLabelled}
+use Rattle.labelled_trees.specs.Labelled.{IsLabelled}
 use Rattle.labelled_trees.proofs.Contexts.{fill-compose}
-use Rattle.labelled_trees.proofs.ContextLeaves.{sum-fill}
-use Rattle.labelled_trees.proofs.Fitting.{fits_of_fill, fits-fill}
+use Rattle.labelled_trees.proofs.ContextLeaves.{labelled-replaced}
+use Rattle.labelled_trees.proofs.Fitting.{fits_of_fill}
 use Rattle.operad_ideals.specs.Parts.{Sign, minus, times, InOnePart}
 use Rattle.operad_ideals.specs.Spelling.{Agrees, same, exchanged, inside as inside_one, followed}
 use Rattle.operad_ideals.specs.Sorting.{spelled, spelled_sign}
@@ -18,23 +16,12 @@ use Rattle.operad_ideals.specs.Presentations.{Presentation, residue_of, parts, a
 use Rattle.operad_ideals.specs.Rules.{numbered, exchanged_at, symmetry}
 use Rattle.operad_ideals.specs.HoleInstances.{HoleInstance, hole_element, InHoleIdeal}
 use Rattle.operad_ideals.specs.IdealLaws.{less_signed, AgreementIsInIdeal}
-use Rattle.operad_ideals.proofs.Links.{two_alike, Link, link_refl, link_move, link_alike, link_trans, member_one}
+use Rattle.modular_sums.proofs.Links.{two_alike, Link, link_refl, link_move, link_alike, link_trans, member_one}
 use Rattle.operad_ideals.proofs.Residues.{residue-times}
 use Rattle.operad_ideals.proofs.Exchanged.{for_leaf, numbered-for_leaf, exchanged-row, graft_row-exchanged}
 use Rattle.operad_ideals.proofs.Agreement.{occurs-agrees, fits-agrees}
 use Rattle.operad_ideals.proofs.Spellings.{one_spelling}
 use Rattle.operad_ideals.proofs.HoleInstances.{ideals_are_one}
-
--- a part of a labelled tree replaced by one with the same leaves
-pub labelled-replaced : (arity : ℕ → ℕ) (n : ℕ) (c : Ctx ℕ) (x y : Tree ℕ) → IsLabelled arity n (fill c x) → Fits arity y → ((i : ℕ) → occurs i x ≡ occurs i y) → IsLabelled arity n (fill c y)
-labelled-replaced arity n c x y h k e = record {
-  fits = fits-fill arity c x y h.fits k;
-  each = λ i a b. sym (counts i) ∙ h.each i a b;
-  only = λ i o. h.only i (subst (λ m. 0 < m) (sym (counts i)) o);
-}
-  where
-    counts : (i : ℕ) → occurs i (fill c x) ≡ occurs i (fill c y)
-    counts i = sum-fill c x y (λ n. one_if (ℕ_discrete n i)) (e i)
 
 -- a hole between these inputs
 abbrev between : List (Tree ℕ) → List (Tree ℕ) → RowCtx ℕ

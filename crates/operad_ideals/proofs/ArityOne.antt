@@ -2,32 +2,22 @@
 use Rattle.std.proofs.Common.{◌≡◌, ◌⊎◌, inl, inr, ℕ, zero, suc, ◌<◌, ◌≤◌, List, [], ◌∷◌, ◌++◌, refl, ap, ◌∙◌, subst, arith}
 use Rattle.modular_sums.specs.Lists.{Mem}
 use Rattle.modular_sums.specs.Sums.{scale, expand, Same, moved, AllTerms}
-use Rattle.labelled_trees.specs.Trees.{Tree, Row, leaf, node, none, more, graft, width}
+use Rattle.labelled_trees.specs.Trees.{Tree, node, graft}
 use Rattle.labelled_trees.specs.Contexts.{Ctx, fill}
 use Rattle.labelled_trees.specs.Leaves.{sum_leaves, AllLeaves, leaf_count, leaf_count_row}
 use Rattle.labelled_trees.specs.Equality.{tree_discrete}
-use Rattle.labelled_trees.specs.Labelled.{Fits, FitsRow, IsLabelled}
+use Rattle.labelled_trees.specs.Labelled.{Fits, IsLabelled}
 use Rattle.labelled_trees.proofs.Leaves.{sum_leaves-≤, AllLeaves-imp}
 use Rattle.labelled_trees.proofs.Counts.{leaf_count-labelled}
 use Rattle.labelled_trees.proofs.ContextLeaves.{sum_of_fill}
 use Rattle.labelled_trees.proofs.GraftLeaves.{sum_leaves-graft}
-use Rattle.labelled_trees.proofs.Fitting.{fits_of_fill, fits_parts}
+use Rattle.labelled_trees.proofs.Fitting.{fits_of_fill, fits_parts, some_leaf}
 use Rattle.operad_ideals.specs.Parts.{Part, Sign, total, InOnePart}
 use Rattle.operad_ideals.specs.Presentations.{Relation, Presentation, parts, arity_of, IsSound, IsProper}
 use Rattle.operad_ideals.specs.Rules.{numbered, Rule, relation, symmetry, rule_terms}
 use Rattle.operad_ideals.specs.HoleInstances.{HoleInstance, hole_element}
 use Rattle.operad_ideals.specs.IdealLaws.{OnlyZeroInArityOne}
 use Rattle.operad_ideals.proofs.HoleInstances.{ideals_are_one}
-
-mutual
-  -- what fits has a leaf
-  some_leaf : (arity : ℕ → ℕ) (t : Tree ℕ) → Fits arity t → 1 ≤ leaf_count t
-  some_leaf arity (leaf n) h = omega arith
-  some_leaf arity (node g r) h = omega (arith, some_leaves arity r h.2, h.0, h.1)
-
-  some_leaves : (arity : ℕ → ℕ) (r : Row ℕ) → FitsRow arity r → width r ≤ leaf_count_row r
-  some_leaves arity none h = omega arith
-  some_leaves arity (more t r) h = omega (arith, some_leaf arity t h.0, some_leaves arity r h.1)
 
 -- inputs in one part are two of all inputs
 pub part_below : (ps : List Part) (i : ℕ) (s : Sign) → InOnePart ps i s → suc i < total ps

@@ -3,8 +3,9 @@ use Rattle.std.proofs.Common.{◌≡◌, ℕ, zero, suc, ◌+◌, ◌*◌, ◌%�
 use mathlib.Core.Path.{ap₂}
 use Rattle.modular_sums.specs.Residues.{Alike}
 use Rattle.modular_sums.specs.Sums.{hit, coef, scale, Same, expand, moved, AllTerms}
-use Rattle.modular_sums.proofs.Residues.{alike_add, alike_mul}
+use Rattle.modular_sums.proofs.Residues.{alike_add, alike_mul, alike_of_gone, less_alike}
 use Rattle.modular_sums.proofs.Sums.{hit-mul, coef-append, coef-scale}
+use Rattle.modular_sums.proofs.Coefficients.{coef_nothing}
 use Rattle.modular_sums.proofs.Replacements.{sum_over}
 use Rattle.modular_sums.proofs.Images.{same_sum}
 use Rattle.labelled_trees.specs.Trees.{Tree, Row, node, none, more, row, inputs, width, graft, graft_row}
@@ -12,20 +13,22 @@ use Rattle.labelled_trees.specs.Contexts.{Ctx, RowCtx, hole, inside, here, past,
 use Rattle.labelled_trees.specs.Equality.{tree_discrete}
 use Rattle.labelled_trees.specs.Labelled.{IsLabelled}
 use Rattle.labelled_trees.proofs.Rows.{row-inputs}
+use Rattle.labelled_trees.proofs.Numbered.{labelled_once}
 use Rattle.labelled_trees.proofs.Fitting.{fits_of_fill}
 use Rattle.operad_ideals.specs.Parts.{Sign, minus, times, InOnePart}
 use Rattle.operad_ideals.specs.Spelling.{Agrees, exchanged, inside as inside_one}
 use Rattle.operad_ideals.specs.Sorting.{spelled, spelled_sign}
 use Rattle.operad_ideals.specs.Presentations.{Presentation, residue_of, parts, arity_of, without_relations}
+use Rattle.operad_ideals.specs.SpelledSums.{spelled_sum}
 use Rattle.operad_ideals.specs.Rules.{numbered, exchanged_at, Rule, relation, symmetry, rule_terms}
 use Rattle.operad_ideals.specs.Ideals.{InIdeal}
 use Rattle.operad_ideals.specs.HoleInstances.{HoleInstance, hole_element}
-use Rattle.operad_ideals.specs.IdealLaws.{less_signed, collected, CollectedForms}
+use Rattle.operad_ideals.specs.IdealLaws.{less_signed, CollectedForms}
 use Rattle.operad_ideals.proofs.Signs.{times_assoc}
-use Rattle.operad_ideals.proofs.Links.{two_gone}
-use Rattle.operad_ideals.proofs.Residues.{residue-times, residue_gone, alike_of_gone, less_alike}
+use Rattle.modular_sums.proofs.Links.{two_gone}
+use Rattle.operad_ideals.proofs.Residues.{residue-times, residue_gone}
 use Rattle.operad_ideals.proofs.Exchanged.{graft_row-exchanged}
-use Rattle.operad_ideals.proofs.Spellings.{labelled_once, spelled-agrees}
+use Rattle.operad_ideals.proofs.Spellings.{spelled-agrees}
 use Rattle.operad_ideals.proofs.Ideals.{ideal_zero, ideal-append, ideal-scale, ideal-same}
 use Rattle.operad_ideals.proofs.HoleInstances.{ideals_are_one}
 use Rattle.operad_ideals.proofs.AgreementLinks.{near_spelled}
@@ -66,9 +69,9 @@ record Among (c : RowCtx ℕ) : Type 0 where
   back : List (Tree ℕ)
   is : (x : Tree ℕ) → fill_row c x ≡ row (front ++ fill inner x ∷ back)
 
-nothing_at : (t : Tree ℕ) → coef {M = Tree ℕ} tree_discrete [] t ≡ 0
-unfolding coef
-nothing_at t = refl
+-- the spelled sum over a presentation
+abbrev collected : Presentation → List (ℕ × Tree ℕ) → List (ℕ × Tree ℕ)
+collected p e = spelled_sum p.q (parts p) e
 
 module _ (p : Presentation) where
   abbrev Agree : Sign → Tree ℕ → Tree ℕ → Type 0
@@ -174,11 +177,11 @@ module _ (p : Presentation) where
           → Alike p.q (coef tree_discrete (collected p (scale x.0 first ++ others)) t) (coef {M = Tree ℕ} tree_discrete [] t)
       go a b = rw (collected-append (scale x.0 first) others, collected-scale x.0 first, coef-append tree_discrete (scale x.0 (collected p first)) (collected p others) t, coef-scale tree_discrete x.0 (collected p first) t)
           (alike_add p.q (x.0 * coef tree_discrete (collected p first) t) (x.0 * coef {M = Tree ℕ} tree_discrete [] t) (coef tree_discrete (collected p others) t) (coef {M = Tree ℕ} tree_discrete [] t)
-          (alike_mul p.q x.0 x.0 (coef tree_discrete (collected p first) t) (coef {M = Tree ℕ} tree_discrete [] t) refl a) b ∙ zeros (coef {M = Tree ℕ} tree_discrete [] t) (nothing_at t))
+          (alike_mul p.q x.0 x.0 (coef tree_discrete (collected p first) t) (coef {M = Tree ℕ} tree_discrete [] t) refl a) b ∙ zeros (coef {M = Tree ℕ} tree_discrete [] t) (coef_nothing tree_discrete t))
 
   -- ---- an element, less its collected form
 
-  less_collected : (n : ℕ) (e : List (ℕ × Tree ℕ)) → AllTerms e (IsLabelled (arity_of p) n) → InIdeal (without_relations p) n (e ++ scale p.q (collected p e))
+  pub less_collected : (n : ℕ) (e : List (ℕ × Tree ℕ)) → AllTerms e (IsLabelled (arity_of p) n) → InIdeal (without_relations p) n (e ++ scale p.q (collected p e))
   unfolding scale coef
   less_collected n [] h = ideal_zero (without_relations p) n
   less_collected n (x ∷ e) h = ideal-same (without_relations p) n ((x ∷ e) ++ scale p.q (collected p (x ∷ e))) (scale x.0 (less_signed p.q x.1 s u) ++ (e ++ scale p.q (collected p e))) adds_up
@@ -230,7 +233,7 @@ collected_forms p n d e hd he = (
       alike_of_gone p.q (coef tree_discrete (collected p d) t) (coef tree_discrete (collected p e) t)
       (ap (λ a. a % suc p.q) (sym (ap (λ l. coef tree_discrete l t) (collected-append p d (scale p.q e) ∙ ap (λ l. collected p d ++ l) (collected-scale p p.q e))
       ∙ coef-append tree_discrete (collected p d) (scale p.q (collected p e)) t ∙ ap (λ a. coef tree_discrete (collected p d) t + a) (coef-scale tree_discrete p.q (collected p e) t)))
-      ∙ z ∙ ap (λ a. a % suc p.q) (nothing_at t)),
+      ∙ z ∙ ap (λ a. a % suc p.q) (coef_nothing tree_discrete t)),
   λ s. ideal-same (without_relations p) n (d ++ scale p.q e) ((d ++ scale p.q (collected p d)) ++ scale p.q (e ++ scale p.q (collected p e)))
       (λ t. rw (
         coef-append tree_discrete d (scale p.q e) t,

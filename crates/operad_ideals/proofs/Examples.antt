@@ -8,7 +8,7 @@ use Rattle.operad_ideals.specs.Parts.{Part, symmetric, skew, free, plus, minus}
 use Rattle.operad_ideals.specs.Spelling.{IsSpelling}
 use Rattle.operad_ideals.specs.Sorting.{spelled, spelled_sign}
 use Rattle.operad_ideals.specs.Laws.{arity}
-use Rattle.operad_ideals.specs.IdealLaws.{collected}
+use Rattle.operad_ideals.specs.SpelledSums.{spelled_sum}
 use Rattle.operad_ideals.proofs.Spellings.{one_spelling}
 
 -- one generator, a bracket: one skew part of two inputs
@@ -42,7 +42,7 @@ pub mixed_stays : (spelled mixed (three 3 1 2) ≡ three 1 3 2) × (spelled_sign
 mixed_stays = (refl, refl)
 
 -- modulo 101: the two trees cancel, since the first is minus the second
-pub bracket_collected : collected (record { q = 100; generators = (bracket 0) ∷ []; relations = [] }) ((1, two (two (leaf 2) (leaf 3)) (leaf 1)) ∷ ((1, two (leaf 1) (two (leaf 2) (leaf 3))) ∷ []))
+pub bracket_collected : spelled_sum 100 bracket ((1, two (two (leaf 2) (leaf 3)) (leaf 1)) ∷ ((1, two (leaf 1) (two (leaf 2) (leaf 3))) ∷ []))
     ≡ (100, two (leaf 1) (two (leaf 2) (leaf 3))) ∷ ((1, two (leaf 1) (two (leaf 2) (leaf 3))) ∷ [])
 bracket_collected = refl
 

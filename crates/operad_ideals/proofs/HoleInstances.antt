@@ -1,18 +1,20 @@
 -- Instances with a built-in hole, and those whose context is a tree, give one ideal.
 use Rattle.std.proofs.Common.{◌≡◌, ℕ, zero, suc, ◌+◌, ◌<◌, ◌≤◌, List, [], ◌∷◌, refl, sym, ◌∙◌, ap, arith, subst, inl, inr}
 use Rattle.std.specs.Prelude.{flat_map}
-use native.Mathlib.Decide.{dec_lt, ℕ_discrete}
+use native.Mathlib.Decide.{ℕ_discrete}
 use Rattle.modular_sums.specs.Lists.{Mem}
 use Rattle.modular_sums.specs.Sums.{scale, expand, moved, AllTerms}
 use Rattle.modular_sums.proofs.Sums.{Member-append, Member-scale, Member-same}
 use Rattle.modular_sums.proofs.Images.{AllTerms-imp, moved_eq, moved_ext}
-use Rattle.labelled_trees.specs.Trees.{Tree, Row, leaf, node, none, more, graft}
-use Rattle.labelled_trees.specs.Contexts.{Ctx, RowCtx, hole, inside, here, past, fill, fill_row}
-use Rattle.labelled_trees.specs.Leaves.{one_if, sum_leaves, sum_row, AllLeaves, AllRow, occurs}
+use Rattle.labelled_trees.specs.Trees.{Tree, leaf, node, graft}
+use Rattle.labelled_trees.specs.Contexts.{fill}
+use Rattle.labelled_trees.specs.Leaves.{one_if, AllLeaves, AllRow, occurs}
 use Rattle.labelled_trees.specs.Equality.{tree_discrete}
 use Rattle.labelled_trees.specs.Labelled.{IsLabelled}
 use Rattle.labelled_trees.specs.Insertions.{IsContext, put, item, listed}
-use Rattle.labelled_trees.proofs.Leaves.{by_leaf, at_leaf, AllLeaves-imp, one_if-yes}
+use Rattle.labelled_trees.proofs.Leaves.{by_leaf, at_leaf, AllLeaves-imp, AllLeaves-zero}
+use Rattle.labelled_trees.proofs.ContextLeaves.{zero_once}
+use Rattle.labelled_trees.proofs.Numbered.{numbered_of_labelled, numbered_no_zero}
 use Rattle.labelled_trees.proofs.GraftLeaves.{graft_ext, sum_leaves-graft}
 use Rattle.labelled_trees.proofs.Holes.{hole_at}
 use Rattle.labelled_trees.proofs.Insertions.{put-fill, length-listed, item-listed}
@@ -21,41 +23,12 @@ use Rattle.operad_ideals.specs.Rules.{numbered, Rule, relation, symmetry, rule_a
 use Rattle.operad_ideals.specs.Ideals.{placed, Instance, element, InIdeal}
 use Rattle.operad_ideals.specs.HoleInstances.{HoleInstance, hole_element, InHoleIdeal}
 use Rattle.operad_ideals.specs.IdealLaws.{OneIdeal}
-use Rattle.operad_ideals.proofs.Links.{member_zero, member_one}
+use Rattle.modular_sums.proofs.Links.{member_zero, member_one}
 use Rattle.operad_ideals.proofs.Exchanged.{all_row-exchanged, numbered_within, numbered_each}
 use Rattle.operad_ideals.proofs.Ideals.{ideal_zero, ideal_one, ideal-append, ideal-same}
 
--- what a context adds to a sum over the leaves
-pub record Adds (c : Ctx ℕ) (f : ℕ → ℕ) : Type 0 where
-  pub count : ℕ
-  pub is : (x : Tree ℕ) → sum_leaves (fill c x) f ≡ count + sum_leaves x f
-
-record AddsRow (c : RowCtx ℕ) (f : ℕ → ℕ) : Type 0 where
-  count : ℕ
-  is : (x : Tree ℕ) → sum_row (fill_row c x) f ≡ count + sum_leaves x f
-
-mutual
-  pub adds : (c : Ctx ℕ) (f : ℕ → ℕ) → Adds c f
-  adds hole f = record { count = 0; is = λ x. omega arith }
-  adds (inside g c) f = let k = adds_row c f in record { count = k.count; is = k.is }
-
-  adds_row : (c : RowCtx ℕ) (f : ℕ → ℕ) → AddsRow c f
-  adds_row (here c r) f = let k = adds c f in record { count = k.count + sum_row r f; is = λ x. omega (arith, k.is x) }
-  adds_row (past t c) f = let k = adds_row c f in record { count = sum_leaves t f + k.count; is = λ x. omega (arith, k.is x) }
-
-pub occurs_self : (m : ℕ) → occurs m (leaf m) ≡ 1
-occurs_self m = one_if-yes (ℕ_discrete m m) refl
-
-mutual
-  all_zero : (t : Tree ℕ) (f : ℕ → ℕ) → sum_leaves t f ≡ 0 → AllLeaves t (λ a. f a ≡ 0)
-  all_zero (leaf a) f h = h
-  all_zero (node g r) f h = all_zero_row r f h
-
-  all_zero_row : (r : Row ℕ) (f : ℕ → ℕ) → sum_row r f ≡ 0 → AllRow r (λ a. f a ≡ 0)
-  all_zero_row none f h = tt
-  all_zero_row (more t r) f h = (all_zero t f (omega (arith, h)), all_zero_row r f (omega (arith, h)))
-
-mem_listed : (s : ℕ → Tree ℕ) (a k : ℕ) (t : Tree ℕ) → Mem t (listed s a k) → (i : ℕ) × (t ≡ s i) × (a < i) × (i ≤ a + k)
+-- what stands in a list of the values of s
+pub mem_listed : (s : ℕ → Tree ℕ) (a k : ℕ) (t : Tree ℕ) → Mem t (listed s a k) → (i : ℕ) × (t ≡ s i) × (a < i) × (i ≤ a + k)
 mem_listed s a zero t m = absurd m
 mem_listed s a (suc k) t (inl e) = (suc a, e, omega arith, omega arith)
 mem_listed s a (suc k) t (inr m) = let r = mem_listed s (suc a) k t m in (r.0, r.1, omega (arith, r.2), omega (arith, r.3))
@@ -105,19 +78,6 @@ module _ (p : Presentation) (n : ℕ) (sound : IsSound p) where
     same_terms o = moved_eq (placed tree given) (λ x. fill i.context (graft x i.inputs)) (λ x. AllLeaves x (Within m)) (rule_terms p i.rule) (rule_leaves i.rule)
         (λ x h. put-fill i.context (graft x (item given)) (omega (arith, o)) ∙ ap (fill i.context) (same_graft x h))
 
-    no_leaf : (x : Tree ℕ) → IsLabelled (arity_of p) n x → occurs 0 x ≡ 0
-    no_leaf x h = go (dec_lt 0 (occurs 0 x))
-      where
-        go : Dec (0 < occurs 0 x) → occurs 0 x ≡ 0
-        go (yes o) = let r = h.only 0 o in absurd (omega (arith, r.0))
-        go (no z) = omega (arith, z)
-
-    once_there : (x : Tree ℕ) → occurs 0 (fill i.context x) ≡ 0 → IsContext tree × (occurs 0 x ≡ 0)
-    once_there x z =
-        let a = adds i.context (λ k. one_if (ℕ_discrete k 0)) in
-        let s = occurs_self 0 in
-        (omega (arith, a.is x, a.is (leaf 0), z, s), omega (arith, a.is x, z))
-
     nothing : scale {M = Tree ℕ} c [] ≡ []
     unfolding scale
     nothing = refl
@@ -127,8 +87,8 @@ module _ (p : Presentation) (n : ℕ) (sound : IsSound p) where
     from_terms [] e = subst (λ l. InIdeal p n (scale c (moved (λ x. fill i.context (graft x i.inputs)) l))) (sym e) (subst (InIdeal p n) (sym nothing) (ideal_zero p n))
     from_terms (x ∷ l) e =
         let v : AllTerms (moved (λ x. fill i.context (graft x i.inputs)) (x ∷ l)) (IsLabelled (arity_of p) n) = subst (λ k. AllTerms (moved (λ x. fill i.context (graft x i.inputs)) k) (IsLabelled (arity_of p) n)) e i.labelled in
-        let o = once_there (graft x.1 i.inputs) (no_leaf (fill i.context (graft x.1 i.inputs)) v.0) in
-        let zs = all_zero x.1 (λ k. occurs 0 (i.inputs k)) (sym (sum_leaves-graft x.1 i.inputs (λ k. one_if (ℕ_discrete k 0))) ∙ o.1) in
+        let o = zero_once i.context (graft x.1 i.inputs) (numbered_no_zero (numbered_of_labelled v.0)) in
+        let zs = AllLeaves-zero x.1 (λ k. occurs 0 (i.inputs k)) (sym (sum_leaves-graft x.1 i.inputs (λ k. one_if (ℕ_discrete k 0))) ∙ o.1) in
         subst (λ k. InIdeal p n (scale c k)) (same_terms o.0) (ideal_one p n record {
           residue = c;
           context = tree;

@@ -1,11 +1,11 @@
 -- The ideal is closed under sums, multiples and sameness.
-use Rattle.std.proofs.Common.{◌≡◌, ℕ, suc, ◌*◌, ◌%◌, List, [], ◌∷◌, map, refl, sym, ap, ◌∙◌, arith, append-nil, append_assoc}
+use Rattle.std.proofs.Common.{◌≡◌, ℕ, suc, ◌*◌, ◌%◌, List, [], ◌∷◌, map, refl, sym, ap, ◌∙◌, append-nil, append_assoc}
 use Rattle.std.specs.Prelude.{flat_map}
 use mathlib.Core.List.{◌++◌}
 use mathlib.Core.Path.{ap₂}
 use Rattle.modular_sums.specs.Sums.{coef, scale, Same, moved}
 use Rattle.modular_sums.proofs.Residues.{alike_add, alike_mul}
-use Rattle.modular_sums.proofs.Sums.{coef-append, coef-scale}
+use Rattle.modular_sums.proofs.Sums.{coef-append, coef-scale, scale-scale}
 use Rattle.labelled_trees.specs.Trees.{Tree}
 use Rattle.labelled_trees.specs.Equality.{tree_discrete}
 use Rattle.operad_ideals.specs.Presentations.{Presentation}
@@ -17,16 +17,6 @@ scale-append : (c : ℕ) (e f : List (ℕ × Tree ℕ)) → scale c (e ++ f) ≡
 unfolding scale
 scale-append c [] f = refl
 scale-append c (x ∷ e) f = ap (λ l. (c * x.0, x.1) ∷ l) (scale-append c e f)
-
-pub scale-scale : (c d : ℕ) (e : List (ℕ × Tree ℕ)) → scale (c * d) e ≡ scale c (scale d e)
-unfolding scale
-scale-scale c d [] = refl
-scale-scale c d (x ∷ e) = let a : c * d * x.0 ≡ c * (d * x.0) = omega arith in ap₂ (λ k l. (k, x.1) ∷ l) a (scale-scale c d e)
-
-pub scale-one : (e : List (ℕ × Tree ℕ)) → scale 1 e ≡ e
-unfolding scale
-scale-one [] = refl
-scale-one (x ∷ e) = let a : 1 * x.0 ≡ x.0 = omega arith in ap₂ (λ k l. (k, x.1) ∷ l) a (scale-one e)
 
 module _ (p : Presentation) (n : ℕ) where
   elements-append : (k l : List (Instance p n)) → flat_map (element p n) (k ++ l) ≡ flat_map (element p n) k ++ flat_map (element p n) l

@@ -1,22 +1,15 @@
--- The least leaves of different inputs are different.
-use Rattle.std.proofs.Common.{◌≡◌, ◌≢◌, ⊎_elim, ℕ, ◌<◌, ◌≤◌, refl, sym, subst, arith, min}
-use native.Mathlib.Decide.{ℕ_discrete}
+-- Least leaves: they are least, and those of different inputs are different.
+use Rattle.std.proofs.Common.{◌≡◌, ◌≢◌, ⊎_elim, ℕ, ◌<◌, ◌≤◌, sym, subst, arith, min}
 use Rattle.std.specs.List.{AllByRecursion}
 use Rattle.labelled_trees.specs.Trees.{Tree, Row, leaf, node, none, more, inputs, width}
-use Rattle.labelled_trees.specs.Leaves.{occurs, occurs_row, one_if}
+use Rattle.labelled_trees.specs.Leaves.{occurs, occurs_row, AllLeaves, AllRow}
+use Rattle.labelled_trees.proofs.Leaves.{occurs_self, AllLeaves-imp, AllRow-imp}
 use Rattle.labelled_trees.specs.Labelled.{Fits, FitsRow}
 use Rattle.operad_ideals.specs.Spelling.{least_leaf, least_leaf_row}
 use Rattle.operad_ideals.proofs.SortedLists.{Apart, tested}
 
 positive_at : (a b : ℕ) (f : ℕ → ℕ) → a ≡ b → 0 < f a → 0 < f b
 positive_at a b f e h = subst (λ n. 0 < f n) e h
-
-stands_at : (n : ℕ) → 0 < one_if (ℕ_discrete n n)
-stands_at n = decided (ℕ_discrete n n)
-  where
-    decided : (d : Dec (n ≡ n)) → 0 < one_if d
-    decided (yes e) = omega arith
-    decided (no f) = absurd (f refl)
 
 least_more : (t : Tree ℕ) (r : Row ℕ) → 0 < occurs (least_leaf t) t → (0 < width r → 0 < occurs_row (least_leaf_row r) r) → 0 < occurs_row (least_leaf_row (more t r)) (more t r)
 least_more t none h k = omega (arith, h)
@@ -32,12 +25,26 @@ least_more t (more u r) h k =
 mutual
   -- the least number at a leaf stands at a leaf
   pub occurs-least_leaf : (arity : ℕ → ℕ) (t : Tree ℕ) → Fits arity t → 0 < occurs (least_leaf t) t
-  occurs-least_leaf arity (leaf n) h = stands_at n
+  occurs-least_leaf arity (leaf n) h = let one = occurs_self n in omega (arith, one)
   occurs-least_leaf arity (node g r) h = occurs-least_leaf_row arity r h.2 (omega (arith, h.0, h.1))
 
   occurs-least_leaf_row : (arity : ℕ → ℕ) (r : Row ℕ) → FitsRow arity r → 0 < width r → 0 < occurs_row (least_leaf_row r) r
   occurs-least_leaf_row arity none h l = absurd (omega (arith, l))
   occurs-least_leaf_row arity (more t r) h l = least_more t r (occurs-least_leaf arity t h.0) (occurs-least_leaf_row arity r h.1)
+
+mutual
+  -- the least leaf is the least
+  pub least_leaf-le : (t : Tree ℕ) → AllLeaves t (λ i. least_leaf t ≤ i)
+  least_leaf-le (leaf n) = omega arith
+  least_leaf-le (node g r) = least_leaf_row-le r
+
+  least_leaf_row-le : (r : Row ℕ) → AllRow r (λ i. least_leaf_row r ≤ i)
+  least_leaf_row-le none = tt
+  least_leaf_row-le (more t none) = (least_leaf-le t, tt)
+  least_leaf_row-le (more t (more u r)) = (
+    AllLeaves-imp t (λ i. least_leaf t ≤ i) (λ i. min (least_leaf t) (least_leaf_row (more u r)) ≤ i) (λ i k. omega (arith, k)) (least_leaf-le t),
+    AllRow-imp (more u r) (λ i. least_leaf_row (more u r) ≤ i) (λ i. min (least_leaf t) (least_leaf_row (more u r)) ≤ i) (λ i k. omega (arith, k)) (least_leaf_row-le (more u r)),
+  )
 
 -- a number that stands at no leaf is no least leaf
 others_apart : (arity : ℕ → ℕ) (n : ℕ) (r : Row ℕ) → FitsRow arity r → occurs_row n r ≡ 0 → AllByRecursion (λ t. n ≢ least_leaf t) (inputs r)

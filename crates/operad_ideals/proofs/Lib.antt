@@ -7,7 +7,6 @@ pub mod Agreement
 pub mod Exchanges
 pub mod LeastLeaves
 pub mod Spellings
-pub mod Links
 pub mod Exchanged
 pub mod Ideals
 pub mod HoleInstances

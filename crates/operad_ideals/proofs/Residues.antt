@@ -1,7 +1,7 @@
 -- The residues that stand for signs.
 use Rattle.std.proofs.Common.{◌≡◌, ℕ, suc, ◌+◌, ◌*◌, ◌%◌, refl, sym, ap, ◌∙◌, arith}
 use Rattle.modular_sums.specs.Residues.{Alike}
-use Rattle.modular_sums.proofs.Residues.{alike_add, alike_mul, alike_drop}
+use Rattle.modular_sums.proofs.Residues.{alike_drop}
 use Rattle.operad_ideals.specs.Parts.{Sign, plus, minus, times}
 use Rattle.operad_ideals.specs.Presentations.{residue_of}
 
@@ -22,19 +22,3 @@ residue-times q minus minus = minus_twice q
 pub residue_gone : (q : ℕ) (s : Sign) → Alike q (residue_of q s + residue_of q (times minus s)) 0
 residue_gone q plus = let z : 1 + q ≡ 0 + (1 + q * 1) = omega arith in rw z (alike_drop q 0 1)
 residue_gone q minus = let z : q + 1 ≡ 0 + (1 + q * 1) = omega arith in rw z (alike_drop q 0 1)
-
--- x minus y is zero: x and y are alike
-pub alike_of_gone : (q x y : ℕ) → Alike q (x + q * y) 0 → Alike q x y
-alike_of_gone q x y h =
-    let k : Alike q (x + q * y + y) (0 + y) = alike_add q (x + q * y) 0 y y h refl in
-    let a : x + q * y + y ≡ x + (y + q * y) = omega arith in
-    let b : 0 + y ≡ y = omega arith in
-    sym (alike_drop q x y) ∙ (rw (a, b) at k)
-
--- d minus e, where f and g are alike, is d minus f, less e minus g
-pub less_alike : (q d e f g : ℕ) → Alike q f g → Alike q (d + q * e) (d + q * f + q * (e + q * g))
-less_alike q d e f g h =
-    let a : d + q * f + q * (e + q * g) ≡ d + q * e + q * (q * g) + q * f = omega arith in
-    let b : d + q * e + q * (q * g) + q * g ≡ d + q * e + (q * g + q * (q * g)) = omega arith in
-    let c : Alike q (d + q * e + q * (q * g) + q * f) (d + q * e + q * (q * g) + q * g) = alike_add q _ _ (q * f) (q * g) refl (alike_mul q q q f g refl h) in
-    rw a (sym (c ∙ ap (λ n. n % suc q) b ∙ alike_drop q (d + q * e) (q * g)))

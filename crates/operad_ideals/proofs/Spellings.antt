@@ -1,18 +1,19 @@
 -- The sorted spelling: what it keeps, that it agrees and is sorted, and that it is the only one.
-use Rattle.std.proofs.Common.{◌≡◌, ⊎_elim, ℕ, suc, ◌<◌, ◌≤◌, List, [], ◌∷◌, ◌++◌, length, map, take, drop, get_or, refl, sym, ap, ap₂, ◌∙◌, subst, arith}
+use Rattle.std.proofs.Common.{◌≡◌, ℕ, suc, ◌<◌, ◌≤◌, List, [], ◌∷◌, ◌++◌, length, map, take, drop, get_or, refl, sym, ap, ap₂, ◌∙◌, subst, arith}
 use native.Mathlib.Decide.{ℕ_discrete}
 use Rattle.std.specs.List.{AllByRecursion}
 use Rattle.std.proofs.Math.ListN.{length-map}
 use Rattle.labelled_trees.specs.Trees.{Tree, Row, leaf, node, none, more, row, inputs, width}
 use Rattle.labelled_trees.specs.Leaves.{sum_leaves, occurs, occurs_row, one_if}
-use Rattle.labelled_trees.specs.Labelled.{Fits, FitsRow, IsLabelled}
+use Rattle.labelled_trees.specs.Labelled.{Fits, FitsRow}
+use Rattle.labelled_trees.proofs.Numbered.{labelled_once}
 use Rattle.labelled_trees.proofs.Rows.{inputs-row, row-inputs, fits_input, sum_leaves-le_row}
 use Rattle.operad_ideals.specs.Parts.{Part, Sign, plus, times, total}
 use Rattle.operad_ideals.specs.Spelling.{least_leaf, Agrees, same, exchanged, inside, followed, IsSorted, IsSortedRow}
 use Rattle.operad_ideals.specs.Sorting.{sort_parts, parts_sign, spelled, spelled_row, spelled_sign, spelled_sign_row}
 use Rattle.operad_ideals.specs.Laws.{arity, OneSpelling}
 use Rattle.operad_ideals.proofs.Signs.{times-plus, times_assoc, times_left_comm}
-use Rattle.operad_ideals.proofs.SortedLists.{Apart, exchange, exchange-map, apart-at, apart-take, apart-drop, apart-map, apart-unmap, tested}
+use Rattle.operad_ideals.proofs.SortedLists.{Apart, exchange, exchange-map, apart-at, apart-take, apart-drop, apart-map, apart-unmap}
 use Rattle.operad_ideals.proofs.SortedParts.{Rise, sort_parts-exchange, parts_sign-exchange, every_sort_parts, sort_parts-same, parts_sign-ascending, sort_parts-rise}
 use Rattle.operad_ideals.proofs.Exchanges.{Reaches, reaches_spelled}
 use Rattle.operad_ideals.proofs.LeastLeaves.{row_apart}
@@ -61,17 +62,6 @@ pub part_apart-at : (parts : ℕ → List Part) (g : ℕ) (r : Row ℕ) → Fits
     → least_leaf (get_or (take k (drop m (spelled_row parts r))) i d) ≡ least_leaf (get_or (take k (drop m (spelled_row parts r))) j d) → ⊥
 part_apart-at parts g r h once k m =
     apart-at least_leaf (take k (drop m (spelled_row parts r))) (apart-take least_leaf k (drop m (spelled_row parts r)) (apart-drop least_leaf m (spelled_row parts r) (inputs_apart parts g r h once)))
-
--- ---- labelled trees
-
-pub labelled_fits : {arity : ℕ → ℕ} {n : ℕ} {t : Tree ℕ} → IsLabelled arity n t → Fits arity t
-labelled_fits l = l.fits
-
--- each number stands at one leaf at most
-pub labelled_once : {arity : ℕ → ℕ} {n : ℕ} {t : Tree ℕ} → IsLabelled arity n t → (i : ℕ) → occurs i t ≤ 1
-labelled_once {t} l i = ⊎_elim
-    (λ h. let e : occurs i t ≡ 1 = l.each i ((l.only i h).0) ((l.only i h).1) in omega (arith, e))
-    (λ h. omega (arith, h)) (tested 0 (occurs i t))
 
 -- ---- the spellings of trees that agree
 
@@ -181,9 +171,9 @@ module _ (parts : ℕ → List Part) where
 
 pub one_spelling : OneSpelling
 one_spelling parts n t l = (
-  record { agrees = agrees_spelled parts t (labelled_fits l) (labelled_once l); sorted = is_sorted_spelled parts t (labelled_fits l) (labelled_once l) },
+  record { agrees = agrees_spelled parts t l.fits (labelled_once l); sorted = is_sorted_spelled parts t l.fits (labelled_once l) },
   λ s u h.
-      let both = spelled-agrees parts s t u h.agrees (labelled_fits l) (labelled_once l) in
+      let both = spelled-agrees parts s t u h.agrees l.fits (labelled_once l) in
       let own = sorted_spelling parts u h.sorted in
       (sym (both.1 ∙ ap (times s) own.1 ∙ times-plus s), sym (both.0 ∙ own.0)),
 )

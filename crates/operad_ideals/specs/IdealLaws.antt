@@ -1,5 +1,5 @@
 -- What holds of the ideal of a presentation.
-use Rattle.std.specs.Prelude.{ℕ, ◌↔◌, ◌*◌, List, [], ◌∷◌, ◌++◌}
+use Rattle.std.specs.Prelude.{ℕ, ◌↔◌, List, [], ◌∷◌, ◌++◌}
 use Rattle.modular_sums.specs.Sums.{scale, Same, AllTerms}
 use Rattle.labelled_trees.specs.Trees.{Tree}
 use Rattle.labelled_trees.specs.Equality.{tree_discrete}
@@ -8,6 +8,7 @@ use Rattle.operad_ideals.specs.Parts.{Sign, minus, times}
 use Rattle.operad_ideals.specs.Spelling.{Agrees}
 use Rattle.operad_ideals.specs.Sorting.{spelled, spelled_sign}
 use Rattle.operad_ideals.specs.Presentations.{Presentation, residue_of, parts, arity_of, IsSound, IsProper, without_relations}
+use Rattle.operad_ideals.specs.SpelledSums.{spelled_sum}
 use Rattle.operad_ideals.specs.Ideals.{Instance, element, InIdeal}
 use Rattle.operad_ideals.specs.HoleInstances.{InHoleIdeal}
 
@@ -34,15 +35,10 @@ OnlyZeroInArityOne = (p : Presentation) → IsSound p → IsProper p → (e : Li
 abbrev pub less_signed : ℕ → Tree ℕ → Sign → Tree ℕ → List (ℕ × Tree ℕ)
 less_signed q t s u = (1, t) ∷ ((residue_of q (times minus s), u) ∷ [])
 
--- The element with each tree's sorted spelling in its place, times its sign: its coefficients are those of the collected form.
-abbrev pub collected : Presentation → List (ℕ × Tree ℕ) → List (ℕ × Tree ℕ)
-collected p [] = []
-collected p (x ∷ e) = (x.0 * residue_of p.q (spelled_sign (parts p) x.1), spelled (parts p) x.1) ∷ collected p e
-
 -- Two elements have one collected form exactly where their difference is a sum of instances of symmetry rules.
 abbrev pub CollectedForms : Type 0
 CollectedForms = (p : Presentation) (n : ℕ) (d e : List (ℕ × Tree ℕ)) → AllTerms d (IsLabelled (arity_of p) n) → AllTerms e (IsLabelled (arity_of p) n)
-    → InIdeal (without_relations p) n (d ++ scale p.q e) ↔ Same tree_discrete p.q (collected p d) (collected p e)
+    → InIdeal (without_relations p) n (d ++ scale p.q e) ↔ Same tree_discrete p.q (spelled_sum p.q (parts p) d) (spelled_sum p.q (parts p) e)
 
 -- A labelled tree less the sign times a tree that agrees with it is a sum of instances of symmetry rules,
 -- and so is a labelled tree less its sign times its sorted spelling.

@@ -3,6 +3,7 @@ pub mod Spelling
 pub mod Sorting
 pub mod Laws
 pub mod Presentations
+pub mod SpelledSums
 pub mod Rules
 pub mod Ideals
 pub mod HoleInstances

@@ -1,5 +1,5 @@
 -- The diamond lemma for insertions by slots, by a rank of the trees.
-use Rattle.std.proofs.Common.{◌%◌, ◌≡◌, ◌≢◌, ℕ, suc, ◌+◌, ◌<◌, ◌≤◌, List, [], ◌∷◌, refl, sym, ◌∙◌, ap, arith, inl, inr, ◌⊎◌}
+use Rattle.std.proofs.Common.{◌%◌, ◌≡◌, ℕ, suc, ◌+◌, ◌<◌, ◌≤◌, List, [], ◌∷◌, refl, sym, ◌∙◌, ap, arith, inl, inr, ◌⊎◌}
 use mathlib.Core.Path.{ap₂}
 use mathlib.Core.List.{◌++◌}
 use Rattle.labelled_trees.specs.Labelled.{Fits}
@@ -14,7 +14,7 @@ use Rattle.labelled_trees.specs.Leaves.{AllLeaves, occurs}
 use Rattle.shuffle_insertions.specs.ShuffleTrees.{IsShuffle}
 use Rattle.shuffle_insertions.specs.Slots.{fill_slot}
 use Rattle.modular_sums.specs.Sums.{hit, coef, Same, scale, expand, moved, AllTerms}
-use Rattle.modular_sums.proofs.Sums.{Same-cancelled}
+use Rattle.modular_sums.proofs.Sums.{hit-yes, hit-no, Same-cancelled}
 use Rattle.modular_sums.proofs.Images.{moved_eq}
 use Rattle.modular_sums.proofs.Diamond.{diamond}
 use Rattle.modular_sums.specs.Diamond.{HaveHosts, HostsBelow, Led}
@@ -109,14 +109,6 @@ module _ (base : Setting) (basis : AreMonic base) (order : IsTreeOrder base.arit
     hit_less x t c m (yes e) lt le = let r : rank x ≡ rank t = ap rank e in absurd (omega arith)
     hit_less x t c m (no _) lt le = refl
 
-    hit_not : (x t : Tree ℕ) (c : ℕ) (d : Dec (x ≡ t)) → x ≢ t → hit d c ≡ 0
-    hit_not x t c (yes e) ne = absurd (ne e)
-    hit_not x t c (no _) ne = refl
-
-    hit_self : (x : Tree ℕ) (c : ℕ) (d : Dec (x ≡ x)) → hit d c ≡ c
-    hit_self x c (yes e) = refl
-    hit_self x c (no f) = absurd (f refl)
-
     low_tail : (i : Placed base n) (l : List (ℕ × Tree ℕ)) (t : Tree ℕ) → AllTerms l (λ x. IsShuffle i.of.arity x × IsLess base x i.of.lead) → AllTerms l (Fits base.arity)
         → rank (host i) ≤ rank t → coef tree_discrete (moved (fill_slot i.at) l) t ≡ 0
     unfolding coef
@@ -133,12 +125,12 @@ module _ (base : Setting) (basis : AreMonic base) (order : IsTreeOrder base.arit
     monic = record {
       at_host = λ i.
           let z : coef tree_discrete (moved (fill_slot i.at) i.of.tail) (host i) ≡ 0 = low_tail i i.of.tail (host i) (tail_valid base basis i.of i.member) (tail_fits base basis i.of i.member) (omega arith) in
-          let o : hit (tree_discrete (host i) (host i)) 1 ≡ 1 = hit_self (host i) 1 (tree_discrete (host i) (host i)) in
+          let o : hit (tree_discrete (host i) (host i)) 1 ≡ 1 = hit-yes (tree_discrete (host i) (host i)) 1 refl in
           let e : 1 + 0 ≡ 1 = omega arith in
           rw (z, o, e);
       above = λ i t ne le.
           let z : coef tree_discrete (moved (fill_slot i.at) i.of.tail) t ≡ 0 = low_tail i i.of.tail t (tail_valid base basis i.of i.member) (tail_fits base basis i.of i.member) le in
-          let o : hit (tree_discrete (host i) t) 1 ≡ 0 = hit_not (host i) t 1 (tree_discrete (host i) t) (λ e. ne (sym e)) in
+          let o : hit (tree_discrete (host i) t) 1 ≡ 0 = hit-no (tree_discrete (host i) t) 1 (λ e. ne (sym e)) in
           let e : 0 + 0 ≡ 0 = omega arith in
           rw (z, o, e);
     }

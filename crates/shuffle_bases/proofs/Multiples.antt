@@ -26,7 +26,7 @@ use Rattle.modular_sums.proofs.Images.{AllTerms-imp}
 use Rattle.labelled_trees.proofs.Grafts.{graft_assoc}
 use Rattle.labelled_trees.proofs.Contexts.{graft-fill}
 use Rattle.shuffle_insertions.proofs.Comparing.{less_nat, then_first}
-use Rattle.shuffle_insertions.proofs.Insertions.{once_of}
+use Rattle.shuffle_insertions.proofs.LabelSums.{once_of}
 use Rattle.shuffle_places.proofs.Vertices.{In}
 use Rattle.shuffle_places.proofs.PatternSets.{start_row_in}
 use Rattle.shuffle_places.proofs.Frames.{numbers-graft, cut_of_slot}

@@ -8,6 +8,8 @@ use Rattle.std.specs.Ordering.{nat_cmp, ordering_then, MatchOrdering}
 use Rattle.std.specs.Cmp.{IsTotalOrder}
 use Rattle.std.specs.Cmp.Lexicographic.{slice_cmp}
 use Rattle.std.proofs.lemmas.Cmp.{ranked, nat_cmp_total, nat_list_cmp_total, lists_total, then_total, back_total, on_total, tied_itself}
+use Rattle.std.proofs.lemmas.Map.Lookups.{exact_unsigned}
+use Rattle.labelled_trees.proofs.Orderings.{then_equal}
 use Rattle.shuffle_insertions.proofs.PathWords.{LexLess, WordLess, ShortLess}
 use Rattle.std.specs.Ordering.{ordering_reverse, is_lt}
 use Rattle.std.specs.declared.cmp.Ordering.TheVariants.{Greater}
@@ -34,9 +36,6 @@ weightpath_total = then_total (on_total (λ (a : Key). a.weight) nat_cmp_total) 
 pub nat_less : (x y : ℕ) → nat_cmp x y ≡ Less → x < y
 nat_less x y e = ranked x y Less (sym e)
 
-pub nat_same : (x y : ℕ) → nat_cmp x y ≡ Equal → x ≡ y
-nat_same x y e = ranked x y Equal (sym e)
-
 at_less : (x y : ℕ) (o : Ordering) → MatchOrdering o (x < y) (x ≡ y) (y < x) → x < y → o ≡ Less
 at_less x y Less h lt = refl
 at_less x y Equal h lt = absurd (omega arith)
@@ -57,11 +56,6 @@ pub then_less : (o p : Ordering) → ordering_then o p ≡ Less → (o ≡ Less)
 then_less Less p e = inl refl
 then_less Equal p e = inr (refl, e)
 then_less Greater p e = absurd (cc e)
-
-pub then_equal : (o p : Ordering) → ordering_then o p ≡ Equal → (o ≡ Equal) × (p ≡ Equal)
-then_equal Less p e = absurd (cc e)
-then_equal Equal p e = (refl, e)
-then_equal Greater p e = absurd (cc e)
 
 pub then_first : (o p : Ordering) → o ≡ Less → ordering_then o p ≡ Less
 then_first Less p e = refl
@@ -95,7 +89,7 @@ slice_cmp-append R (x ∷ k) (y ∷ l) m n e = ap (ordering_then (R x y)) (slice
 
 lex_step : (x y : ℕ) (v w : List ℕ) → (slice_cmp nat_cmp v w ≡ Less → LexLess v w) → (nat_cmp x y ≡ Less) ⊎ ((nat_cmp x y ≡ Equal) × (slice_cmp nat_cmp v w ≡ Less)) → (x < y) ⊎ ((x ≡ y) × LexLess v w)
 lex_step x y v w f (inl e) = inl (nat_less x y e)
-lex_step x y v w f (inr h) = inr (nat_same x y h.0, f h.1)
+lex_step x y v w f (inr h) = inr (exact_unsigned x y h.0, f h.1)
 
 pub lex_of : (v w : List ℕ) → length v ≡ length w → slice_cmp nat_cmp v w ≡ Less → LexLess v w
 lex_of [] [] e h = absurd (cc h)
@@ -110,17 +104,17 @@ of_lex (x ∷ v) (y ∷ w) (inl h) = then_first (nat_cmp x y) (slice_cmp nat_cmp
 of_lex (x ∷ v) (y ∷ w) (inr h) = then_second (nat_cmp x y) (slice_cmp nat_cmp v w) Less (same_nat x y h.0) (of_lex v w h.1)
 
 pub word_same : (v w : List ℕ) → word_cmp v w ≡ Equal → v ≡ w
-word_same v w e = list_same nat_cmp nat_same v w (then_equal (nat_cmp (length v) (length w)) (slice_cmp nat_cmp v w) e).1
+word_same v w e = list_same nat_cmp exact_unsigned v w (then_equal (nat_cmp (length v) (length w)) (slice_cmp nat_cmp v w) e).1
 
 pub short_same : (v w : List ℕ) → short_cmp v w ≡ Equal → v ≡ w
-short_same v w e = list_same nat_cmp nat_same v w (then_equal (nat_cmp (length w) (length v)) (slice_cmp nat_cmp v w) e).1
+short_same v w e = list_same nat_cmp exact_unsigned v w (then_equal (nat_cmp (length w) (length v)) (slice_cmp nat_cmp v w) e).1
 
 pub word_less_of : (v w : List ℕ) → word_cmp v w ≡ Less → WordLess v w
 word_less_of v w e = go (then_less (nat_cmp (length v) (length w)) (slice_cmp nat_cmp v w) e)
   where
     go : (nat_cmp (length v) (length w) ≡ Less) ⊎ ((nat_cmp (length v) (length w) ≡ Equal) × (slice_cmp nat_cmp v w ≡ Less)) → WordLess v w
     go (inl h) = inl (nat_less (length v) (length w) h)
-    go (inr h) = let s = nat_same (length v) (length w) h.0 in inr (s, lex_of v w s h.1)
+    go (inr h) = let s = exact_unsigned (length v) (length w) h.0 in inr (s, lex_of v w s h.1)
 
 pub of_word_less : (v w : List ℕ) → WordLess v w → word_cmp v w ≡ Less
 of_word_less v w (inl h) = then_first (nat_cmp (length v) (length w)) (slice_cmp nat_cmp v w) (less_nat (length v) (length w) h)
@@ -131,7 +125,7 @@ short_less_of v w e = go (then_less (nat_cmp (length w) (length v)) (slice_cmp n
   where
     go : (nat_cmp (length w) (length v) ≡ Less) ⊎ ((nat_cmp (length w) (length v) ≡ Equal) × (slice_cmp nat_cmp v w ≡ Less)) → ShortLess v w
     go (inl h) = inl (nat_less (length w) (length v) h)
-    go (inr h) = let s = sym (nat_same (length w) (length v) h.0) in inr (s, lex_of v w s h.1)
+    go (inr h) = let s = sym (exact_unsigned (length w) (length v) h.0) in inr (s, lex_of v w s h.1)
 
 pub of_short_less : (v w : List ℕ) → ShortLess v w → short_cmp v w ≡ Less
 of_short_less v w (inl h) = then_first (nat_cmp (length w) (length v)) (slice_cmp nat_cmp v w) (less_nat (length w) (length v) h)

@@ -1,4 +1,5 @@
 -- The list of all trees is as long as the recursion of the numbers of trees says.
+use Rattle.std.proofs.Math.ListN.{length-map}
 use Rattle.std.proofs.Common.{◌≡◌, ℕ, zero, suc, ◌+◌, ◌-◌, ◌*◌, ◌<◌, ◌≤◌, List, [], ◌∷◌, length, map, refl, sym, ◌∙◌, ap, arith, length-append}
 use mathlib.Core.Path.{ap₂}
 use Rattle.labelled_trees.specs.Trees.{Tree, Row, node, more}
@@ -72,14 +73,10 @@ length_below : {X : Type 0} (b : ℕ) (f : ℕ → List X) (h : ℕ → ℕ) →
 length_below zero f h e = refl
 length_below (suc b) f h e = length-append (joined_below b f) (f b) ∙ ap₂ (λ m n. m + n) (length_below b f h e) (e b)
 
-length_map : {X Y : Type 0} (f : X → Y) (l : List X) → length (map f l) ≡ length l
-length_map f [] = refl
-length_map f (x ∷ l) = ap suc (length_map f l)
-
 length_each : (ts : List (Tree ℕ)) (rs : List (Row ℕ)) → length (each_with_each ts rs) ≡ length ts * length rs
 length_each [] rs = omega arith
 length_each (t ∷ ts) rs =
-    length-append (map (λ r. more t r) rs) (each_with_each ts rs) ∙ ap₂ (λ m n. m + n) (length_map (λ r. more t r) rs) (length_each ts rs)
+    length-append (map (λ r. more t r) rs) (each_with_each ts rs) ∙ ap₂ (λ m n. m + n) (length-map rs (λ r. more t r)) (length_each ts rs)
     ∙ let k : length rs + length ts * length rs ≡ suc (length ts) * length rs = omega arith in k
 
 pub length_rows : (t : List ℕ → List (Tree ℕ)) (f : ℕ → ℕ) → ((l : List ℕ) → length (t l) ≡ f (length l)) → (k : ℕ) (l : List ℕ) → length (rows t k l) ≡ row_count f k (length l)
@@ -102,16 +99,16 @@ length_shuffles labels arity (suc d) l =
     length-append (lone l) (joined_below labels (λ g. map (λ r. node g r) (rows (shuffles labels arity d) (arity g) l)))
     ∙ ap₂ (λ m n. m + n) (length_lone l)
     (length_below labels (λ g. map (λ r. node g r) (rows (shuffles labels arity d) (arity g) l)) (λ g. row_count (tree_count labels arity d) (arity g) (length l))
-    (λ g. length_map (λ r. node g r) (rows (shuffles labels arity d) (arity g) l)
+    (λ g. length-map (rows (shuffles labels arity d) (arity g) l) (λ r. node g r)
     ∙ length_rows (shuffles labels arity d) (tree_count labels arity d) (λ m. length_shuffles labels arity d m) (arity g) l))
 
-length_upto : (n : ℕ) → length (upto n) ≡ n
-length_upto zero = refl
-length_upto (suc n) = length-append (upto n) (suc n ∷ []) ∙ let e = length_upto n in omega (arith, e)
+pub length-upto : (n : ℕ) → length (upto n) ≡ n
+length-upto zero = refl
+length-upto (suc n) = length-append (upto n) (suc n ∷ []) ∙ let e = length-upto n in omega (arith, e)
 
 -- the list of all trees has trees(n) items
 pub length_all : (labels : ℕ) (arity : ℕ → ℕ) (n : ℕ) → length (all_trees labels arity n) ≡ trees labels arity n
-length_all labels arity n = length_shuffles labels arity n (upto n) ∙ ap (tree_count labels arity n) (length_upto n)
+length_all labels arity n = length_shuffles labels arity n (upto n) ∙ ap (tree_count labels arity n) (length-upto n)
 
 -- the recursion of the numbers of trees, without the number of levels
 row_ext : (f h : ℕ → ℕ) (k n : ℕ) → ((m : ℕ) → m ≤ n → f m ≡ h m) → row_count f k n ≡ row_count h k n

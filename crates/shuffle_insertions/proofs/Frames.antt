@@ -1,16 +1,17 @@
 -- Frames and slots.
 use Rattle.std.proofs.Common.{sym, ap₂, ◌≡◌, ℕ, zero, suc, ◌+◌, ◌<◌, ◌≤◌, List, [], ◌∷◌, length, refl, ◌∙◌, ap, arith, subst}
-use native.Mathlib.Decide.{ℕ_discrete, dec_lt}
 use Rattle.labelled_trees.specs.Trees.{Tree, leaf, graft, row}
-use Rattle.labelled_trees.specs.Contexts.{Ctx, RowCtx, hole, inside, here, past, fill, fill_row}
-use Rattle.labelled_trees.specs.Leaves.{occurs, occurs_row}
+use Rattle.labelled_trees.specs.Contexts.{fill}
 use Rattle.labelled_trees.specs.Insertions.{IsContext, put, item, listed}
-use Rattle.labelled_trees.proofs.Leaves.{one_if-yes, by_leaf}
+use Rattle.labelled_trees.proofs.Leaves.{by_leaf}
+use Rattle.labelled_trees.proofs.ContextLeaves.{zero_once}
+use Rattle.labelled_trees.proofs.Numbered.{numbered_no_zero}
 use Rattle.labelled_trees.proofs.GraftLeaves.{graft_ext}
 use Rattle.labelled_trees.proofs.Holes.{hole_at}
 use Rattle.labelled_trees.proofs.Insertions.{put-fill, item-listed, length-listed}
 use Rattle.shuffle_insertions.specs.ShuffleTrees.{least, IsRising, IsRisingRow, IsBefore, IsShuffle}
 use Rattle.shuffle_insertions.specs.Slots.{Slot, fill_slot, PartsRise}
+use Rattle.shuffle_insertions.proofs.LabelSums.{numbered_of_shuffle}
 use Rattle.shuffle_insertions.specs.Frames.{Frame, insert, IsFrame}
 
 -- ---- a frame as a slot
@@ -75,23 +76,6 @@ slot_of k f h =
 
 -- ---- a slot as a frame
 
-mutual
-  -- how often leaf 0 stands in a context whose hole has a tree without it
-  zero_once : (c : Ctx ℕ) (x : Tree ℕ) → occurs 0 (fill c x) ≡ 0 → occurs 0 (fill c (leaf 0)) ≡ 1
-  zero_once hole x z = one_if-yes (ℕ_discrete 0 0) refl
-  zero_once (inside l c) x z = zero_once_row c x z
-
-  zero_once_row : (c : RowCtx ℕ) (x : Tree ℕ) → occurs_row 0 (fill_row c x) ≡ 0 → occurs_row 0 (fill_row c (leaf 0)) ≡ 1
-  zero_once_row (here c r) x z = let k = zero_once c x (omega (arith, z)) in omega (arith, k, z)
-  zero_once_row (past t c) x z = let k = zero_once_row c x (omega (arith, z)) in omega (arith, k, z)
-
-no_zero : (n : ℕ) (t : Tree ℕ) → IsShuffle n t → occurs 0 t ≡ 0
-no_zero n t h = go (dec_lt 0 (occurs 0 t))
-  where
-    go : Dec (0 < occurs 0 t) → occurs 0 t ≡ 0
-    go (yes o) = let r = h.only 0 o in absurd (omega (arith, r.0))
-    go (no z) = omega (arith, z)
-
 listed_rise : (k : ℕ) (s : ℕ → Tree ℕ) → PartsRise k s → (a m : ℕ) → a + m ≤ k → IsRisingRow (row (listed s a m))
 listed_rise k s h a zero le = tt
 listed_rise k s h a (suc zero) le = (h.each (suc a) (omega arith) (omega (arith, le)), tt, tt)
@@ -105,7 +89,7 @@ module _ (k n : ℕ) (s : Slot) (rises : PartsRise k s.parts) (x : Tree ℕ) (hx
   pub frame_of-is_frame : IsFrame k (frame_of k s)
   unfolding frame_of
   frame_of-is_frame = record {
-    context = zero_once s.context (graft x s.parts) (no_zero n (fill_slot s x) valid);
+    context = (zero_once s.context (graft x s.parts) (numbered_no_zero (numbered_of_shuffle valid))).0;
     as_many = length-listed s.parts 0 k;
     rising = listed_rise k s.parts rises 0 k (omega arith);
   }
@@ -114,6 +98,6 @@ module _ (k n : ℕ) (s : Slot) (rises : PartsRise k s.parts) (x : Tree ℕ) (hx
   pub insert-frame_of : (y : Tree ℕ) → IsShuffle k y → insert (frame_of k s) y ≡ fill_slot s y
   unfolding frame_of
   insert-frame_of y h =
-      put-fill s.context (graft y (item (listed s.parts 0 k))) (let o = zero_once s.context (graft x s.parts) (no_zero n (fill_slot s x) valid) in omega (arith, o))
+      put-fill s.context (graft y (item (listed s.parts 0 k))) (let o = (zero_once s.context (graft x s.parts) (numbered_no_zero (numbered_of_shuffle valid))).0 in omega (arith, o))
       ∙ ap (fill s.context) (graft_ext y (item (listed s.parts 0 k)) s.parts
       (by_leaf y (λ i. item (listed s.parts 0 k) i ≡ s.parts i) (λ i o. let r = h.only i o in item-listed s.parts k i r.0 r.1)))

@@ -11,7 +11,7 @@ use Rattle.labelled_trees.proofs.Leaves.{by_leaf, at_leaf}
 use Rattle.labelled_trees.proofs.GraftLeaves.{sum_leaves-graft}
 use Rattle.shuffle_insertions.proofs.LabelSums.{same_counts, same_sums}
 use Rattle.labelled_trees.proofs.ContextLeaves.{sum-fill}
-use Rattle.shuffle_insertions.proofs.Rising.{head, rising_change, rising-fill, least-occurs, least-le}
+use Rattle.shuffle_insertions.proofs.Rising.{head, rising_change, rising-fill, least_same}
 use Rattle.labelled_trees.proofs.Fitting.{fits_parts, fits-graft, fits_of_fill, fits-fill, fits_of_graft}
 
 abbrev pub InRange : ℕ → ℕ → Type 0
@@ -22,22 +22,29 @@ all_among k x h = by_leaf x (InRange k) h.only
 
 -- shuffle trees with the same labels have the same least leaf
 pub same_least : (k : ℕ) (x y : Tree ℕ) → IsShuffle k x → IsShuffle k y → least x ≡ least y
-same_least k x y hx hy =
-    let a : least y ≤ least x = at_leaf y (λ i. least y ≤ i) (least x) (least-le y hy.rising) (subst (λ n. 0 < n) (same_counts k x y hx hy (least x)) (least-occurs x hx.rising)) in
-    let b : least x ≤ least y = at_leaf x (λ i. least x ≤ i) (least y) (least-le x hx.rising) (subst (λ n. 0 < n) (sym (same_counts k x y hx hy (least y))) (least-occurs y hy.rising)) in
-    omega arith
+same_least k x y hx hy = least_same x y hx.rising hy.rising (same_counts k x y hx hy)
+
+-- the parts of a slot stand in order
+pub parts_in_order : (k : ℕ) (s : ℕ → Tree ℕ) → PartsRise k s → (i j : ℕ) → InRange k i → InRange k j → i < j → least (s i) < least (s j)
+parts_in_order k s h i j a b lt = h.order i j a.0 lt b.1
+
+-- a function that rises on some numbers tells their order
+pub order_back : (P : ℕ → Type 0) (f : ℕ → ℕ) → ((i j : ℕ) → P i → P j → i < j → f i < f j) → (i j : ℕ) → P i → P j → f i < f j → i < j
+order_back P f up i j a b lt = go (dec_lt i j) (ℕ_discrete i j)
+  where
+    go : Dec (i < j) → Dec (i ≡ j) → i < j
+    go (yes h) e = h
+    go (no h) (yes e) = let same : f i ≡ f j = ap f e in absurd (omega (arith, same, lt))
+    go (no h) (no n) = let turned : f j < f i = up j i b a (omega (arith, h, n)) in absurd (omega (arith, turned, lt))
 
 module _ (k : ℕ) (s : ℕ → Tree ℕ) (h : PartsRise k s) (x : Tree ℕ) (hx : IsShuffle k x) where
-  order_kept : (i j : ℕ) → InRange k i → InRange k j → i < j → least (s i) < least (s j)
-  order_kept i j a b lt = h.order i j a.0 lt b.1
-
   pub least-graft : least (graft x s) ≡ least (s (least x))
   least-graft =
-      let y = head ℕ (InRange k) leaf s (λ i a. h.each i a.0 a.1) order_kept x (rw graft_leaf hx.rising) (all_among k x hx) in
+      let y = head ℕ (InRange k) leaf s (λ i a. h.each i a.0 a.1) (parts_in_order k s h) x (rw graft_leaf hx.rising) (all_among k x hx) in
       y.3 ∙ ap (λ n. least (s n)) (sym y.2 ∙ ap least (graft_leaf x))
 
   pub rising-graft : IsRising (graft x s)
-  rising-graft = rising_change ℕ (InRange k) leaf s (λ i a. h.each i a.0 a.1) order_kept x (rw graft_leaf hx.rising) (all_among k x hx)
+  rising-graft = rising_change ℕ (InRange k) leaf s (λ i a. h.each i a.0 a.1) (parts_in_order k s h) x (rw graft_leaf hx.rising) (all_among k x hx)
 
 pub occurs-graft : (k : ℕ) (s : ℕ → Tree ℕ) (x y : Tree ℕ) → IsShuffle k x → IsShuffle k y → (i : ℕ) → occurs i (graft x s) ≡ occurs i (graft y s)
 occurs-graft k s x y hx hy i =
@@ -56,13 +63,6 @@ fill_slot-valid k n f x y h hx hy w = record {
 
     counts : (i : ℕ) → occurs i (fill_slot f x) ≡ occurs i (fill_slot f y)
     counts i = sum-fill f.context (graft x f.parts) (graft y f.parts) (λ n. one_if (ℕ_discrete n i)) (occurs-graft k f.parts x y hx hy i)
-
-pub once_of : (n : ℕ) (x : Tree ℕ) → IsShuffle n x → (j : ℕ) → occurs j x ≤ 1
-once_of n x h j = go (dec_lt 0 (occurs j x))
-  where
-    go : Dec (0 < occurs j x) → occurs j x ≤ 1
-    go (yes o) = let r = h.only j o in let e : occurs j x ≡ 1 = h.each j r.0 r.1 in omega arith
-    go (no z) = omega arith
 
 -- and over labels
 pub fill_slot-fits : (arity : ℕ → ℕ) (k : ℕ) (f : Slot) (x y : Tree ℕ) → IsShuffle k x → IsShuffle k y → Fits arity (fill_slot f x) → Fits arity y → Fits arity (fill_slot f y)

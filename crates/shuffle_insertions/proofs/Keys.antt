@@ -1,4 +1,5 @@
 -- The words of the key.
+use Rattle.std.proofs.Math.ListN.{length-map}
 use Rattle.std.proofs.Common.{◌≡◌, ℕ, zero, suc, ◌+◌, ◌<◌, ◌≤◌, List, [], ◌∷◌, length, map, refl, sym, ◌∙◌, ap, arith, subst, inl, inr, ◌⊎◌, length-append}
 use mathlib.Core.Path.{ap₂}
 use mathlib.Core.List.{◌++◌}
@@ -13,24 +14,19 @@ use Rattle.labelled_trees.specs.Leaves.{one_if, occurs, occurs_row}
 use Rattle.shuffle_insertions.specs.ShuffleTrees.{IsShuffle}
 use Rattle.shuffle_insertions.proofs.PathWords.{HasWord, HasWordRow, SameWord, LessByWords}
 use Rattle.shuffle_insertions.specs.Keys.{only_if, words_at, words_at_row, words_below}
-use Rattle.shuffle_insertions.proofs.LabelSums.{same_counts}
+use Rattle.shuffle_insertions.proofs.LabelSums.{same_counts, once_of}
 use Rattle.shuffle_insertions.proofs.Paths.{word_of, word-occurs, word-occurs_row}
 use Rattle.shuffle_insertions.proofs.Comparing.{then_less, then_first, then_second, list_same, itself, slice_cmp-append}
-use Rattle.shuffle_insertions.proofs.Insertions.{once_of}
 use Rattle.modular_sums.proofs.Lists.{tail_same}
 
 length_only : (n j : ℕ) (d : Dec (n ≡ j)) → length (only_if {A = List ℕ} d []) ≡ one_if d
 length_only n j (yes _) = refl
 length_only n j (no _) = refl
 
-length_map : (l : ℕ) (k : List (List ℕ)) → length (map (λ w. l ∷ w) k) ≡ length k
-length_map l [] = refl
-length_map l (x ∷ k) = ap suc (length_map l k)
-
 mutual
   pub length-words_at : (j : ℕ) (t : Tree ℕ) → length (words_at j t) ≡ occurs j t
   length-words_at j (leaf n) = length_only n j (ℕ_discrete n j)
-  length-words_at j (node l r) = length_map l (words_at_row j r) ∙ length-words_at_row j r
+  length-words_at j (node l r) = length-map (words_at_row j r) (λ w. l ∷ w) ∙ length-words_at_row j r
 
   pub length-words_at_row : (j : ℕ) (r : Row ℕ) → length (words_at_row j r) ≡ occurs_row j r
   length-words_at_row j none = refl

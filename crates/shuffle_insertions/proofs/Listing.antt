@@ -15,7 +15,7 @@ use Rattle.labelled_trees.proofs.RangeSums.{range_sum-none, range_sum-one, range
 use Rattle.shuffle_insertions.proofs.Rising.{least-occurs, least_row-le}
 use Rattle.modular_sums.proofs.Lists.{tail_same}
 use Rattle.shuffle_insertions.proofs.Splits.{Split, count, split_count, mem_left_split, mem_right_split, left_rises, right_rises, times-splits, times-below, sum_zero, sum_some, sum_one}
-use Rattle.shuffle_insertions.proofs.Insertions.{once_of}
+use Rattle.shuffle_insertions.proofs.LabelSums.{once_of}
 use Rattle.shuffle_insertions.proofs.ListedRows.{zero_times, one_times, lead_occurs, empty_list, times_node, none_each, node_lone, leaf_node, times_each}
 use Rattle.shuffle_insertions.proofs.Upto.{upto_rises, upto_count}
 use Rattle.shuffle_insertions.proofs.Counted.{distinct_times, times_mem, mem_times}

@@ -22,13 +22,14 @@ mutual
 abbrev pub named : {A : Type 0} → (A → Tree ℕ) → Tree A → Tree ℕ
 named s t = graft t (λ a. leaf (least (s a)))
 
-one_if_le : (i n : ℕ) (t : Tree ℕ) (d : Dec (least t ≡ i)) → 0 < occurs (least t) t → one_if d ≤ occurs i t
-one_if_le i n t (yes e) h = subst (λ k. 1 ≤ occurs k t) e h
-one_if_le i n t (no _) h = omega arith
+-- a tree in which its least leaf stands holds i where that leaf is i
+pub one_if_le : (i : ℕ) (t : Tree ℕ) (d : Dec (least t ≡ i)) → 0 < occurs (least t) t → one_if d ≤ occurs i t
+one_if_le i t (yes e) h = subst (λ k. 1 ≤ occurs k t) e h
+one_if_le i t (no _) h = omega arith
 
 pub occurs-named : {A : Type 0} (s : A → Tree ℕ) (t : Tree A) (i : ℕ) → IsRising (graft t s) → occurs i (named s t) ≤ occurs i (graft t s)
 occurs-named s t i h =
     rw (sum_leaves-graft t (λ a. leaf (least (s a))) (λ n. one_if (ℕ_discrete n i)), sum_leaves-graft t s (λ n. one_if (ℕ_discrete n i)))
     (sum_leaves-≤ t (λ a. one_if (ℕ_discrete (least (s a)) i)) (λ a. occurs i (s a))
     (AllLeaves-imp t (λ a. IsRising (s a)) (λ a. one_if (ℕ_discrete (least (s a)) i) ≤ occurs i (s a))
-    (λ a k. one_if_le i 0 (s a) (ℕ_discrete (least (s a)) i) (least-occurs (s a) k)) (parts_rise t s h)))
+    (λ a k. one_if_le i (s a) (ℕ_discrete (least (s a)) i) (least-occurs (s a) k)) (parts_rise t s h)))

@@ -1,10 +1,10 @@
 -- Trees whose inputs rise: least leaves, grafts, fillings.
-use Rattle.std.proofs.Common.{◌≡◌, ℕ, ◌<◌, ◌≤◌, refl, arith, subst}
+use Rattle.std.proofs.Common.{◌≡◌, ℕ, ◌<◌, ◌≤◌, refl, sym, arith, subst}
 use Rattle.labelled_trees.specs.Trees.{Tree, Row, leaf, node, none, more, graft, graft_row}
 use Rattle.labelled_trees.specs.Contexts.{Ctx, RowCtx, hole, inside, here, past, fill, fill_row}
 use Rattle.shuffle_insertions.specs.ShuffleTrees.{least, least_row, IsBefore, HasInput, IsRising, IsRisingRow}
-use Rattle.labelled_trees.specs.Leaves.{AllLeaves, AllRow, occurs}
-use Rattle.labelled_trees.proofs.Leaves.{by_leaf, AllLeaves-imp, AllRow-imp}
+use Rattle.labelled_trees.specs.Leaves.{AllLeaves, AllRow, occurs, leaf_count}
+use Rattle.labelled_trees.proofs.Leaves.{by_leaf, at_leaf, AllLeaves-imp, AllRow-imp, occurs-≤}
 
 -- what the leaves are replaced by is changed from s to u, and the least leaves keep their order
 module _ (A : Type 0) (P : A → Type 0) (s u : A → Tree ℕ) (each : (a : A) → P a → IsRising (u a))
@@ -105,3 +105,14 @@ mutual
   pub least_row-le : (r : Row ℕ) → IsRisingRow r → AllRow r (λ i. least_row r ≤ i)
   least_row-le none h = tt
   least_row-le (more t r) h = (least-le t h.0, first_below t r h.1 (least_row-le r h.2))
+
+-- rising trees with the same leaves have the same least leaf
+pub least_same : (x y : Tree ℕ) → IsRising x → IsRising y → ((i : ℕ) → occurs i x ≡ occurs i y) → least x ≡ least y
+least_same x y hx hy e =
+    let a : least y ≤ least x = at_leaf y (λ i. least y ≤ i) (least x) (least-le y hy) (subst (λ n. 0 < n) (e (least x)) (least-occurs x hx)) in
+    let b : least x ≤ least y = at_leaf x (λ i. least x ≤ i) (least y) (least-le x hx) (subst (λ n. 0 < n) (sym (e (least y))) (least-occurs y hy)) in
+    omega (arith, a, b)
+
+-- a rising tree has a leaf
+pub rising-some_leaf : (t : Tree ℕ) → IsRising t → 1 ≤ leaf_count t
+rising-some_leaf t h = omega (arith, occurs-≤ (least t) t, least-occurs t h)

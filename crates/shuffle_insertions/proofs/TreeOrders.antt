@@ -18,14 +18,16 @@ use Rattle.shuffle_insertions.specs.Slots.{Slot, fill_slot, PartsRise}
 use Rattle.shuffle_insertions.proofs.PathWords.{HasWord}
 use Rattle.shuffle_insertions.specs.Keys.{words_at, words_below, weight, weight_row, word_cmp, short_cmp, Key, key, path, pathshort, leafpath, weightpath}
 use Rattle.shuffle_insertions.specs.Orders.{IsTreeOrder}
-use Rattle.shuffle_insertions.proofs.LabelSums.{same_sums}
+use Rattle.shuffle_insertions.proofs.LabelSums.{same_sums, once_of}
 use Rattle.labelled_trees.proofs.RangeSums.{by_counts}
 use Rattle.labelled_trees.specs.RangeSums.{range_sum}
 use Rattle.labelled_trees.proofs.Leaves.{by_leaf}
-use Rattle.shuffle_insertions.proofs.Insertions.{InRange, all_among, fill_slot-valid, once_of}
+use Rattle.shuffle_insertions.proofs.Insertions.{InRange, all_among, fill_slot-valid}
 use Rattle.shuffle_insertions.proofs.Paths.{word-occurs, WordLess-between, ShortLess-between, words_kept, same_after}
 use Rattle.shuffle_insertions.proofs.Orders.{rows, less-fill, leaves-graft, less_rows, all_in}
-use Rattle.shuffle_insertions.proofs.Comparing.{turn_greater, nat_less, nat_same, less_nat, same_nat, then_less, then_equal, then_first, then_second, list_same, itself, lex_of, of_lex, word_same, short_same, word_less_of, of_word_less, short_less_of, of_short_less, word_total, short_total, path_total, pathshort_total, leafpath_total, weightpath_total}
+use Rattle.std.proofs.lemmas.Map.Lookups.{exact_unsigned}
+use Rattle.labelled_trees.proofs.Orderings.{then_equal}
+use Rattle.shuffle_insertions.proofs.Comparing.{turn_greater, nat_less, less_nat, same_nat, then_less, then_first, then_second, list_same, itself, lex_of, of_lex, word_same, short_same, word_less_of, of_word_less, short_less_of, of_short_less, word_total, short_total, path_total, pathshort_total, leafpath_total, weightpath_total}
 use Rattle.shuffle_insertions.proofs.Keys.{has_at, all_same, below_of_same, less_of, of_less, at_all}
 use Rattle.shuffle_insertions.proofs.DeterminedByWords.{words_tagged, determined, tag}
 use Rattle.shuffle_insertions.proofs.Frames.{slot_of}
@@ -99,7 +101,7 @@ row_keeps = record {
       (less-fill f.context (graft x f.parts) (graft y f.parts)
       (rw (leaves-graft x f.parts, leaves-graft y f.parts) (less_rows k f.parts r (leaves x) (leaves y) (all_in x (InRange k) (all_among k x hx)) (all_in y (InRange k) (all_among k y hy)) l)));
   same = λ k n f x y r hx hy v e.
-      let l = list_same nat_cmp nat_same (leaves x) (leaves y) e in
+      let l = list_same nat_cmp exact_unsigned (leaves x) (leaves y) e in
       itself (slice_cmp nat_cmp) nat_list_cmp_total (leaves (fill_slot f x)) (leaves (fill_slot f y))
       (same-fill f.context (graft x f.parts) (graft y f.parts) (leaves-graft x f.parts ∙ ap (λ k. rows k f.parts) l ∙ sym (leaves-graft y f.parts)));
 }
@@ -141,7 +143,7 @@ module _ (w : ℕ → ℕ) where
         let a = added k f x y hx hy in let l = nat_less (weight w x) (weight w y) e in
         less_nat (weight w (fill_slot f x)) (weight w (fill_slot f y)) (omega (arith, a.1, a.2, l));
     same = λ k n f x y r hx hy v e.
-        let a = added k f x y hx hy in let l = nat_same (weight w x) (weight w y) e in
+        let a = added k f x y hx hy in let l = exact_unsigned (weight w x) (weight w y) e in
         same_nat (weight w (fill_slot f x)) (weight w (fill_slot f y)) (omega (arith, a.1, a.2, l));
   }
 
@@ -230,7 +232,7 @@ path_keeps = keeps_then (by_words word_cmp word_total word_same word_between) by
 path_only : (a b : Key) → path a b ≡ Equal → (a.words ≡ b.words) × (a.row ≡ b.row)
 path_only a b e =
     let h = then_equal (slice_cmp word_cmp a.words b.words) (slice_cmp nat_cmp a.row b.row) e in
-    (list_same word_cmp word_same a.words b.words h.0, list_same nat_cmp nat_same a.row b.row h.1)
+    (list_same word_cmp word_same a.words b.words h.0, list_same nat_cmp exact_unsigned a.row b.row h.1)
 
 module _ (arity : ℕ → ℕ) (w : ℕ → ℕ) where
   pub path_order : IsTreeOrder arity (λ x y. path (key w x) (key w y))
@@ -241,14 +243,14 @@ module _ (arity : ℕ → ℕ) (w : ℕ → ℕ) where
       (keeps_then (by_words short_cmp short_total short_same short_between) by_row (words_keep short_cmp short_total short_same short_between) row_keeps)
       (λ a b e.
       let h = then_equal (slice_cmp short_cmp a.words b.words) (slice_cmp nat_cmp a.row b.row) e in
-      (list_same short_cmp short_same a.words b.words h.0, list_same nat_cmp nat_same a.row b.row h.1))
+      (list_same short_cmp short_same a.words b.words h.0, list_same nat_cmp exact_unsigned a.row b.row h.1))
 
   pub leafpath_order : IsTreeOrder arity (λ x y. leafpath (key w x) (key w y))
   leafpath_order = tree_order arity w leafpath leafpath_total
       (keeps_then by_row (by_words word_cmp word_total word_same word_between) row_keeps path_words)
       (λ a b e.
       let h = then_equal (slice_cmp nat_cmp a.row b.row) (slice_cmp word_cmp a.words b.words) e in
-      (list_same word_cmp word_same a.words b.words h.1, list_same nat_cmp nat_same a.row b.row h.0))
+      (list_same word_cmp word_same a.words b.words h.1, list_same nat_cmp exact_unsigned a.row b.row h.0))
 
   pub weightpath_order : IsTreeOrder arity (λ x y. weightpath (key w x) (key w y))
   weightpath_order = tree_order arity w weightpath weightpath_total

@@ -11,7 +11,7 @@ use Rattle.shuffle_bases.specs.Reductions.{SElementsReduce, IsLed}
 use Rattle.shuffle_bases.proofs.Laws.{diamond}
 use Rattle.shuffle_normal_forms.specs.FreeTrees.{IsFreeTree}
 use Rattle.shuffle_normal_forms.specs.NormalForms.{InSpan}
-use Rattle.shuffle_normal_forms.proofs.Coefficients.{coef_absent}
+use Rattle.modular_sums.proofs.Coefficients.{coef_absent}
 use Rattle.shuffle_normal_forms.proofs.Listing.{not_free}
 
 module _ (labels : ℕ) (s : Setting) (are : AreLabels labels s.arity) (order : IsTreeOrder s.arity s.compare) (monic : AreMonic s)

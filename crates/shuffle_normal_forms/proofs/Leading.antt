@@ -17,7 +17,7 @@ use Rattle.shuffle_bases.specs.Reductions.{SElementsReduce, IsLed}
 use Rattle.shuffle_bases.proofs.Laws.{diamond}
 use Rattle.shuffle_normal_forms.specs.FreeTrees.{IsFree}
 use Rattle.shuffle_normal_forms.specs.NormalForms.{IsLeadingTree, LeadsNone}
-use Rattle.shuffle_normal_forms.proofs.Coefficients.{coef_absent, coef_first, coef_nothing}
+use Rattle.modular_sums.proofs.Coefficients.{coef_absent, coef_first, coef_nothing}
 use Rattle.shuffle_normal_forms.proofs.Listing.{inserted_or_free, not_free}
 use Rattle.shuffle_normal_forms.proofs.Insertions.{span, rest_of, value_is, IsLower, rest_lower, value_valid}
 

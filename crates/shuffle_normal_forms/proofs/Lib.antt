@@ -1,5 +1,3 @@
-pub mod Coefficients
-pub mod Differences
 pub mod Examples
 pub mod Independent
 pub mod Insertions

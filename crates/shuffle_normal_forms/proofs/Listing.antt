@@ -1,4 +1,5 @@
 -- The list of the free trees, and the trees that aren't free.
+use Rattle.modular_sums.proofs.Lists.{both_true}
 use Rattle.std.proofs.Common.{◌≡◌, ℕ, List, [], ◌∷◌, Bool, true, false, cond, refl, sym, ◌∙◌, ap, subst, inl, inr, ◌⊎◌}
 use Rattle.std.specs.List.{filter}
 use Rattle.modular_sums.specs.Lists.{Mem, Distinct}
@@ -52,10 +53,6 @@ member_of_empty (y ∷ l) x m e = absurd (cc e)
 empty_of_none : {X : Type 0} (l : List X) → ((x : X) → Mem x l → ⊥) → is_empty l ≡ true
 empty_of_none [] f = refl
 empty_of_none (x ∷ l) f = absurd (f x (inl refl))
-
-both_true : (b c : Bool) → cond b c false ≡ true → (b ≡ true) × (c ≡ true)
-both_true true c e = (refl, e)
-both_true false c e = absurd (cc e)
 
 -- no element of the list has a place in the tree
 abbrev NonePlaced : List Element → Tree ℕ → Type 0

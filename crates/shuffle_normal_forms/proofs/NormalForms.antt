@@ -11,7 +11,7 @@ use Rattle.shuffle_bases.specs.Elements.{Setting, AreMonic}
 use Rattle.shuffle_bases.specs.Reductions.{SElementsReduce}
 use Rattle.shuffle_normal_forms.specs.FreeTrees.{IsFreeTree}
 use Rattle.shuffle_normal_forms.specs.NormalForms.{InSpan, IsNormalForm}
-use Rattle.shuffle_normal_forms.proofs.Differences.{same_gone, same_forms_apart, same_sums_apart, same_of_zero}
+use Rattle.modular_sums.proofs.Differences.{same_gone, same_forms_apart, same_sums_apart, same_of_zero}
 use Rattle.shuffle_normal_forms.proofs.Insertions.{span}
 use Rattle.shuffle_normal_forms.proofs.Independent.{zero_in_span}
 

@@ -13,7 +13,7 @@ use Rattle.shuffle_bases.specs.Elements.{Setting, IsLess, AreMonic, Insertion}
 use Rattle.shuffle_bases.proofs.Ranking.{rank, rank_less}
 use Rattle.shuffle_normal_forms.specs.FreeTrees.{IsFree, IsFreeTree}
 use Rattle.shuffle_normal_forms.specs.NormalForms.{InSpan, IsNormalForm, IsAtMost}
-use Rattle.shuffle_normal_forms.proofs.Differences.{same_negated, same_added, same_gone}
+use Rattle.modular_sums.proofs.Differences.{same_negated, same_added, same_gone}
 use Rattle.shuffle_normal_forms.proofs.Listing.{inserted_or_free}
 use Rattle.shuffle_normal_forms.proofs.Insertions.{span, rest_of, value_is, IsLower, rest_lower}
 

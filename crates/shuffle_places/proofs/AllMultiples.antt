@@ -1,6 +1,5 @@
 -- The list of multiples has exactly the small common multiples.
 use Rattle.std.proofs.Common.{◌≡◌, ℕ, ◌<◌, ◌≤◌, List, [], ◌∷◌, Bool, true, false, cond, refl, sym, ◌∙◌, ap, arith, subst, inl, inr, ◌⊎◌}
-use mathlib.Core.List.{◌++◌}
 use native.Mathlib.Decide.{dec_lt}
 use Rattle.std.specs.declared.cmp.Ordering.TheVariants.{Less}
 use Rattle.std.specs.Ordering.{nat_cmp, is_lt}
@@ -17,7 +16,7 @@ use Rattle.shuffle_places.specs.Numberings.{numberings}
 use Rattle.shuffle_places.specs.AllPlaces.{places}
 use Rattle.shuffle_places.specs.Multiples.{IsMultiple}
 use Rattle.shuffle_places.specs.AllMultiples.{meet, cover, in_order, test, joined, different, multiples, only_where}
-use Rattle.modular_sums.proofs.Lists.{both_true, mem_has_by, has_by_mem, has_mem, mem_has, mem_either, mem_left, mem_right}
+use Rattle.modular_sums.proofs.Lists.{both_true, true_both, mem_has_by, has_by_mem, has_mem, mem_has, mem_flat, mem_of_flat, Distinct-append}
 use Rattle.shuffle_places.proofs.Overlays.{multiple_shape}
 use Rattle.shuffle_places.proofs.Numberings.{all_numbered}
 use Rattle.shuffle_places.proofs.AllPlaces.{listed_place, place_listed, places_distinct}
@@ -37,10 +36,6 @@ when_second false c e = e
 one_true : (b c : Bool) → cond b true c ≡ true → (b ≡ true) ⊎ (c ≡ true)
 one_true true c e = inl refl
 one_true false c e = inr e
-
-true_both : (b c : Bool) → b ≡ true → c ≡ true → cond b c false ≡ true
-true_both true c d e = e
-true_both false c d e = absurd (cc d)
 
 meet_shared : (k l : List ℕ) → meet k l ≡ true → (v : ℕ) × Mem v k × Mem v l
 meet_shared [] l e = absurd (cc e)
@@ -97,19 +92,6 @@ of_ordered a b k l h = go (tree_discrete a b)
     go (yes q) = ap is_lt (h q)
     go (no f) = refl
 
-from_joined : {X Y : Type 0} (l : List X) (f : X → List Y) (y : Y) → Mem y (joined l f) → (x : X) × Mem x l × Mem y (f x)
-from_joined [] f y h = absurd h
-from_joined {X = X} (x ∷ l) f y h = go (mem_either y (f x) (joined l f) h) (λ m. from_joined l f y m)
-  where
-    go : Mem y (f x) ⊎ Mem y (joined l f) → (Mem y (joined l f) → (z : X) × Mem z l × Mem y (f z)) → (z : X) × Mem z (x ∷ l) × Mem y (f z)
-    go (inl m) g = (x, inl refl, m)
-    go (inr m) g = let r = g m in (r.0, inr r.1, r.2)
-
-into_joined : {X Y : Type 0} (l : List X) (f : X → List Y) (x : X) (y : Y) → Mem x l → Mem y (f x) → Mem y (joined l f)
-into_joined [] f x y h m = absurd h
-into_joined (z ∷ l) f x y (inl e) m = mem_left y (f z) (joined l f) (subst (λ w. Mem y (f w)) e m)
-into_joined (z ∷ l) f x y (inr h) m = mem_right y (f z) (joined l f) (into_joined l f x y h m)
-
 from_cond : {Y : Type 0} (b : Bool) (y z : Y) → Mem y (cond b (z ∷ []) []) → (b ≡ true) × (y ≡ z)
 from_cond true y z (inl e) = (refl, e)
 from_cond true y z (inr h) = absurd h
@@ -149,19 +131,11 @@ different_distinct (y ∷ l) = go (has_by shape_discrete l y) refl (different_di
         no_false : has_by shape_discrete l y ≡ true → has_by shape_discrete l y ≡ false → ⊥
         no_false p q = cc (p, q)
 
-distinct_append : {Y : Type 0} (k l : List Y) → Distinct k → Distinct l → ((y : Y) → Mem y k → Mem y l → ⊥) → Distinct (k ++ l)
-distinct_append [] l a b h = b
-distinct_append {Y = Y} (y ∷ k) l a b h = (λ m. go (mem_either y k l m), distinct_append k l a.1 b (λ z m n. h z (inr m) n))
-  where
-    go : Mem y k ⊎ Mem y l → ⊥
-    go (inl m) = a.0 m
-    go (inr m) = h y (inl refl) m
-
 -- where each item of a joined list tells from which item it comes
 distinct_joined : {X Y : Type 0} (g : Y → X) (l : List X) (f : X → List Y) → Distinct l → ((x : X) → Mem x l → Distinct (f x)) → ((x : X) (y : Y) → Mem x l → Mem y (f x) → g y ≡ x) → Distinct (joined l f)
 distinct_joined g [] f d e h = tt
-distinct_joined g (x ∷ l) f d e h = distinct_append (f x) (joined l f) (e x (inl refl)) (distinct_joined g l f d.1 (λ z m. e z (inr m)) (λ z y m n. h z y (inr m) n))
-    (λ y m n. let r = from_joined l f y n in d.0 (subst (λ z. Mem z l) (sym (h r.0 y (inr r.1) r.2) ∙ h x y (inl refl) m) r.1))
+distinct_joined g (x ∷ l) f d e h = Distinct-append (f x) (joined l f) (e x (inl refl)) (distinct_joined g l f d.1 (λ z m. e z (inr m)) (λ z y m n. h z y (inr m) n))
+    (λ y m n. let r = mem_of_flat f y l n in d.0 (subst (λ z. Mem z l) (sym (h r.0 y (inr r.1) r.2) ∙ h x y (inl refl) m) r.1))
 
 distinct_cond : {Y : Type 0} (b : Bool) (z : Y) → Distinct (cond b (z ∷ []) [])
 distinct_cond true z = (λ h. h, tt)
@@ -171,10 +145,10 @@ module _ (a b : Tree ℕ) (na : IsNode a) (nb : IsNode b) (n : ℕ) where
   -- each listed triple is a small common multiple
   pub listed_multiple : (tree : Tree ℕ) (k l : List ℕ) → Mem (tree, k, l) (multiples a b n) → IsMultiple n a b tree k l
   listed_multiple tree k l h =
-      let f = from_joined (different (shapes_of a b)) (λ form. joined (numberings form (upto n)) (λ t. joined (places a 1 t) (λ i. joined (places b 1 t) (λ j. cond (test a b t i j) ((t, i, j) ∷ []) [])))) (tree, k, l) h in
-      let t = from_joined (numberings f.0 (upto n)) (λ t. joined (places a 1 t) (λ i. joined (places b 1 t) (λ j. cond (test a b t i j) ((t, i, j) ∷ []) []))) (tree, k, l) f.2 in
-      let i = from_joined (places a 1 t.0) (λ i. joined (places b 1 t.0) (λ j. cond (test a b t.0 i j) ((t.0, i, j) ∷ []) [])) (tree, k, l) t.2 in
-      let j = from_joined (places b 1 t.0) (λ j. cond (test a b t.0 i.0 j) ((t.0, i.0, j) ∷ []) []) (tree, k, l) i.2 in
+      let f = mem_of_flat (λ form. joined (numberings form (upto n)) (λ t. joined (places a 1 t) (λ i. joined (places b 1 t) (λ j. cond (test a b t i j) ((t, i, j) ∷ []) [])))) (tree, k, l) (different (shapes_of a b)) h in
+      let t = mem_of_flat (λ t. joined (places a 1 t) (λ i. joined (places b 1 t) (λ j. cond (test a b t i j) ((t, i, j) ∷ []) []))) (tree, k, l) (numberings f.0 (upto n)) f.2 in
+      let i = mem_of_flat (λ i. joined (places b 1 t.0) (λ j. cond (test a b t.0 i j) ((t.0, i, j) ∷ []) [])) (tree, k, l) (places a 1 t.0) t.2 in
+      let j = mem_of_flat (λ j. cond (test a b t.0 i.0 j) ((t.0, i.0, j) ∷ []) []) (tree, k, l) (places b 1 t.0) i.2 in
       let c = from_cond (test a b t.0 i.0 j.0) (tree, k, l) (t.0, i.0, j.0) j.2 in
       let et : tree ≡ t.0 = ap (λ (x : Tree ℕ × List ℕ × List ℕ). x.0) c.1 in
       let ek : k ≡ i.0 = ap (λ (x : Tree ℕ × List ℕ × List ℕ). x.1) c.1 in
@@ -199,12 +173,12 @@ module _ (a b : Tree ℕ) (na : IsNode a) (nb : IsNode b) (n : ℕ) where
       let e : test a b tree k l ≡ true = true_both (meet k l) (cond (cover (upto (vertices tree)) k l) (in_order a b k l) false) (shared_meet k l o.shared.0 o.shared.1 o.shared.2)
       (true_both (cover (upto (vertices tree)) k l) (in_order a b k l) (is_cover (upto (vertices tree)) k l (λ v h. let r = upto_mem (vertices tree) v h in o.covers v r.0 r.1))
       (of_ordered a b k l m.ordered)) in
-      into_joined (different (shapes_of a b)) (λ form. joined (numberings form (upto n)) (λ t. joined (places a 1 t) (λ i. joined (places b 1 t) (λ j. cond (test a b t i j) ((t, i, j) ∷ []) [])))) (shape tree) (tree, k, l)
+      mem_flat (λ form. joined (numberings form (upto n)) (λ t. joined (places a 1 t) (λ i. joined (places b 1 t) (λ j. cond (test a b t i j) ((t, i, j) ∷ []) [])))) (shape tree) (tree, k, l) (different (shapes_of a b))
       (in_different (shape tree) (shapes_of a b) (multiple_shape n a b tree k l o))
-      (into_joined (numberings (shape tree) (upto n)) (λ t. joined (places a 1 t) (λ i. joined (places b 1 t) (λ j. cond (test a b t i j) ((t, i, j) ∷ []) []))) tree (tree, k, l)
+      (mem_flat (λ t. joined (places a 1 t) (λ i. joined (places b 1 t) (λ j. cond (test a b t i j) ((t, i, j) ∷ []) []))) tree (tree, k, l) (numberings (shape tree) (upto n))
       (times_mem tree_discrete tree (numberings (shape tree) (upto n)) (omega (arith, number)))
-      (into_joined (places a 1 tree) (λ i. joined (places b 1 tree) (λ j. cond (test a b tree i j) ((tree, i, j) ∷ []) [])) k (tree, k, l) (place_listed a na tree k (cut_of_place tree k a o.first_at))
-      (into_joined (places b 1 tree) (λ j. cond (test a b tree k j) ((tree, k, j) ∷ []) []) l (tree, k, l) (place_listed b nb tree l (cut_of_place tree l b o.second_at))
+      (mem_flat (λ i. joined (places b 1 tree) (λ j. cond (test a b tree i j) ((tree, i, j) ∷ []) [])) k (tree, k, l) (places a 1 tree) (place_listed a na tree k (cut_of_place tree k a o.first_at))
+      (mem_flat (λ j. cond (test a b tree k j) ((tree, k, j) ∷ []) []) l (tree, k, l) (places b 1 tree) (place_listed b nb tree l (cut_of_place tree l b o.second_at))
       (into_cond (test a b tree k l) (tree, k, l) e))))
 
   at_most_once : (form : Tree (Unit {0})) (t : Tree ℕ) → times tree_discrete t (numberings form (upto n)) ≤ 1
@@ -216,13 +190,13 @@ module _ (a b : Tree ℕ) (na : IsNode a) (nb : IsNode b) (n : ℕ) where
 
   tree_is : (x : Tree ℕ × List ℕ × List ℕ) (t : Tree ℕ) → Mem x (joined (places a 1 t) (λ i. joined (places b 1 t) (λ j. cond (test a b t i j) ((t, i, j) ∷ []) []))) → x.0 ≡ t
   tree_is x t h =
-      let i = from_joined (places a 1 t) (λ i. joined (places b 1 t) (λ j. cond (test a b t i j) ((t, i, j) ∷ []) [])) x h in
-      let j = from_joined (places b 1 t) (λ j. cond (test a b t i.0 j) ((t, i.0, j) ∷ []) []) x i.2 in
+      let i = mem_of_flat (λ i. joined (places b 1 t) (λ j. cond (test a b t i j) ((t, i, j) ∷ []) [])) x (places a 1 t) h in
+      let j = mem_of_flat (λ j. cond (test a b t i.0 j) ((t, i.0, j) ∷ []) []) x (places b 1 t) i.2 in
       ap (λ (x : Tree ℕ × List ℕ × List ℕ). x.0) (from_cond (test a b t i.0 j.0) x (t, i.0, j.0) j.2).1
 
   first_is : (x : Tree ℕ × List ℕ × List ℕ) (t : Tree ℕ) (i : List ℕ) → Mem x (joined (places b 1 t) (λ j. cond (test a b t i j) ((t, i, j) ∷ []) [])) → x.1 ≡ i
   first_is x t i h =
-      let j = from_joined (places b 1 t) (λ j. cond (test a b t i j) ((t, i, j) ∷ []) []) x h in
+      let j = mem_of_flat (λ j. cond (test a b t i j) ((t, i, j) ∷ []) []) x (places b 1 t) h in
       ap (λ (x : Tree ℕ × List ℕ × List ℕ). x.1) (from_cond (test a b t i j.0) x (t, i, j.0) j.2).1
 
   -- each once
@@ -238,5 +212,5 @@ module _ (a b : Tree ℕ) (na : IsNode a) (nb : IsNode b) (n : ℕ) where
       (λ i x q h. first_is x t i h))
       (λ t x p h. tree_is x t h))
       (λ form x m h.
-      let t = from_joined (numberings form (upto n)) (λ t. joined (places a 1 t) (λ i. joined (places b 1 t) (λ j. cond (test a b t i j) ((t, i, j) ∷ []) []))) x h in
+      let t = mem_of_flat (λ t. joined (places a 1 t) (λ i. joined (places b 1 t) (λ j. cond (test a b t i j) ((t, i, j) ∷ []) []))) x (numberings form (upto n)) h in
       ap shape (tree_is x t.0 t.2) ∙ ((all_numbered n form tree_discrete).only t.0 (mem_times tree_discrete t.0 (numberings form (upto n)) t.1)).1)

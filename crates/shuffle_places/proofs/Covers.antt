@@ -140,6 +140,7 @@ mutual
   fill_row_one (here c r) x y e = fill_one c x y (more-eq (fill c x) (fill c y) r r e).0
   fill_row_one (past t c) x y e = fill_row_one c x y (more-eq t t (fill_row c x) (fill_row c y) e).1
 
-pub root_mem : (s : ℕ → Tree ℕ) (k : ℕ) (t : Tree ℕ) → IsNode t → Mem k (numbers s k t)
+-- the root has the first number
+pub root_mem : {X A : Type 0} (s : X → Tree A) (k : ℕ) (t : Tree X) → IsNode t → Mem k (numbers s k t)
 root_mem s k (leaf a) n = absurd n
 root_mem s k (node l r) n = inl refl

@@ -6,7 +6,7 @@ use native.Mathlib.Decide.{ℕ_discrete, dec_lt}
 use Rattle.labelled_trees.specs.Trees.{Tree, Row, leaf, node, none, more, graft, graft_row, join, IsNode, vertices}
 use Rattle.labelled_trees.specs.Contexts.{fill}
 use Rattle.shuffle_insertions.specs.ShuffleTrees.{least, IsRising, IsShuffle}
-use Rattle.labelled_trees.specs.Leaves.{one_if, occurs}
+use Rattle.labelled_trees.specs.Leaves.{one_if, choose, occurs}
 use Rattle.shuffle_insertions.specs.Slots.{Slot, fill_slot, PartsRise}
 use Rattle.labelled_trees.specs.Ranks.{below, standard}
 use Rattle.labelled_trees.specs.Trees.{leaves}
@@ -18,7 +18,7 @@ use Rattle.modular_sums.specs.Lists.{Mem}
 use Rattle.shuffle_insertions.proofs.Counted.{times_mem, mem_times}
 use Rattle.shuffle_insertions.proofs.TreeOrders.{length_leaves, leaves_count}
 use Rattle.shuffle_insertions.proofs.Frames.{frame_of}
-use Rattle.shuffle_places.specs.Places.{divisor_of, choose, of_rank, inputs_of, frame_at}
+use Rattle.shuffle_places.specs.Places.{divisor_of, of_rank, inputs_of, frame_at}
 use Rattle.shuffle_places.proofs.RankedParts.{Ranked, ranked}
 use Rattle.shuffle_places.proofs.Places.{of_pattern}
 use Rattle.shuffle_places.specs.Cuts.{numbers, numbers_row, start, IsCut}
@@ -27,7 +27,9 @@ use Rattle.labelled_trees.proofs.GraftLeaves.{graft_ext, sum_leaves-graft}
 use Rattle.labelled_trees.proofs.Leaves.{sum_leaves-same, AllLeaves-imp}
 use Rattle.labelled_trees.proofs.ContextLeaves.{sum_of_fill}
 use Rattle.shuffle_insertions.proofs.Rising.{rising_of_fill}
-use Rattle.shuffle_insertions.proofs.Insertions.{InRange, all_among, once_of}
+use Rattle.shuffle_insertions.proofs.Insertions.{InRange, all_among, parts_in_order, order_back}
+use Rattle.shuffle_insertions.proofs.LabelSums.{numbered_of_shuffle, once_of}
+use Rattle.labelled_trees.proofs.Numbered.{below_numbered}
 use Rattle.labelled_trees.proofs.Ranks.{same_if, below_sum}
 
 mutual
@@ -41,31 +43,14 @@ mutual
       ap₂ (λ m n. m ++ n) (numbers-graft t f s k)
       (ap (λ x. numbers_row s (k + vertices x) (graft_row r (λ x. leaf (f x)))) (graft_assoc t (λ x. leaf (f x)) s) ∙ numbers_row-graft r f s (k + vertices (graft t (λ x. s (f x)))))
 
--- the leaves of a tree on 1 to m below i
-below_valid : (m : ℕ) (d : Tree ℕ) → IsShuffle m d → (i : ℕ) → i ≤ m → below (suc i) d ≡ i
-below_valid m d h zero le = go (dec_lt 0 (occurs 0 d))
-  where
-    go : Dec (0 < occurs 0 d) → 0 + occurs 0 d ≡ 0
-    go (yes o) = let r = h.only 0 o in absurd (omega (arith, r.0))
-    go (no z) = omega (arith, z)
-below_valid m d h (suc i) le = let e = below_valid m d h i (omega arith) in let o = h.each (suc i) (omega arith) le in omega (arith, e, o)
-
 still_node : (d : Tree ℕ) (s : ℕ → Tree ℕ) → IsNode d → IsNode (graft d (λ i. leaf (s i)))
 still_node (leaf a) s n = absurd n
 still_node (node l r) s n = tt
 
 -- the place of an insertion
 module _ (m : ℕ) (f : Slot) (d : Tree ℕ) (hd : IsShuffle m d) (rise : PartsRise m f.parts) where
-  up : (i j : ℕ) → InRange m i → InRange m j → i < j → least (f.parts i) < least (f.parts j)
-  up i j a b lt = rise.order i j a.0 lt b.1
-
   down : (i j : ℕ) → InRange m i → InRange m j → least (f.parts i) < least (f.parts j) → i < j
-  down i j a b lt = go (dec_lt i j) (ℕ_discrete i j)
-    where
-      go : Dec (i < j) → Dec (i ≡ j) → i < j
-      go (yes h) e = h
-      go (no h) (yes e) = absurd (let s : least (f.parts i) ≡ least (f.parts j) = ap (λ k. least (f.parts k)) e in omega (arith, s, lt))
-      go (no h) (no e) = absurd (let k = up j i b a (omega (arith, h, e)) in omega (arith, k, lt))
+  down = order_back (InRange m) (λ k. least (f.parts k)) (parts_in_order m f.parts rise)
 
   rank_back : (i : ℕ) → InRange m i → suc (below (least (f.parts i)) (graft d (λ j. leaf (least (f.parts j))))) ≡ i
   rank_back zero a = absurd (omega (arith, a.0))
@@ -74,8 +59,8 @@ module _ (m : ℕ) (f : Slot) (d : Tree ℕ) (hd : IsShuffle m d) (rise : PartsR
       ∙ sum_leaves-graft d (λ j. leaf (least (f.parts j))) (λ x. one_if (dec_lt x (least (f.parts (suc i)))))
       ∙ sum_leaves-same d (λ j. one_if (dec_lt (least (f.parts j)) (least (f.parts (suc i))))) (λ j. one_if (dec_lt j (suc i)))
       (AllLeaves-imp d (InRange m) (λ j. one_if (dec_lt (least (f.parts j)) (least (f.parts (suc i)))) ≡ one_if (dec_lt j (suc i)))
-      (λ j b. same_if (dec_lt (least (f.parts j)) (least (f.parts (suc i)))) (dec_lt j (suc i)) (down j (suc i) b a) (up j (suc i) b a)) (all_among m d hd))
-      ∙ sym (below_sum (suc i) d) ∙ below_valid m d hd i (omega (arith, a.1)))
+      (λ j b. same_if (dec_lt (least (f.parts j)) (least (f.parts (suc i)))) (dec_lt j (suc i)) (down j (suc i) b a) (parts_in_order m f.parts rise j (suc i) b a)) (all_among m d hd))
+      ∙ sym (below_sum (suc i) d) ∙ below_numbered (numbered_of_shuffle hd) i (omega (arith, a.1)))
 
   pub cut_of_slot : IsNode d → IsCut (fill_slot f d) (numbers f.parts (start 1 f.context) d) d
   cut_of_slot n = record {

@@ -11,7 +11,8 @@ use Rattle.labelled_trees.proofs.Contexts.{fill-compose}
 use Rattle.labelled_trees.proofs.GraftLeaves.{graft_ext}
 use Rattle.labelled_trees.proofs.Leaves.{by_leaf, one_if-yes}
 use Rattle.shuffle_insertions.proofs.Rising.{rising-fill, least-fill}
-use Rattle.shuffle_insertions.proofs.Insertions.{once_of, least-graft, rising-graft, same_least}
+use Rattle.shuffle_insertions.proofs.Insertions.{least-graft, rising-graft, same_least}
+use Rattle.shuffle_insertions.proofs.LabelSums.{once_of}
 use Rattle.labelled_trees.proofs.ContextLeaves.{sum_of_fill}
 use Rattle.labelled_trees.proofs.Holes.{hole_at, updated, updated_same, updated_other, updated_back, graft-updated}
 

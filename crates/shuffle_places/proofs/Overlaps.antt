@@ -19,7 +19,8 @@ use Rattle.shuffle_insertions.proofs.Rising.{head, rising_change}
 use Rattle.shuffle_places.proofs.Independent.{Laid}
 use Rattle.shuffle_places.specs.Places.{divisor_of}
 use Rattle.shuffle_places.proofs.RankedParts.{rank, IsKey, rank_order, all_keys, divisor_is, Ranked, ranked}
-use Rattle.shuffle_insertions.proofs.Insertions.{InRange, once_of}
+use Rattle.shuffle_insertions.proofs.Insertions.{InRange}
+use Rattle.shuffle_insertions.proofs.LabelSums.{once_of}
 
 -- the standardised union, and the parts of both places in it
 pub record Common (n : ℕ) (one other : Laid) (part : Tree ℕ) : Type 0 where

@@ -1,5 +1,5 @@
 -- Places by sets of vertices, and by contexts and patterns.
-use Rattle.std.proofs.Common.{◌≡◌, ℕ, suc, ◌+◌, List, [], ◌∷◌, Bool, true, false, cond, refl, sym, ◌∙◌, ap, arith, subst, inl}
+use Rattle.std.proofs.Common.{◌≡◌, ℕ, suc, ◌+◌, List, [], ◌∷◌, Bool, true, false, cond, refl, sym, ◌∙◌, ap, arith, subst}
 use mathlib.Core.List.{◌++◌, append-nil}
 use mathlib.Core.Path.{ap₂}
 use Rattle.modular_sums.specs.Lists.{Mem, has}
@@ -9,6 +9,7 @@ use Rattle.labelled_trees.specs.Contexts.{Ctx, RowCtx, hole, inside, here, past,
 use Rattle.shuffle_places.specs.Cuts.{numbers, start, start_row, IsCut}
 use Rattle.shuffle_places.specs.Places.{cut, cut_out, cut_out_row, first_or_leaf, at_place, divisor_of, hole_at, hole_at_row, IsPlace}
 use Rattle.shuffle_places.proofs.Vertices.{In, numbers_in}
+use Rattle.shuffle_places.proofs.Covers.{root_mem}
 use Rattle.shuffle_places.proofs.PatternSets.{start_in, start_row_in}
 use Rattle.shuffle_places.proofs.Cuts.{cut_again, join_node, cut_of_connected, connected_of_cut}
 
@@ -76,17 +77,13 @@ root_cut set k (leaf a) n e = absurd n
 root_cut set k (node l r) n e =
     (ap (λ b. cond b (cut (has set) k (node l r) ∷ []) (cut_out_row set (suc k) r)) e, ap (λ b. cond b (leaf 0) (node l (hole_at_row set (suc k) r))) e)
 
-root_number : (k : ℕ) (p : Tree (Tree ℕ)) → IsNode p → Mem k (numbers (λ v. v) k p)
-root_number k (leaf x) n = absurd n
-root_number k (node l r) n = inl refl
-
 -- the set of a context's pattern cuts out the pattern, and leaves the context
 pub of_pattern : (c : Ctx ℕ) (p : Tree (Tree ℕ)) → IsNode p
     → (at_place (numbers (λ v. v) (start 1 c) p) (fill c (join p)) ≡ p) × (hole_at (numbers (λ v. v) (start 1 c) p) 1 (fill c (join p)) ≡ fill c (leaf 0))
 of_pattern c p n =
     let set = numbers (λ v. v) (start 1 c) p in
     let f = cut_filling set 1 c (join p) (λ v m. numbers_in (λ w. w) (start 1 c) p v m) in
-    let r = root_cut set (start 1 c) (join p) (join_node p n) (mem_has set (start 1 c) (root_number (start 1 c) p n)) in
+    let r = root_cut set (start 1 c) (join p) (join_node p n) (mem_has set (start 1 c) (root_mem (λ v. v) (start 1 c) p n)) in
     (ap first_or_leaf (f.0 ∙ r.0) ∙ cut_again (start 1 c) p set refl, f.1 ∙ ap (fill c) r.1)
 
 pub place_of_cut : (t : Tree ℕ) (set : List ℕ) (d : Tree ℕ) → IsCut t set d → IsPlace t set d

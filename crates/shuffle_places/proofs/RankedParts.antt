@@ -11,7 +11,8 @@ use Rattle.labelled_trees.proofs.Factors.{factor}
 use Rattle.labelled_trees.proofs.Ranks.{below-mono, below-lt, below_bound, standard_each, standard_only}
 use Rattle.shuffle_insertions.specs.ShuffleTrees.{least, IsRising, IsShuffle}
 use Rattle.shuffle_insertions.specs.Slots.{PartsRise}
-use Rattle.shuffle_insertions.proofs.Insertions.{InRange, once_of}
+use Rattle.shuffle_insertions.proofs.Insertions.{InRange}
+use Rattle.shuffle_insertions.proofs.LabelSums.{once_of}
 use Rattle.shuffle_insertions.proofs.Rising.{rising_change}
 use Rattle.shuffle_insertions.proofs.Named.{parts_rise, occurs-named}
 use Rattle.shuffle_places.specs.Places.{divisor_of}

@@ -1,5 +1,5 @@
 -- The list of all small common multiples of two trees.
-use Rattle.std.specs.Prelude.{ℕ, List, [], ◌∷◌, ◌++◌}
+use Rattle.std.specs.Prelude.{ℕ, List, [], ◌∷◌, flat_map}
 use Rattle.std.proofs.Common.{Bool, true, false, cond}
 use Rattle.std.specs.Ordering.{nat_cmp, is_lt}
 use Rattle.std.specs.Cmp.Lexicographic.{slice_cmp}
@@ -36,8 +36,7 @@ test a b tree k l = cond (meet k l) (cond (cover (upto (vertices tree)) k l) (in
 
 -- for each item, what f gives
 abbrev pub joined : {X Y : Type 0} → List X → (X → List Y) → List Y
-joined [] f = []
-joined (x ∷ l) f = f x ++ joined l f
+joined l f = flat_map f l
 
 -- the last of equal shapes alone
 abbrev pub different : List (Tree (Unit {0})) → List (Tree (Unit {0}))

@@ -4,7 +4,7 @@ use Rattle.std.proofs.Common.{Bool, true, false, suc, cond}
 use native.Mathlib.Decide.{ℕ_discrete}
 use Rattle.modular_sums.specs.Lists.{has}
 use Rattle.labelled_trees.specs.Trees.{Tree, Row, leaf, node, none, more, graft, leaves, vertices}
-use Rattle.labelled_trees.specs.Leaves.{leaf_count}
+use Rattle.labelled_trees.specs.Leaves.{choose, leaf_count}
 use Rattle.labelled_trees.specs.Insertions.{listed}
 use Rattle.labelled_trees.specs.Ranks.{below, standard}
 use Rattle.shuffle_insertions.specs.ShuffleTrees.{least}
@@ -60,11 +60,6 @@ abbrev mutual
   pub hole_at_row : List ℕ → ℕ → Row ℕ → Row ℕ
   hole_at_row set k none = none
   hole_at_row set k (more t r) = more (hole_at set k t) (hole_at_row set (k + vertices t) r)
-
--- v where a decided fact holds, else w
-abbrev pub choose : {A B : Type 0} → Dec A → B → B → B
-choose (yes _) v w = v
-choose (no _) v w = w
 
 -- the tree of the list whose least leaf has rank i among those of q
 abbrev pub of_rank : Tree ℕ → List (Tree ℕ) → ℕ → Tree ℕ

@@ -16,7 +16,8 @@ use Rattle.shuffle_transfer.specs.Orderings.{IsOrdering}
 use Rattle.shuffle_transfer.specs.ShuffleForms.{ranks, form, form_row, to_symmetric, to_symmetric_row}
 use Rattle.shuffle_transfer.proofs.Ranks.{map_same, ranks-arranged, sort-arranged}
 use Rattle.shuffle_transfer.proofs.FormGrafts.{turns, turns_row}
-use Rattle.shuffle_transfer.proofs.Forms.{fits_row, row_ascends, occurs-form}
+use Rattle.shuffle_transfer.proofs.Forms.{row_ascends, occurs-form}
+use Rattle.labelled_trees.proofs.Rows.{fits_row}
 
 -- the inputs of a row, as a list
 abbrev pub inputs_list : Row ℕ → List (Tree ℕ)

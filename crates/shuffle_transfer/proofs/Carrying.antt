@@ -15,7 +15,7 @@ use Rattle.shuffle_insertions.proofs.NestedSlots.{into, fill_slot-into, into_ris
 use Rattle.shuffle_bases.specs.Elements.{terms, Setting, AreMonic, value_of}
 use Rattle.shuffle_bases.proofs.Placed.{Placed, host, value, lead_valid, placed, placed_value, insertion, insertion_value}
 use Rattle.operad_ideals.specs.Presentations.{Presentation, arity_of, IsSound}
-use Rattle.operad_ideals.proofs.Links.{member_zero, member_one, member_through}
+use Rattle.modular_sums.proofs.Links.{member_zero, member_one, member_through}
 use Rattle.shuffle_transfer.specs.Orderings.{entry}
 use Rattle.shuffle_transfer.specs.Labels.{inputs_of, shuffle_form}
 use Rattle.shuffle_transfer.specs.Transfer.{relabelled, IsSumOfInsertions, inserted_relation}

@@ -8,8 +8,9 @@ use Rattle.shuffle_insertions.specs.Frames.{Frame, insert}
 use Rattle.operad_ideals.specs.Parts.{symmetric, skew, free, Part, minus}
 use Rattle.operad_ideals.specs.Sorting.{spelled_sign}
 use Rattle.operad_ideals.specs.Presentations.{Presentation, parts}
+use Rattle.shuffle_transfer.proofs.Labels.{lettered}
 use Rattle.shuffle_transfer.specs.Orderings.{orderings}
-use Rattle.shuffle_transfer.specs.Labels.{Letter, letters, labels, inputs_of, shuffle_form, symmetric_tree, word_discrete, same_cons, letter_discrete, same_letter}
+use Rattle.shuffle_transfer.specs.Labels.{letters, labels, inputs_of, shuffle_form, symmetric_tree, word_discrete, same_cons, letter_discrete, same_letter}
 use Rattle.shuffle_transfer.specs.Transfer.{relabellings, shuffled}
 use Rattle.shuffle_transfer.specs.NormalTrees.{normal_list}
 
@@ -33,9 +34,6 @@ three_kinds = record {
 -- one free generator of two inputs
 abbrev one_free : Presentation
 one_free = record { q = 100; generators = one_part record { kind = free; size = 2 } ∷ []; relations = [] }
-
-abbrev lettered : ℕ → List ℕ → Letter
-lettered g w = record { gen = g; word = w }
 
 -- ---- labels
 

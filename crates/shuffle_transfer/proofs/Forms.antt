@@ -3,6 +3,7 @@ use Rattle.std.proofs.Common.{◌≡◌, ◌≢◌, ⊎_elim, ℕ, ◌+◌, ◌<
 use mathlib.Core.Path.{ap₂}
 use native.Mathlib.Decide.{ℕ_discrete}
 use Rattle.std.specs.List.{AllByRecursion}
+use Rattle.labelled_trees.proofs.Rows.{fits_row}
 use Rattle.labelled_trees.specs.Trees.{Tree, Row, leaf, node, none, more, row, width}
 use Rattle.labelled_trees.specs.Leaves.{one_if, sum_leaves, sum_row, occurs, occurs_row}
 use Rattle.labelled_trees.specs.Labelled.{Fits, FitsRow}
@@ -70,14 +71,6 @@ row_ascends (t ∷ ts) h = (above t ts h.1 (row_ascends ts h.2), row_ascends ts 
 pub row_rises : (ts : List (Tree ℕ)) → IsRisingRow (row ts) → AllByRecursion IsRising ts
 row_rises [] h = tt
 row_rises (t ∷ ts) h = (h.0, row_rises ts h.2)
-
-pub fits_row : (arity : ℕ → ℕ) (ts : List (Tree ℕ)) → AllByRecursion (Fits arity) ts → FitsRow arity (row ts)
-fits_row arity [] h = tt
-fits_row arity (t ∷ ts) h = (h.0, fits_row arity ts h.1)
-
-pub row_fits : (arity : ℕ → ℕ) (ts : List (Tree ℕ)) → FitsRow arity (row ts) → AllByRecursion (Fits arity) ts
-row_fits arity [] h = tt
-row_fits arity (t ∷ ts) h = (h.0, row_fits arity ts h.1)
 
 pub has_input : (ts : List (Tree ℕ)) → 0 < length ts → HasInput (row ts)
 has_input [] h = absurd (omega (arith, h))

@@ -7,7 +7,7 @@ use Rattle.shuffle_insertions.specs.ShuffleTrees.{IsShuffleTree}
 use Rattle.operad_ideals.specs.Parts.{sign_of}
 use Rattle.operad_ideals.specs.Sorting.{spelled}
 use Rattle.operad_ideals.specs.Presentations.{Presentation, parts, arity_of}
-use Rattle.operad_ideals.proofs.Spellings.{labelled_once}
+use Rattle.labelled_trees.proofs.Numbered.{labelled_once}
 use Rattle.shuffle_transfer.specs.Labels.{label, gen, inputs_of, shuffle_form, symmetric_tree}
 use Rattle.shuffle_transfer.specs.Laws.{Forth, Back, Spelling}
 use Rattle.shuffle_transfer.proofs.Labels.{label_gen}

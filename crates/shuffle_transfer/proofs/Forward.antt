@@ -14,15 +14,17 @@ use Rattle.labelled_trees.specs.Equality.{tree_discrete}
 use Rattle.labelled_trees.specs.Labelled.{Fits, IsLabelled}
 use Rattle.labelled_trees.proofs.Leaves.{by_leaf, AllLeaves-each}
 use Rattle.labelled_trees.proofs.GraftLeaves.{graft_ext, sum_leaves-graft}
-use Rattle.labelled_trees.proofs.ContextLeaves.{sum_of_fill}
+use Rattle.labelled_trees.proofs.ContextLeaves.{sum_of_fill, once_inside}
 use Rattle.labelled_trees.proofs.Fitting.{fits_of_fill, fits-graft}
 use Rattle.shuffle_insertions.specs.ShuffleTrees.{least, IsShuffleTree}
 use Rattle.shuffle_insertions.specs.Slots.{Slot, fill_slot, PartsRise}
+use Rattle.labelled_trees.proofs.Numbered.{numbered_of_labelled, numbered_sums}
+use Rattle.shuffle_insertions.proofs.Rising.{least_same}
 use Rattle.shuffle_insertions.proofs.Insertions.{InRange}
 use Rattle.operad_ideals.specs.Presentations.{Relation, Presentation, parts, arity_of, IsSound}
 use Rattle.operad_ideals.specs.Rules.{Rule, relation, symmetry, rule_terms}
 use Rattle.operad_ideals.specs.HoleInstances.{HoleInstance, hole_element}
-use Rattle.operad_ideals.proofs.Links.{member_one, member_zero}
+use Rattle.modular_sums.proofs.Links.{member_one, member_zero}
 use Rattle.shuffle_transfer.specs.Orderings.{IsOrdering, entry}
 use Rattle.shuffle_transfer.specs.Labels.{label, inputs_of, shuffle_form}
 use Rattle.shuffle_transfer.specs.Transfer.{relabelled}
@@ -33,9 +35,9 @@ use Rattle.shuffle_transfer.proofs.Forms.{form_rises, occurs-form}
 use Rattle.shuffle_transfer.proofs.Signs.{twist}
 use Rattle.shuffle_transfer.proofs.Forth.{forth}
 use Rattle.shuffle_transfer.proofs.Turned.{turns_of, turned, Same-turned, member_turned}
-use Rattle.shuffle_transfer.proofs.Vanish.{once_inside, symmetry_gone}
+use Rattle.shuffle_transfer.proofs.Vanish.{symmetry_gone}
 use Rattle.shuffle_transfer.proofs.SlotInsertions.{SlotInsertion, slot_inserted}
-use Rattle.shuffle_transfer.proofs.Relations.{Inputs, labelled_sums, least_same, ranked, rank_within, rank_apart, lined, lined_order, lined_back, lined_rise, lined_graft, relabel_among}
+use Rattle.shuffle_transfer.proofs.Relations.{Inputs, ranked, rank_within, rank_apart, lined, lined_order, lined_back, lined_rise, lined_graft, relabel_among}
 
 -- relabellings that agree on 1 to m
 pub same_relabelled : (arity : ℕ → ℕ) (m : ℕ) (v : List ℕ) (f : ℕ → ℕ) → ((i : ℕ) → 0 < i → i ≤ m → entry v i ≡ f i) → (l : List (ℕ × Tree ℕ)) → AllTerms l (IsLabelled arity m)
@@ -99,7 +101,7 @@ module _ (p : Presentation) (n : ℕ) where
     unfolding inner
     inner_is y h =
         sum_leaves-graft y (λ i. leaf (rank i)) (λ i. turns_of p (lines i))
-        ∙ labelled_sums arity m y x0 h h0 (λ i. turns_of p (lines (rank i)))
+        ∙ numbered_sums (numbered_of_labelled h) (numbered_of_labelled h0) (λ i. turns_of p (lines (rank i)))
         ∙ sym (sum_leaves-graft x0 (λ i. leaf (rank i)) (λ i. turns_of p (lines i)))
 
     low_is : (y : Tree ℕ) → IsLabelled arity m y → IsLabelled arity n (fill c (graft y s)) → least (shuffle_form p (graft y s)) ≡ low
@@ -107,7 +109,7 @@ module _ (p : Presentation) (n : ℕ) where
     low_is y h v = least_same (shuffle_form p (graft y s)) (shuffle_form p (graft x0 s))
         (form_rises lab arity (graft y s) (fits_of_fill arity c (graft y s) v.fits) (once_inside arity n c (graft y s) v))
         (form_rises lab arity (graft x0 s) fits0 single0)
-        (λ i. occurs-form lab i (graft y s) ∙ sum_leaves-graft y s (λ k. one_if (ℕ_discrete k i)) ∙ labelled_sums arity m y x0 h h0 (λ a. occurs i (s a))
+        (λ i. occurs-form lab i (graft y s) ∙ sum_leaves-graft y s (λ k. one_if (ℕ_discrete k i)) ∙ numbered_sums (numbered_of_labelled h) (numbered_of_labelled h0) (λ a. occurs i (s a))
         ∙ sym (sum_leaves-graft x0 s (λ k. one_if (ℕ_discrete k i))) ∙ sym (occurs-form lab i (graft x0 s)))
 
     named_fits : (y : Tree ℕ) → IsLabelled arity m y → Fits arity (named y)

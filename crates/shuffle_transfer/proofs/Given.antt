@@ -1,30 +1,31 @@
 -- A certified list of elements, its insertions, and the trees that no leading tree divides.
-use Rattle.std.proofs.Common.{◌≡◌, ℕ, ◌<◌, ◌≤◌, List, [], ◌∷◌, refl, sym, ◌∙◌, arith, subst}
+use Rattle.std.proofs.Common.{◌≡◌, ℕ, ◌≤◌, List, [], ◌∷◌, refl, sym, ◌∙◌, arith, subst}
 use Rattle.std.specs.declared.cmp.Ordering.{Ordering}
 use Rattle.modular_sums.specs.Sums.{Member, moved, AllTerms}
 use Rattle.modular_sums.proofs.Images.{moved_ext}
 use Rattle.labelled_trees.specs.Trees.{Tree, leaf, graft}
-use Rattle.labelled_trees.specs.Leaves.{sum_leaves, leaf_count, occurs, one_if}
+use Rattle.labelled_trees.specs.Leaves.{sum_leaves, leaf_count}
 use Rattle.labelled_trees.specs.Equality.{tree_discrete}
 use Rattle.labelled_trees.specs.Labelled.{IsLabelled}
-use Rattle.labelled_trees.proofs.Leaves.{by_leaf, sum_leaves-≤, AllLeaves-each}
-use Rattle.labelled_trees.proofs.Counts.{leaf_count-labelled}
+use Rattle.labelled_trees.proofs.Leaves.{by_leaf, sum_leaves-≤}
+use Rattle.labelled_trees.proofs.Counts.{leaf_count-numbered}
 use Rattle.labelled_trees.proofs.ContextLeaves.{sum_of_fill}
 use Rattle.labelled_trees.proofs.GraftLeaves.{sum_leaves-graft}
-use Rattle.shuffle_insertions.specs.ShuffleTrees.{least, IsRising, IsShuffleTree}
+use Rattle.shuffle_insertions.specs.ShuffleTrees.{IsShuffleTree}
 use Rattle.shuffle_insertions.specs.Frames.{Frame, insert, IsFrame}
 use Rattle.shuffle_insertions.specs.Slots.{Slot, fill_slot, PartsRise}
 use Rattle.shuffle_insertions.specs.Orders.{IsTreeOrder}
-use Rattle.shuffle_insertions.proofs.Rising.{least-occurs}
+use Rattle.shuffle_insertions.proofs.Rising.{rising-some_leaf}
+use Rattle.shuffle_insertions.proofs.LabelSums.{numbered_of_shuffle}
 use Rattle.shuffle_insertions.proofs.Frames.{SlotOf, slot_of}
 use Rattle.shuffle_places.specs.Places.{frame_at}
 use Rattle.shuffle_places.proofs.Sizes.{one_size}
 use Rattle.shuffle_places.proofs.Laws.{place_frames}
-use Rattle.shuffle_bases.specs.Elements.{Element, terms, Setting, IsMonic, Insertion, value_of}
+use Rattle.shuffle_bases.specs.Elements.{Element, terms, Setting, Insertion, value_of}
 use Rattle.shuffle_normal_forms.specs.NormalForms.{InSpan}
 use Rattle.operad_ideals.specs.Presentations.{Relation, Presentation, arity_of, IsWide, IsSound}
 use Rattle.operad_ideals.specs.Ideals.{InIdeal}
-use Rattle.operad_ideals.proofs.Links.{member_zero, member_through}
+use Rattle.modular_sums.proofs.Links.{member_zero, member_through}
 use Rattle.shuffle_transfer.specs.Orderings.{entry}
 use Rattle.shuffle_transfer.specs.Labels.{inputs_of, shuffle_form}
 use Rattle.shuffle_transfer.specs.Transfer.{relabelled, shuffled, RelationInsertion, inserted_relation, IsSumOfInsertions}
@@ -50,26 +51,13 @@ setting_of c = setting c.presentation c.compare c.elements
 
 -- ---- arities
 
-leaves_of : (arity : ℕ → ℕ) (n : ℕ) (t : Tree ℕ) → IsShuffleTree arity n t → leaf_count t ≡ n
-leaves_of arity n t h = leaf_count-labelled arity n t record { fits = h.fits; each = h.shuffle.each; only = h.shuffle.only }
-
-some_leaf : (t : Tree ℕ) → IsRising t → 1 ≤ leaf_count t
-some_leaf t h =
-    let a : occurs (least t) t ≤ leaf_count t = sum_leaves-≤ t _ (λ i. 1) (AllLeaves-each t _ (λ k. at_most _)) in
-    let b : 0 < occurs (least t) t = least-occurs t h in
-    omega (arith, a, b)
-  where
-    at_most : {C : Type 0} (d : Dec C) → one_if d ≤ 1
-    at_most (yes _) = omega arith
-    at_most (no _) = omega arith
-
 -- what stands in a slot has no greater arity
 arity_le : (arity : ℕ → ℕ) (m n : ℕ) (f : Slot) → PartsRise m f.parts → (x : Tree ℕ) → IsShuffleTree arity m x → IsShuffleTree arity n (fill_slot f x) → m ≤ n
 arity_le arity m n f rises x hx v =
     let k : leaf_count (graft x f.parts) ≤ leaf_count (fill_slot f x) = sum_of_fill f.context (graft x f.parts) (λ i. 1) in
     let l : leaf_count x ≤ sum_leaves x (λ i. leaf_count (f.parts i))
-    = sum_leaves-≤ x (λ i. 1) (λ i. leaf_count (f.parts i)) (by_leaf x (λ i. 1 ≤ leaf_count (f.parts i)) (λ i o. let r = hx.shuffle.only i o in some_leaf (f.parts i) (rises.each i r.0 r.1))) in
-    omega (arith, k, l, sum_leaves-graft x f.parts (λ i. 1), leaves_of arity m x hx, leaves_of arity n (fill_slot f x) v)
+    = sum_leaves-≤ x (λ i. 1) (λ i. leaf_count (f.parts i)) (by_leaf x (λ i. 1 ≤ leaf_count (f.parts i)) (λ i o. let r = hx.shuffle.only i o in rising-some_leaf (f.parts i) (rises.each i r.0 r.1))) in
+    omega (arith, k, l, sum_leaves-graft x f.parts (λ i. 1), leaf_count-numbered m x (numbered_of_shuffle hx.shuffle), leaf_count-numbered n (fill_slot f x) (numbered_of_shuffle v.shuffle))
 
 module _ (c : Given) (n : ℕ) (le : n ≤ c.most) where
   abbrev p : Presentation
@@ -104,9 +92,6 @@ module _ (c : Given) (n : ℕ) (le : n ≤ c.most) where
 
   -- ---- an insertion of an element
 
-  monic_of : (i : Insertion (setting_of c) n) → IsMonic (setting_of c) i.of
-  monic_of i = c.certified.monic.each i.of i.member
-
   abbrev frame_of : Insertion (setting_of c) n → Frame
   frame_of i = frame_at i.set i.tree
 
@@ -117,7 +102,7 @@ module _ (c : Given) (n : ℕ) (le : n ≤ c.most) where
   framed : (i : Insertion (setting_of c) n) → Framed i
   framed i =
       let k = place_frames.0 n i.tree i.set i.of.lead i.valid.shuffle i.place in
-      record { is_frame = subst (λ m. IsFrame m (frame_at i.set i.tree)) (one_size k.0 i.of.arity i.of.lead k.1 (monic_of i).lead_valid.shuffle) k.2; back = k.3 }
+      record { is_frame = subst (λ m. IsFrame m (frame_at i.set i.tree)) (one_size k.0 i.of.arity i.of.lead k.1 (c.certified.monic.each i.of i.member).lead_valid.shuffle) k.2; back = k.3 }
 
   -- an insertion lies in the ideal of the shuffle forms
   pub insertion_in_ideal : (i : Insertion (setting_of c) n) → IsSumOfInsertions c.presentation n (value_of i)
@@ -126,7 +111,7 @@ module _ (c : Given) (n : ℕ) (le : n ≤ c.most) where
       let s : SlotOf i.of.arity (frame_of i) = slot_of i.of.arity (frame_of i) f.is_frame in
       let v : Shuffles (fill_slot s.slot i.of.lead) = subst Shuffles (sym f.back ∙ s.inserts i.of.lead) i.valid in
       subst (IsSumOfInsertions p n) (sym (moved_ext (insert (frame_of i)) (fill_slot s.slot) (terms i.of) s.inserts))
-      (relations_carried p c.sound i.of.arity n s.slot s.rises i.of.lead (monic_of i).lead_valid.shuffle v (terms i.of) (c.certified.in_ideal i.of i.member))
+      (relations_carried p c.sound i.of.arity n s.slot s.rises i.of.lead (c.certified.monic.each i.of i.member).lead_valid.shuffle v (terms i.of) (c.certified.in_ideal i.of i.member))
 
   -- an element whose shuffle form lies in the span lies in the ideal
   pub span_ideal : (e : List (ℕ × Tree ℕ)) → AllTerms e (IsLabelled (arity_of c.presentation) n) → InSpan (setting_of c) n (shuffled c.presentation e) → InIdeal c.presentation n e

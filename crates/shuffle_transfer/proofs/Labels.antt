@@ -4,7 +4,7 @@ use Rattle.std.specs.declared.cmp.Ordering.TheVariants.{Less}
 use Rattle.std.specs.Ordering.{nat_cmp}
 use Rattle.std.specs.Cmp.Lexicographic.{slice_cmp}
 use Rattle.modular_sums.specs.Lists.{Mem, Distinct}
-use Rattle.modular_sums.proofs.Lists.{mem_left, mem_right, mem_either, mem_map, mem_of_map}
+use Rattle.modular_sums.proofs.Lists.{mem_left, mem_right, mem_either, mem_map, mem_of_map, Distinct-append}
 use Rattle.operad_ideals.specs.Parts.{Part, total, parts_of}
 use Rattle.operad_ideals.specs.Sorting.{sort_parts}
 use Rattle.operad_ideals.specs.Presentations.{Presentation, parts, arity_of, IsWide}
@@ -15,11 +15,11 @@ use Rattle.shuffle_transfer.specs.Labels.{words_of, Letter, letter_discrete, let
 use Rattle.shuffle_transfer.specs.Laws.{IsWordOf, LabelsAreWords}
 use Rattle.shuffle_transfer.proofs.Orderings.{ascending_distinct}
 use Rattle.shuffle_transfer.proofs.Ranks.{ordering_apart}
-use Rattle.shuffle_transfer.proofs.Words.{parts_same, sorted_rises, sorted_ordering, distinct_append, words_ascend, mem_words, words_mem}
+use Rattle.shuffle_transfer.proofs.Words.{parts_same, sorted_rises, sorted_ordering, words_ascend, mem_words, words_mem}
 
 -- ---- the letters
 
-abbrev lettered : ℕ → List ℕ → Letter
+abbrev pub lettered : ℕ → List ℕ → Letter
 lettered g w = record { gen = g; word = w }
 
 mem_letters : (g j : ℕ) (gens : List (List Part)) (w : List ℕ) → j < length gens → Mem w (words_of (parts_of gens j)) → (i : ℕ) → i ≡ g + j → Mem (lettered i w) (letters g gens)
@@ -56,7 +56,7 @@ distinct_lettered g (w ∷ ws) h = (
 
 distinct_letters : (g : ℕ) (gens : List (List Part)) → Distinct (letters g gens)
 distinct_letters g [] = tt
-distinct_letters g (ps ∷ gens) = distinct_append (map (lettered g) (words_of ps)) (letters (suc g) gens)
+distinct_letters g (ps ∷ gens) = Distinct-append (map (lettered g) (words_of ps)) (letters (suc g) gens)
     (distinct_lettered g (words_of ps) (ascending_distinct (words_of ps) (words_ascend ps)))
     (distinct_letters (suc g) gens)
     (λ x i j.

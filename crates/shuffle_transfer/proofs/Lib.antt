@@ -13,7 +13,6 @@ pub mod FramesBack
 pub mod Forth
 pub mod Turned
 pub mod Vanish
-pub mod Contexts
 pub mod SlotInsertions
 pub mod Relations
 pub mod Forward

@@ -8,7 +8,7 @@ use Rattle.modular_sums.proofs.Images.{AllTerms-imp}
 use Rattle.labelled_trees.specs.Trees.{Tree}
 use Rattle.labelled_trees.specs.Equality.{tree_discrete}
 use Rattle.labelled_trees.specs.Labelled.{IsLabelled}
-use Rattle.shuffle_normal_forms.proofs.Differences.{same_gone, same_forms_apart, same_sums_apart, same_of_zero}
+use Rattle.modular_sums.proofs.Differences.{same_gone, same_forms_apart, same_sums_apart, same_of_zero}
 use Rattle.operad_ideals.specs.Presentations.{arity_of}
 use Rattle.operad_ideals.specs.Ideals.{InIdeal}
 use Rattle.operad_ideals.proofs.Ideals.{ideal_zero, ideal-append, ideal-scale, ideal-same}

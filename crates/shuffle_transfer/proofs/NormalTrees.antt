@@ -17,7 +17,8 @@ use Rattle.shuffle_normal_forms.proofs.Laws.{all_listed, lead_none}
 use Rattle.operad_ideals.specs.Spelling.{IsSorted}
 use Rattle.operad_ideals.specs.Presentations.{Presentation, parts, arity_of}
 use Rattle.operad_ideals.specs.Ideals.{InIdeal}
-use Rattle.operad_ideals.proofs.Spellings.{sorted_spelling, is_sorted_spelled, labelled_once}
+use Rattle.operad_ideals.proofs.Spellings.{sorted_spelling, is_sorted_spelled}
+use Rattle.labelled_trees.proofs.Numbered.{labelled_once}
 use Rattle.shuffle_transfer.specs.Labels.{labels, gen, inputs_of, shuffle_form, symmetric_tree}
 use Rattle.shuffle_transfer.specs.Transfer.{shuffled}
 use Rattle.shuffle_transfer.specs.NormalTrees.{OneOrder, by_path, by_pathshort, by_leafpath, by_weightpath, compare, normal_list, IsLead, IsNormalTree}

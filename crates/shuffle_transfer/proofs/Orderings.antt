@@ -1,22 +1,21 @@
 -- The list of all permutations, in lexicographic order.
-use Rattle.std.proofs.Common.{◌≡◌, ℕ, zero, suc, ◌+◌, ◌<◌, ◌≤◌, List, [], ◌∷◌, map, length, refl, sym, ◌∙◌, ap, arith, subst, inl, inr, ◌⊎◌, length-append}
+use Rattle.std.proofs.Common.{◌≡◌, ℕ, zero, suc, ◌+◌, ◌<◌, ◌≤◌, List, [], ◌∷◌, map, length, refl, sym, ◌∙◌, ap, arith, subst, inl, inr, ◌⊎◌}
 use Rattle.std.specs.Prelude.{flat_map}
 use mathlib.Core.List.{◌++◌}
 use Rattle.std.specs.declared.cmp.Ordering.TheVariants.{Less}
 use Rattle.std.specs.Ordering.{nat_cmp}
 use Rattle.std.specs.Cmp.Lexicographic.{slice_cmp}
 use Rattle.modular_sums.specs.Lists.{Mem, Distinct, Rises}
-use Rattle.modular_sums.proofs.Lists.{mem_either, mem_of_map}
+use Rattle.modular_sums.proofs.Lists.{mem_either, mem_of_map, mem_of_flat}
 use Rattle.shuffle_insertions.specs.Listing.{upto}
+use Rattle.labelled_trees.specs.Insertions.{listed}
+use Rattle.labelled_trees.proofs.Insertions.{length-listed}
+use Rattle.shuffle_insertions.proofs.Counting.{length-upto}
 use Rattle.shuffle_insertions.proofs.Upto.{upto_mem, upto_rises, in_upto}
 use Rattle.shuffle_insertions.proofs.Comparing.{less_nat, same_nat, then_first, then_second}
 use Rattle.shuffle_transfer.specs.Orderings.{IsOrdering, entry, Pick, behind, picks, permutations, orderings, Ascending}
 use Rattle.shuffle_transfer.specs.Laws.{AllOrderings}
-use Rattle.shuffle_transfer.proofs.Permutes.{mem_of_flat, mem_of_behind, picked, Permutes, pick_mem, rest_rises, permutes_within, permutes_distinct, permutes_length, permutes_of, mem_permutations, permutations_mem}
-
-pub length-upto : (n : ℕ) → length (upto n) ≡ n
-length-upto zero = refl
-length-upto (suc n) = length-append (upto n) (suc n ∷ []) ∙ omega (arith, length-upto n)
+use Rattle.shuffle_transfer.proofs.Permutes.{mem_of_behind, picked, Permutes, pick_mem, rest_rises, permutes_within, permutes_distinct, permutes_length, permutes_of, mem_permutations, permutations_mem}
 
 pub ordering_permutes : (m : ℕ) (v : List ℕ) → IsOrdering m v → Permutes (upto m) v
 ordering_permutes m v h = permutes_of v (upto m) (h.length_is ∙ sym (length-upto m)) h.distinct (λ u k. let w = h.within u k in in_upto m u w.0 w.1)
@@ -112,43 +111,35 @@ one_distinct (x ∷ v) h = (
   one_distinct v (λ i j a b e. let f : suc i ≡ suc j = h (suc i) (suc j) (omega (arith, a)) (omega (arith, b)) e in omega (arith, f)),
 )
 
--- the list of f (a + 1) to f (a + k)
-abbrev values : (ℕ → ℕ) → ℕ → ℕ → List ℕ
-values f a zero = []
-values f a (suc k) = f (suc a) ∷ values f (suc a) k
-
-length-values : (f : ℕ → ℕ) (a k : ℕ) → length (values f a k) ≡ k
-length-values f a zero = refl
-length-values f a (suc k) = ap suc (length-values f (suc a) k)
-
-entry-values : (f : ℕ → ℕ) (a k i : ℕ) → i < k → entry (values f a k) (suc i) ≡ f (suc (a + i))
-entry-values f a zero i lt = absurd (omega arith)
-entry-values f a (suc k) zero lt = let e : suc a ≡ suc (a + 0) = omega arith in ap f e
-entry-values f a (suc k) (suc i) lt = let e : suc (suc a + i) ≡ suc (a + suc i) = omega arith in entry-values f (suc a) k i (omega (arith, lt)) ∙ ap f e
+-- the entries of the list of f (a + 1) to f (a + k)
+entry-listed : (f : ℕ → ℕ) (a k i : ℕ) → i < k → entry (listed f a k) (suc i) ≡ f (suc (a + i))
+entry-listed f a zero i lt = absurd (omega arith)
+entry-listed f a (suc k) zero lt = let e : suc a ≡ suc (a + 0) = omega arith in ap f e
+entry-listed f a (suc k) (suc i) lt = let e : suc (suc a + i) ≡ suc (a + suc i) = omega arith in entry-listed f (suc a) k i (omega (arith, lt)) ∙ ap f e
 
 -- a one-to-one function of 1 to m into 1 to m, as a list
 pub as_list : (m : ℕ) (f : ℕ → ℕ) → ((i : ℕ) → 0 < i → i ≤ m → (0 < f i) × (f i ≤ m)) → ((i j : ℕ) → 0 < i → i ≤ m → 0 < j → j ≤ m → f i ≡ f j → i ≡ j)
     → (v : List ℕ) × IsOrdering m v × ((i : ℕ) → 0 < i → i ≤ m → entry v i ≡ f i)
 as_list m f within one = (
-  values f 0 m,
+  listed f 0 m,
   record {
-    length_is = length-values f 0 m;
+    length_is = length-listed f 0 m;
     within = λ u k.
-        let r = mem_entry (values f 0 m) u k in
-        let lt : r.0 < length (values f 0 m) = r.2 in
-        let le : suc r.0 ≤ m = omega (arith, lt, length-values f 0 m) in
+        let r = mem_entry (listed f 0 m) u k in
+        let lt : r.0 < length (listed f 0 m) = r.2 in
+        let le : suc r.0 ≤ m = omega (arith, lt, length-listed f 0 m) in
         subst (λ z. (0 < z) × (z ≤ m)) (sym (r.1 ∙ same (suc r.0) (omega arith) le)) (within (suc r.0) (omega arith) le);
-    distinct = one_distinct (values f 0 m) (λ i j a b e.
-        let x : suc i ≤ m = omega (arith, a, length-values f 0 m) in
-        let y : suc j ≤ m = omega (arith, b, length-values f 0 m) in
+    distinct = one_distinct (listed f 0 m) (λ i j a b e.
+        let x : suc i ≤ m = omega (arith, a, length-listed f 0 m) in
+        let y : suc j ≤ m = omega (arith, b, length-listed f 0 m) in
         let k : suc i ≡ suc j = one (suc i) (suc j) (omega arith) x (omega arith) y (sym (same (suc i) (omega arith) x) ∙ e ∙ same (suc j) (omega arith) y) in omega (arith, k));
   },
   same,
 )
   where
-    same : (i : ℕ) → 0 < i → i ≤ m → entry (values f 0 m) i ≡ f i
+    same : (i : ℕ) → 0 < i → i ≤ m → entry (listed f 0 m) i ≡ f i
     same zero p le = absurd (omega arith)
-    same (suc i) p le = let e : suc (0 + i) ≡ suc i = omega arith in entry-values f 0 m i (omega (arith, le)) ∙ ap f e
+    same (suc i) p le = let e : suc (0 + i) ≡ suc i = omega arith in entry-listed f 0 m i (omega (arith, le)) ∙ ap f e
 
 -- the entries of a permutation of 1 to m
 pub entry_within : (m : ℕ) (v : List ℕ) → IsOrdering m v → (i : ℕ) → 0 < i → i ≤ m → (0 < entry v i) × (entry v i ≤ m)

@@ -1,22 +1,8 @@
 -- Lists that come from one another by picking entry after entry.
 use Rattle.std.proofs.Common.{◌≡◌, ℕ, zero, suc, List, [], ◌∷◌, map, length, refl, sym, ◌∙◌, ap, arith, subst, inl, inr, ◌⊎◌}
-use Rattle.std.specs.Prelude.{flat_map}
 use Rattle.modular_sums.specs.Lists.{Mem, Distinct, Rises}
-use Rattle.modular_sums.proofs.Lists.{mem_left, mem_right, mem_either, mem_map, mem_of_map}
+use Rattle.modular_sums.proofs.Lists.{mem_map, mem_of_map, mem_flat, mem_of_flat}
 use Rattle.shuffle_transfer.specs.Orderings.{Pick, behind, picks, permutations}
-
-pub mem_flat : {A B : Type 0} (f : A → List B) (x : A) (y : B) (l : List A) → Mem x l → Mem y (f x) → Mem y (flat_map f l)
-mem_flat f x y [] h k = absurd h
-mem_flat f x y (z ∷ l) (inl e) k = mem_left y (f z) (flat_map f l) (subst (λ w. Mem y (f w)) e k)
-mem_flat f x y (z ∷ l) (inr h) k = mem_right y (f z) (flat_map f l) (mem_flat f x y l h k)
-
-pub mem_of_flat : {A B : Type 0} (f : A → List B) (y : B) (l : List A) → Mem y (flat_map f l) → (x : A) × Mem x l × Mem y (f x)
-mem_of_flat f y [] h = absurd h
-mem_of_flat {A} f y (x ∷ l) h = go (mem_either y (f x) (flat_map f l) h) (λ b. mem_of_flat f y l b)
-  where
-    go : Mem y (f x) ⊎ Mem y (flat_map f l) → (Mem y (flat_map f l) → (z : A) × Mem z l × Mem y (f z)) → (z : A) × Mem z (x ∷ l) × Mem y (f z)
-    go (inl a) ih = (x, inl refl, a)
-    go (inr b) ih = let k = ih b in (k.0, inr k.1, k.2)
 
 -- x is an entry of the first list, and the second has the others
 pub data Picked (x : ℕ) : List ℕ → List ℕ → Type 0 where

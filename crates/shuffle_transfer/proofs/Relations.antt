@@ -1,79 +1,24 @@
 -- Any inputs are rising inputs behind a permutation: an instance of a relation has, with its sign, the shuffle form of an insertion.
-use Rattle.std.proofs.Common.{◌≡◌, ℕ, zero, suc, ◌*◌, ◌<◌, ◌≤◌, List, sym, ◌∙◌, ap, arith, subst}
+use Rattle.std.proofs.Common.{◌≡◌, ℕ, suc, ◌<◌, ◌≤◌, List, sym, ◌∙◌, ap, arith, subst}
 use native.Mathlib.Decide.{dec_lt, ℕ_discrete}
-use Rattle.labelled_trees.specs.Trees.{Tree, Row, leaf, node, none, more, graft}
-use Rattle.labelled_trees.specs.Leaves.{one_if, leaf_count, sum_leaves, sum_row, AllLeaves, AllRow, occurs}
+use Rattle.labelled_trees.specs.Trees.{Tree, leaf, graft}
+use Rattle.labelled_trees.specs.Leaves.{one_if, AllLeaves, occurs}
 use Rattle.labelled_trees.specs.Labelled.{Fits, IsLabelled}
 use Rattle.labelled_trees.specs.Ranks.{below, standard}
 use Rattle.labelled_trees.proofs.Grafts.{graft_assoc, graft_leaf}
-use Rattle.labelled_trees.proofs.Leaves.{by_leaf, at_leaf, one_if-yes, AllLeaves-imp, sum_leaves-≤, sum_leaves-same}
+use Rattle.labelled_trees.proofs.Leaves.{by_leaf, at_leaf, sum_leaves-≤, AllLeaves-≤}
+use Rattle.labelled_trees.proofs.Counts.{leaf_count-labelled}
 use Rattle.labelled_trees.proofs.GraftLeaves.{graft_ext, agree, AllLeaves-graft, AllLeaves_of_graft, sum_leaves-graft}
 use Rattle.labelled_trees.proofs.Factors.{factor}
 use Rattle.labelled_trees.proofs.Fitting.{fits_parts}
-use Rattle.labelled_trees.proofs.RangeSums.{range_sum_ext, by_counts}
-use Rattle.labelled_trees.proofs.Ranks.{below-mono, below_sum, standard_each, standard_only}
+use Rattle.labelled_trees.proofs.Ranks.{below-mono, below_all, standard_each, standard_only}
 use Rattle.shuffle_insertions.specs.ShuffleTrees.{least, IsRising}
 use Rattle.shuffle_insertions.specs.Slots.{PartsRise}
-use Rattle.shuffle_insertions.proofs.Insertions.{InRange}
-use Rattle.shuffle_insertions.proofs.Rising.{least-occurs, least-le}
+use Rattle.shuffle_insertions.proofs.Insertions.{InRange, order_back}
+use Rattle.shuffle_insertions.proofs.Rising.{least-occurs}
+use Rattle.shuffle_insertions.proofs.Named.{one_if_le}
 use Rattle.shuffle_transfer.specs.ShuffleForms.{form}
 use Rattle.shuffle_transfer.proofs.Forms.{form_rises, occurs-form}
-
-module _ (arity : ℕ → ℕ) (m : ℕ) where
-  pub among_leaves : (x : Tree ℕ) → IsLabelled arity m x → AllLeaves x (InRange m)
-  among_leaves x h = by_leaf x (InRange m) h.only
-
-  low_leaves : (x : Tree ℕ) → IsLabelled arity m x → AllLeaves x (λ i. i < suc m)
-  low_leaves x h = by_leaf x (λ i. i < suc m) (λ i o. let r = h.only i o in omega (arith, r.1))
-
-  labelled_counts : (x y : Tree ℕ) → IsLabelled arity m x → IsLabelled arity m y → (i : ℕ) → occurs i x ≡ occurs i y
-  labelled_counts x y hx hy i = go (dec_lt 0 (occurs i x)) (dec_lt 0 (occurs i y))
-    where
-      go : Dec (0 < occurs i x) → Dec (0 < occurs i y) → occurs i x ≡ occurs i y
-      go (yes a) d = let r = hx.only i a in hx.each i r.0 r.1 ∙ sym (hy.each i r.0 r.1)
-      go (no a) (yes b) = let r = hy.only i b in hx.each i r.0 r.1 ∙ sym (hy.each i r.0 r.1)
-      go (no a) (no b) = omega (arith, a, b)
-
-  -- a sum over the leaves depends on their numbers alone
-  pub labelled_sums : (x y : Tree ℕ) → IsLabelled arity m x → IsLabelled arity m y → (f : ℕ → ℕ) → sum_leaves x f ≡ sum_leaves y f
-  labelled_sums x y hx hy f =
-      by_counts (suc m) x f (low_leaves x hx) ∙ range_sum_ext (suc m) (λ i. occurs i x * f i) (λ i. occurs i y * f i) (λ i. ap (λ k. k * f i) (labelled_counts x y hx hy i))
-      ∙ sym (by_counts (suc m) y f (low_leaves y hy))
-
-  no_zero : (x : Tree ℕ) → IsLabelled arity m x → occurs 0 x ≡ 0
-  no_zero x h = go (dec_lt 0 (occurs 0 x))
-    where
-      go : Dec (0 < occurs 0 x) → occurs 0 x ≡ 0
-      go (yes o) = let r = h.only 0 o in absurd (omega (arith, r.0))
-      go (no z) = omega arith
-
-  pub below_labelled : (x : Tree ℕ) → IsLabelled arity m x → (k : ℕ) → k ≤ m → below (suc k) x ≡ k
-  below_labelled x h zero le = let z : occurs 0 x ≡ 0 = no_zero x h in omega (arith, z)
-  below_labelled x h (suc k) le = let o : occurs (suc k) x ≡ 1 = h.each (suc k) (omega arith) le in omega (arith, o, below_labelled x h k (omega arith))
-
--- all leaves are below a bound
-below_all : (b : ℕ) (t : Tree ℕ) → AllLeaves t (λ x. x < b) → below b t ≡ leaf_count t
-below_all b t h = below_sum b t ∙ sum_leaves-same t (λ a. one_if (dec_lt a b)) (λ a. 1) (AllLeaves-imp t (λ x. x < b) (λ x. one_if (dec_lt x b) ≡ 1) (λ x l. one_if-yes (dec_lt x b) l) h)
-
-mutual
-  leaf_le : (t : Tree ℕ) (f : ℕ → ℕ) (k : ℕ) → sum_leaves t f ≤ k → AllLeaves t (λ a. f a ≤ k)
-  leaf_le (leaf a) f k h = h
-  leaf_le (node g r) f k h = leaf_le_row r f k h
-
-  leaf_le_row : (r : Row ℕ) (f : ℕ → ℕ) (k : ℕ) → sum_row r f ≤ k → AllRow r (λ a. f a ≤ k)
-  leaf_le_row none f k h = tt
-  leaf_le_row (more t r) f k h = (leaf_le t f k (omega (arith, h)), leaf_le_row r f k (omega (arith, h)))
-
-one_if_le : (i : ℕ) (t : Tree ℕ) (d : Dec (least t ≡ i)) → 0 < occurs (least t) t → one_if d ≤ occurs i t
-one_if_le i t (yes e) h = subst (λ k. 1 ≤ occurs k t) e h
-one_if_le i t (no _) h = omega arith
-
--- rising trees with the same leaves have the same least leaf
-pub least_same : (x y : Tree ℕ) → IsRising x → IsRising y → ((i : ℕ) → occurs i x ≡ occurs i y) → least x ≡ least y
-least_same x y hx hy e =
-    let a : least y ≤ least x = at_leaf y (λ i. least y ≤ i) (least x) (least-le y hy) (subst (λ n. 0 < n) (e (least x)) (least-occurs x hx)) in
-    let b : least x ≤ least y = at_leaf x (λ i. least x ≤ i) (least y) (least-le x hx) (subst (λ n. 0 < n) (sym (e (least y))) (least-occurs y hy)) in
-    omega arith
 
 -- A labelled tree of arity m with a tree for each of its leaves, whose graft fits and holds no number twice and none above n.
 pub record Inputs (arity : ℕ → ℕ) (m n : ℕ) : Type 0 where
@@ -102,7 +47,7 @@ module _ (label : ℕ → List ℕ → ℕ) (arity : ℕ → ℕ) (m n : ℕ) (g
 
   single_at : (i : ℕ) → InRange m i → (j : ℕ) → occurs j (s i) ≤ 1
   single_at i a j = at_leaf x (λ k. occurs j (s k) ≤ 1) i
-      (leaf_le x (λ k. occurs j (s k)) 1 (subst (λ k. k ≤ 1) (sum_leaves-graft x s (λ l. one_if (ℕ_discrete l j))) (given.single j))) (here i a)
+      (AllLeaves-≤ x (λ k. occurs j (s k)) 1 (subst (λ k. k ≤ 1) (sum_leaves-graft x s (λ l. one_if (ℕ_discrete l j))) (given.single j))) (here i a)
 
   rises_at : (i : ℕ) → InRange m i → IsRising (G i)
   unfolding G
@@ -142,8 +87,7 @@ module _ (label : ℕ → List ℕ → ℕ) (arity : ℕ → ℕ) (m n : ℕ) (g
   number : below (suc n) keys ≡ m
   unfolding keys
   number =
-      below_all (suc n) keys keys_low ∙ sum_leaves-graft x (λ i. leaf (least (G i))) (λ i. 1)
-      ∙ sym (below_all (suc m) x (by_leaf x (λ i. i < suc m) (λ i o. let r = given.labelled.only i o in omega (arith, r.1)))) ∙ below_labelled arity m x given.labelled m (omega arith)
+      below_all (suc n) keys keys_low ∙ sum_leaves-graft x (λ i. leaf (least (G i))) (λ i. 1) ∙ leaf_count-labelled arity m x given.labelled
 
   each_rank : (i : ℕ) → 0 < i → i ≤ m → occurs i (relabel x) ≡ 1
   each_rank i p le = ap (occurs i) relabel_is ∙ standard_each (suc n) keys keys_low once_keys i p (omega (arith, le, number))
@@ -207,12 +151,7 @@ module _ (label : ℕ → List ℕ → ℕ) (arity : ℕ → ℕ) (m n : ℕ) (g
   lined_order i j a b lt = in_order i j a b lt (dec_lt (least (G (behind i))) (least (G (behind j))))
 
   pub lined_back : (i j : ℕ) → InRange m i → InRange m j → least (form label (lined i)) < least (form label (lined j)) → i < j
-  lined_back i j a b lt = go (dec_lt i j) (ℕ_discrete i j)
-    where
-      go : Dec (i < j) → Dec (i ≡ j) → i < j
-      go (yes h) e = h
-      go (no h) (yes e) = let l : least (form label (lined i)) ≡ least (form label (lined j)) = ap (λ k. least (form label (lined k))) e in absurd (omega (arith, l, lt))
-      go (no h) (no f) = let l : least (form label (lined j)) < least (form label (lined i)) = lined_order j i b a (omega (arith, h, f)) in absurd (omega (arith, l, lt))
+  lined_back = order_back (InRange m) (λ k. least (form label (lined k))) lined_order
 
   pub lined_rise : PartsRise m (λ j. form label (lined j))
   unfolding lined G

@@ -15,24 +15,24 @@ use Rattle.labelled_trees.specs.Leaves.{one_if, sum_leaves, AllLeaves, occurs}
 use Rattle.labelled_trees.specs.Equality.{tree_discrete}
 use Rattle.labelled_trees.specs.Labelled.{Fits, IsLabelled}
 use Rattle.labelled_trees.proofs.Grafts.{graft_assoc}
-use Rattle.labelled_trees.proofs.Leaves.{by_leaf, at_leaf, AllLeaves-imp, AllLeaves-each}
+use Rattle.labelled_trees.proofs.Leaves.{by_leaf, at_leaf, AllLeaves-imp, AllLeaves-each, occurs_self, sum_leaves-all_zero}
+use Rattle.labelled_trees.proofs.ContextLeaves.{adds}
+use Rattle.labelled_trees.proofs.Numbered.{numbered_of_labelled, labelled_once, numbered_sums}
 use Rattle.labelled_trees.proofs.GraftLeaves.{graft_ext, AllLeaves-graft, AllLeaves_of_graft, sum_leaves-graft}
-use Rattle.labelled_trees.proofs.Holes.{At, hole_at}
+use Rattle.labelled_trees.proofs.Holes.{At, hole_at, one_context}
 use Rattle.labelled_trees.proofs.Fitting.{fits_of_fill, fits-fill, fits_parts, fits-graft}
 use Rattle.shuffle_insertions.specs.ShuffleTrees.{least, IsRising, IsShuffleTree}
 use Rattle.shuffle_insertions.specs.Slots.{Slot, fill_slot, PartsRise}
 use Rattle.shuffle_insertions.proofs.Insertions.{InRange}
-use Rattle.shuffle_insertions.proofs.Rising.{rising-fill, rising_of_fill, least-occurs}
+use Rattle.shuffle_insertions.proofs.Rising.{rising-fill, rising_of_fill, least-occurs, least_same}
 use Rattle.operad_ideals.specs.Parts.{minus, times}
 use Rattle.operad_ideals.specs.Sorting.{spelled_sign}
 use Rattle.operad_ideals.specs.Presentations.{Relation, Presentation, residue_of, parts, arity_of, IsSound}
 use Rattle.operad_ideals.specs.Rules.{relation}
 use Rattle.operad_ideals.specs.HoleInstances.{hole_element}
-use Rattle.operad_ideals.proofs.Links.{member_one, member_zero, two_alike}
+use Rattle.modular_sums.proofs.Links.{member_one, member_zero, two_alike}
 use Rattle.operad_ideals.proofs.Residues.{residue-times}
-use Rattle.operad_ideals.proofs.HoleInstances.{adds, occurs_self}
 use Rattle.operad_ideals.proofs.AgreementLinks.{near_spelled}
-use Rattle.operad_ideals.proofs.Spellings.{labelled_once}
 use Rattle.shuffle_transfer.specs.Orderings.{entry}
 use Rattle.shuffle_transfer.specs.Labels.{label, gen, word, inputs_of, shuffle_form, symmetric_tree}
 use Rattle.shuffle_transfer.specs.Transfer.{relabelled}
@@ -40,13 +40,11 @@ use Rattle.shuffle_transfer.proofs.Orderings.{entry_within}
 use Rattle.shuffle_transfer.proofs.FormGrafts.{form-graft, turns-graft}
 use Rattle.shuffle_transfer.proofs.FormContexts.{form_ctx}
 use Rattle.shuffle_transfer.proofs.Forms.{occurs-form, sum-form}
-use Rattle.shuffle_transfer.proofs.Contexts.{one_context, sum_zero}
 use Rattle.shuffle_transfer.proofs.Back.{Back}
 use Rattle.shuffle_transfer.proofs.Signs.{twist}
 use Rattle.shuffle_transfer.proofs.Spelling.{labelled, back_of, spelled_is}
 use Rattle.shuffle_transfer.proofs.Turned.{turns_of, turned, sign_alike}
 use Rattle.shuffle_transfer.proofs.SlotInsertions.{SlotInsertion, slot_inserted}
-use Rattle.shuffle_transfer.proofs.Relations.{labelled_sums, least_same}
 
 module _ (p : Presentation) (n : ℕ) where
   abbrev q : ℕ
@@ -223,7 +221,7 @@ module _ (p : Presentation) (n : ℕ) where
     part_turns : (y : Tree ℕ) → IsLabelled arity m y → turns_of p (graft y inputs) ≡ turns_of p (named y)
     part_turns y h =
         let z : sum_leaves (named y) (λ j. turns_of p (lifts j)) ≡ 0
-        = sum_zero (named y) (λ j. turns_of p (lifts j)) (AllLeaves-imp (named y) Named (λ j. turns_of p (lifts j) ≡ 0) (λ j k. (part_back j k).no_turns) (all_named y h)) in
+        = sum_leaves-all_zero (named y) (λ j. turns_of p (lifts j)) (AllLeaves-imp (named y) Named (λ j. turns_of p (lifts j) ≡ 0) (λ j k. (part_back j k).no_turns) (all_named y h)) in
         let e : turns_of p (graft (named y) lifts) ≡ turns_of p (named y) + sum_leaves (named y) (λ j. turns_of p (lifts j))
         = turns-graft arity lab Named lifts forth back_again turn (named y) (named_fits y h) (all_named y h) in
         ap (turns_of p) (sym (graft_assoc y (λ i. leaf (w i)) lifts)) ∙ (omega (arith, z, e))
@@ -234,7 +232,7 @@ module _ (p : Presentation) (n : ℕ) where
     low_is : (y : Tree ℕ) → IsLabelled arity m y → Shuffles (fill_slot f (F (named y))) → least (F (graft y inputs)) ≡ least (graft (F (named x0)) f.parts)
     low_is y h v = ap least (part_form y h) ∙ least_same (graft (F (named y)) f.parts) (graft (F (named x0)) f.parts)
         (rising_of_fill f.context (graft (F (named y)) f.parts) v.shuffle.rising) (rising_of_fill f.context (graft (F (named x0)) f.parts) laid.valid.shuffle.rising)
-        (λ i. counts y i ∙ labelled_sums arity m y x0 h laid.labelled (λ a. occurs i (f.parts (w a))) ∙ sym (counts x0 i))
+        (λ i. counts y i ∙ numbered_sums (numbered_of_labelled h) (numbered_of_labelled laid.labelled) (λ a. occurs i (f.parts (w a))) ∙ sym (counts x0 i))
       where
         counts : (t : Tree ℕ) (i : ℕ) → occurs i (graft (F (named t)) f.parts) ≡ sum_leaves t (λ a. occurs i (f.parts (w a)))
         counts t i = sum_leaves-graft (F (named t)) f.parts (λ k. one_if (ℕ_discrete k i)) ∙ sum-form lab (named t) (λ a. occurs i (f.parts a)) ∙ sum_leaves-graft t (λ a. leaf (w a)) (λ a. occurs i (f.parts a))

@@ -1,25 +1,24 @@
 -- The turns of a tree count for the sign of its sorted spelling.
-use Rattle.std.proofs.Common.{◌≡◌, ⊎_elim, ℕ, zero, suc, ◌^◌, ◌<◌, ◌≤◌, List, ◌∷◌, map, min, refl, sym, ◌∙◌, ap, arith, subst}
+use Rattle.std.proofs.Common.{◌≡◌, ⊎_elim, ℕ, zero, suc, ◌^◌, ◌<◌, ◌≤◌, List, ◌∷◌, map, refl, sym, ◌∙◌, ap, arith, subst}
 use mathlib.Core.Path.{ap₂}
 use Rattle.std.proofs.lemmas.List.{map-id}
-use native.Mathlib.Decide.{dec_lt}
 use Rattle.std.proofs.Math.Nat.{pow-zero, pow-succ'}
 use Rattle.modular_sums.specs.Residues.{Alike}
 use Rattle.modular_sums.proofs.Residues.{alike_mul}
 use Rattle.labelled_trees.specs.Trees.{Tree, Row, leaf, node, none, more, inputs}
-use Rattle.labelled_trees.specs.Leaves.{occurs, occurs_row, AllLeaves, AllRow}
+use Rattle.labelled_trees.specs.Leaves.{occurs, occurs_row}
 use Rattle.labelled_trees.specs.Labelled.{Fits, FitsRow}
-use Rattle.labelled_trees.proofs.Leaves.{at_leaf, AllLeaves-imp, AllRow-imp}
+use Rattle.labelled_trees.proofs.Leaves.{at_leaf}
 use Rattle.shuffle_insertions.specs.ShuffleTrees.{least, IsRising}
 use Rattle.shuffle_insertions.proofs.Rising.{least-occurs, least-le}
 use Rattle.operad_ideals.specs.Parts.{Part, Sign, plus, minus, times, sign_of}
-use Rattle.operad_ideals.specs.Spelling.{least_leaf, least_leaf_row}
+use Rattle.operad_ideals.specs.Spelling.{least_leaf}
 use Rattle.operad_ideals.specs.Sorting.{parts_sign, spelled_row, spelled_sign, spelled_sign_row}
 use Rattle.operad_ideals.specs.Laws.{arity}
 use Rattle.operad_ideals.specs.Presentations.{residue_of}
 use Rattle.operad_ideals.proofs.Signs.{times_comm, sign_of-add}
 use Rattle.operad_ideals.proofs.Residues.{residue-times}
-use Rattle.operad_ideals.proofs.LeastLeaves.{occurs-least_leaf}
+use Rattle.operad_ideals.proofs.LeastLeaves.{occurs-least_leaf, least_leaf-le}
 use Rattle.operad_ideals.proofs.SameOrder.{parts_sign-order}
 use Rattle.operad_ideals.proofs.Spellings.{least_leaves-spelled_row}
 use Rattle.operad_ideals.proofs.SortedLists.{tested, below, in_itself}
@@ -46,26 +45,6 @@ sign-turn plus = refl
 sign-turn minus = refl
 
 -- ---- least leaves
-
-lower : (P : ℕ → Type 0) (a b : ℕ) → P a → P b → P (min a b)
-lower P a b h k = go (dec_lt a b)
-  where
-    go : Dec (a < b) → P (min a b)
-    go (yes lt) = let e : a ≡ min a b = omega (arith, lt) in subst P e h
-    go (no f) = let e : b ≡ min a b = omega (arith, f) in subst P e k
-
-mutual
-  least_leaf-le : (t : Tree ℕ) → AllLeaves t (λ i. least_leaf t ≤ i)
-  least_leaf-le (leaf n) = omega arith
-  least_leaf-le (node g r) = least_leaf_row-le r
-
-  least_leaf_row-le : (r : Row ℕ) → AllRow r (λ i. least_leaf_row r ≤ i)
-  least_leaf_row-le none = tt
-  least_leaf_row-le (more t none) = (least_leaf-le t, tt)
-  least_leaf_row-le (more t (more u r)) = (
-    AllLeaves-imp t (λ i. least_leaf t ≤ i) (λ i. min (least_leaf t) (least_leaf_row (more u r)) ≤ i) (λ i k. omega (arith, k)) (least_leaf-le t),
-    AllRow-imp (more u r) (λ i. least_leaf_row (more u r) ≤ i) (λ i. min (least_leaf t) (least_leaf_row (more u r)) ≤ i) (λ i k. omega (arith, k)) (least_leaf_row-le (more u r)),
-  )
 
 -- the least leaf of a tree is the first leaf of a rising tree with the same leaves
 pub least_leaf-is : (arity : ℕ → ℕ) (t s : Tree ℕ) → Fits arity t → IsRising s → ((i : ℕ) → occurs i t ≡ occurs i s) → least_leaf t ≡ least s

@@ -17,7 +17,7 @@ use Rattle.shuffle_insertions.specs.Frames.{Frame, insert}
 use Rattle.shuffle_insertions.specs.Slots.{fill_slot}
 use Rattle.shuffle_insertions.proofs.Frames.{frame_of, SlotOf, slot_of, frame_of-is_frame, insert-frame_of}
 use Rattle.operad_ideals.specs.Presentations.{Presentation, arity_of, IsSound, without_relations}
-use Rattle.operad_ideals.proofs.Links.{member_zero, member_one, member_through}
+use Rattle.modular_sums.proofs.Links.{member_zero, member_one, member_through}
 use Rattle.operad_ideals.proofs.HoleInstances.{ideals_are_one}
 use Rattle.shuffle_transfer.specs.Orderings.{IsOrdering, entry}
 use Rattle.shuffle_transfer.specs.Labels.{inputs_of, shuffle_form}

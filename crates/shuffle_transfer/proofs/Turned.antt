@@ -13,8 +13,8 @@ use Rattle.labelled_trees.specs.Equality.{tree_discrete}
 use Rattle.labelled_trees.specs.Labelled.{IsLabelled}
 use Rattle.operad_ideals.specs.Sorting.{spelled_sign}
 use Rattle.operad_ideals.specs.Presentations.{Presentation, residue_of, parts, arity_of}
-use Rattle.operad_ideals.proofs.Links.{member_zero}
-use Rattle.operad_ideals.proofs.Spellings.{labelled_once}
+use Rattle.modular_sums.proofs.Links.{member_zero}
+use Rattle.labelled_trees.proofs.Numbered.{labelled_once}
 use Rattle.shuffle_transfer.specs.Labels.{label, shuffle_form}
 use Rattle.shuffle_transfer.specs.Transfer.{shuffled}
 use Rattle.shuffle_transfer.proofs.FormGrafts.{turns}

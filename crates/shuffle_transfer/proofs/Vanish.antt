@@ -1,17 +1,15 @@
 -- The shuffle form of an instance of a symmetry rule is zero.
-use Rattle.std.proofs.Common.{◌≡◌, ⊎_elim, ℕ, zero, suc, ◌+◌, ◌*◌, ◌^◌, ◌%◌, ◌≤◌, List, [], ◌∷◌, map, length, refl, sym, ◌∙◌, ap, arith, subst}
+use Rattle.std.proofs.Common.{◌≡◌, ⊎_elim, ℕ, zero, suc, ◌+◌, ◌*◌, ◌^◌, ◌%◌, List, [], ◌∷◌, map, length, refl, sym, ◌∙◌, ap, arith, subst}
 use mathlib.Core.Path.{ap₂}
-use native.Mathlib.Decide.{ℕ_discrete}
 use Rattle.std.proofs.lemmas.Nat.{pow-add}
 use Rattle.modular_sums.specs.Residues.{Alike}
 use Rattle.modular_sums.specs.Sums.{Same}
 use Rattle.modular_sums.proofs.Residues.{alike_add, alike_mul}
 use Rattle.labelled_trees.specs.Trees.{Tree, Row, node, none, more, row, graft_row}
 use Rattle.labelled_trees.specs.Contexts.{Ctx, fill}
-use Rattle.labelled_trees.specs.Leaves.{one_if, occurs}
 use Rattle.labelled_trees.specs.Equality.{tree_discrete}
 use Rattle.labelled_trees.specs.Labelled.{Fits, IsLabelled}
-use Rattle.labelled_trees.proofs.ContextLeaves.{sum_of_fill}
+use Rattle.labelled_trees.proofs.ContextLeaves.{once_inside}
 use Rattle.labelled_trees.proofs.Fitting.{fits_of_fill}
 use Rattle.shuffle_insertions.specs.ShuffleTrees.{least}
 use Rattle.operad_ideals.specs.Parts.{Sign, plus, minus, times, InOnePart}
@@ -20,12 +18,11 @@ use Rattle.operad_ideals.specs.Presentations.{Presentation, residue_of, parts, a
 use Rattle.operad_ideals.specs.Rules.{numbered, exchanged_at}
 use Rattle.operad_ideals.proofs.Residues.{residue-times, residue_gone}
 use Rattle.operad_ideals.proofs.Signs.{times_assoc}
-use Rattle.operad_ideals.proofs.Links.{two_gone}
+use Rattle.modular_sums.proofs.Links.{two_gone}
 use Rattle.operad_ideals.proofs.ArityOne.{part_below}
 use Rattle.operad_ideals.proofs.Exchanged.{graft_row-exchanged}
 use Rattle.operad_ideals.proofs.SortedLists.{exchange, exchange-map, sort_by-exchange, below, below_less, below_more, tested}
 use Rattle.operad_ideals.proofs.SortedParts.{sort_parts-exchange, parts_sign-exchange}
-use Rattle.operad_ideals.proofs.Spellings.{labelled_once}
 use Rattle.shuffle_transfer.specs.Orderings.{IsOrdering}
 use Rattle.shuffle_transfer.specs.ShuffleForms.{ranks, form, form_row}
 use Rattle.shuffle_transfer.specs.Labels.{letters, place_of, label, shuffle_form}
@@ -35,10 +32,6 @@ use Rattle.shuffle_transfer.proofs.FormContexts.{FormCtx, form_ctx}
 use Rattle.shuffle_transfer.proofs.Forms.{forms_apart, forms_ordering}
 use Rattle.shuffle_transfer.proofs.Signs.{twist, turn_of, residue-count}
 use Rattle.shuffle_transfer.proofs.Turned.{turns_of, turned}
-
--- in a part of a labelled tree no number stands twice
-pub once_inside : (arity : ℕ → ℕ) (n : ℕ) (c : Ctx ℕ) (x : Tree ℕ) → IsLabelled arity n (fill c x) → (i : ℕ) → occurs i x ≤ 1
-once_inside arity n c x h i = let k : occurs i x ≤ occurs i (fill c x) = sum_of_fill c x (λ m. one_if (ℕ_discrete m i)) in omega (arith, k, labelled_once h i)
 
 -- ---- ranks and forms of exchanged inputs
 

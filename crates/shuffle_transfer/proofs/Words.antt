@@ -2,7 +2,7 @@
 use Rattle.std.proofs.Common.{◌≡◌, inl, inr, ⊎_elim, ℕ, ◌<◌, ◌≤◌, Bool, true, false, cond, List, [], ◌∷◌, ◌++◌, length, take, drop, refl, sym, ap, ap₂, ◌∙◌, subst, arith, lt-ltb, le-ltb, length-take, length-drop, take-append-drop}
 use Rattle.std.proofs.Math.Seq.{take-append_seam, drop-append_seam}
 use Rattle.modular_sums.specs.Lists.{Mem, Distinct}
-use Rattle.modular_sums.proofs.Lists.{mem_either, mem_left, mem_right}
+use Rattle.modular_sums.proofs.Lists.{both_true, true_both, mem_left, mem_right, Distinct-append}
 use Rattle.operad_ideals.specs.Parts.{Kind, symmetric, skew, free, Part, plus, times, total}
 use Rattle.operad_ideals.specs.Sorting.{sort_by, sort_part, part_sign, sort_parts, parts_sign}
 use Rattle.operad_ideals.proofs.SortedLists.{Apart, Ascends, every_weaker, tested, every_in, in_itself, sort_by-ascends, sort_by-same, order_sign-ascending, apart-take, apart-drop}
@@ -34,13 +34,6 @@ ascends_rises (x ∷ []) h = refl
 ascends_rises (x ∷ (y ∷ w)) h = ap (λ t. cond t (rises (y ∷ w)) false) (lt-ltb x y h.0.0) ∙ ascends_rises (y ∷ w) h.1
 
 -- ---- part by part
-
-both_true : (a b : Bool) → cond a b false ≡ true → (a ≡ true) × (b ≡ true)
-both_true true b h = (refl, h)
-both_true false b h = absurd (cc h)
-
-true_both : (a b : Bool) → a ≡ true → b ≡ true → cond a b false ≡ true
-true_both a b h k = ap (λ t. cond t b false) h ∙ k
 
 part_same : (kind : Kind) (w : List ℕ) → part_rises kind w ≡ true → sort_part (λ n. n) kind w ≡ w
 part_same symmetric w h = sort_by-same (λ n. n) w (rises_ascends w h)
@@ -92,10 +85,6 @@ sorted_rises (p ∷ ps) w l h =
 
 -- ---- a sorted word is a permutation of 1 to its length
 
-pub distinct_append : {X : Type 0} (k l : List X) → Distinct k → Distinct l → ((x : X) → Mem x k → Mem x l → ⊥) → Distinct (k ++ l)
-distinct_append [] l a b h = b
-distinct_append (x ∷ k) l a b h = (λ m. ⊎_elim (λ i. a.0 i) (λ i. h x (inl refl) i) (mem_either x k l m), distinct_append k l a.1 b (λ y i j. h y (inr i) j))
-
 distinct_first : {X : Type 0} (k l : List X) → Distinct (k ++ l) → Distinct k
 distinct_first [] l h = tt
 distinct_first (x ∷ k) l h = (λ m. h.0 (mem_left x k l m), distinct_first k l h.1)
@@ -130,7 +119,7 @@ distinct_parts : (ps : List Part) (w : List ℕ) → Distinct w → Distinct (so
 distinct_parts [] w h = h
 distinct_parts (p ∷ ps) w h =
     let k : Distinct (take p.size w ++ drop p.size w) = subst Distinct (sym (take-append-drop p.size w)) h in
-    distinct_append (sort_part (λ n. n) p.kind (take p.size w)) (sort_parts (λ n. n) ps (drop p.size w))
+    Distinct-append (sort_part (λ n. n) p.kind (take p.size w)) (sort_parts (λ n. n) ps (drop p.size w))
     (distinct_part p.kind (take p.size w) (distinct_first (take p.size w) (drop p.size w) k))
     (distinct_parts ps (drop p.size w) (distinct_second (take p.size w) (drop p.size w) k))
     (λ x i j. distinct_apart (take p.size w) (drop p.size w) k x (part_mem p.kind (take p.size w) x i) (parts_mem ps (drop p.size w) x j))

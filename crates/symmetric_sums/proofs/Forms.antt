@@ -9,6 +9,7 @@ use Rattle.std.specs.Ordering.{ordering_reverse}
 use Rattle.modular_sums.specs.Residues.{Alike}
 use Rattle.modular_sums.specs.Sums.{hit, coef, Same}
 use Rattle.modular_sums.proofs.Residues.{alike_cancel}
+use Rattle.modular_sums.proofs.Coefficients.{coef_nothing}
 use Rattle.labelled_trees.specs.Trees.{Tree}
 use Rattle.labelled_trees.specs.Equality.{tree_discrete}
 use Rattle.operad_ideals.specs.Parts.{Part}
@@ -16,7 +17,8 @@ use Rattle.symmetric_trees.specs.SpellingOrder.{order}
 use Rattle.symmetric_trees.proofs.TreeOrder.{order_is_total}
 use Rattle.symmetric_sums.specs.Collected.{IsReduced, OneCollectedForm}
 use Rattle.symmetric_sums.specs.Collecting.{Pairs}
-use Rattle.symmetric_sums.proofs.LastOnes.{each-imp, pairs_from_AllPairs}
+use Rattle.operad_ideals.proofs.SortedLists.{every_weaker}
+use Rattle.symmetric_sums.proofs.LastOnes.{pairs_from_AllPairs}
 
 -- the coefficient of t, where t is first, and where it isn't
 coef-here : (x : ℕ × Tree ℕ) (e : List (ℕ × Tree ℕ)) → coef tree_discrete (x ∷ e) x.1 ≡ x.0 + coef tree_discrete e x.1
@@ -35,20 +37,16 @@ coef-other x e t ne = go (tree_discrete x.1 t)
     go (yes s) = absurd (ne s)
     go (no _) = omega arith
 
-coef-none : (t : Tree ℕ) → coef tree_discrete [] t ≡ 0
-unfolding coef
-coef-none t = refl
-
 -- a tree that is before another isn't that one
 pub not_itself : (t u : Tree ℕ) → order t u ≡ Less → u ≢ t
 not_itself t u l e = let equal : order t u ≡ Equal = (order_is_total.equal t u).1 (sym e) in let wrong : Less ≡ Equal = sym l ∙ equal in cc
 
 coef-after : (t : Tree ℕ) (e : List (ℕ × Tree ℕ)) → AllByRecursion (λ x. order t x.1 ≡ Less) e → coef tree_discrete e t ≡ 0
-coef-after t [] h = coef-none t
+coef-after t [] h = coef_nothing tree_discrete t
 coef-after t (x ∷ e) h = coef-other x e t (not_itself t x.1 h.0) ∙ coef-after t e h.1
 
 later : (t u : Tree ℕ) (e : List (ℕ × Tree ℕ)) → order t u ≡ Less → AllByRecursion (λ x. order u x.1 ≡ Less) e → AllByRecursion (λ x. order t x.1 ≡ Less) e
-later t u e l h = each-imp (λ x. order u x.1 ≡ Less) (λ x. order t x.1 ≡ Less) e (λ x k. order_is_total.transitive t u x.1 l k) h
+later t u e l h = every_weaker (λ x. order u x.1 ≡ Less) (λ x. order t x.1 ≡ Less) e (λ x k. order_is_total.transitive t u x.1 l k) h
 
 one_residue : (p a b : ℕ) → a < p → b < p → Alike (p - 1) a b → a ≡ b
 one_residue p a b la lb h =
@@ -88,8 +86,8 @@ module _ (p : ℕ) where
 
   pub one_form : (e f : List (ℕ × Tree ℕ)) → Rising e → Rising f → Small e → Small f → Alikes e f → e ≡ f
   one_form [] [] r s a b h = refl
-  one_form [] (y ∷ f) r s a b h = absurd (not_gone y f [] s b.0 (coef-none y.1) (λ t. sym (h t)))
-  one_form (x ∷ e) [] r s a b h = absurd (not_gone x e [] r a.0 (coef-none x.1) h)
+  one_form [] (y ∷ f) r s a b h = absurd (not_gone y f [] s b.0 (coef_nothing tree_discrete y.1) (λ t. sym (h t)))
+  one_form (x ∷ e) [] r s a b h = absurd (not_gone x e [] r a.0 (coef_nothing tree_discrete x.1) h)
   one_form (x ∷ e) (y ∷ f) r s a b h = go (order x.1 y.1) refl (λ k. one_form e f r.1 s.1 a.1 b.1 k)
     where
       go : (o : Ordering) → order x.1 y.1 ≡ o → (Alikes e f → e ≡ f) → x ∷ e ≡ y ∷ f

@@ -15,7 +15,8 @@ use Rattle.symmetric_trees.specs.SpellingOrder.{order}
 use Rattle.symmetric_trees.proofs.TreeOrder.{order_is_total}
 use Rattle.symmetric_sums.specs.Collecting.{Pairs, NotBefore, Before, IsResidue, JoinedTo, apart, added, cancelled, AreJoined}
 use Rattle.symmetric_sums.specs.declared.term.Term.{Term}
-use Rattle.symmetric_sums.proofs.LastOnes.{each-push, each-pop, each-imp, pairs-push, pairs-pop, last_one, one_last}
+use Rattle.operad_ideals.proofs.SortedLists.{every_weaker}
+use Rattle.symmetric_sums.proofs.LastOnes.{each-push, each-pop, pairs-push, pairs-pop, last_one, one_last}
 use Rattle.symmetric_sums.proofs.Weights.{weight, share, weight-nil, weight-push, two_hits}
 
 -- ---- the order
@@ -78,7 +79,7 @@ module _ (p : ℕ) (old new : List Term) (term : Term) where
       (λ e. subst (AllByRecursion (λ x. Before x term)) (sym e) tt)
       (λ s. subst (AllByRecursion (λ x. Before x term)) (sym s.2)
       (let one : Before s.1 term = other_before (tree_of term.tree) (tree_of s.1.tree) (each-pop (NotBefore term) s.0 s.1 (subst (AllByRecursion (NotBefore term)) s.2 k)).1 (ne s.0 s.1 s.2) in
-      each-push (λ x. Before x term) s.0 s.1 (each-imp (λ x. Before x s.1) (λ x. Before x term) s.0 (λ x b. order_is_total.transitive (tree_of x.tree) (tree_of s.1.tree) (tree_of term.tree) b one)
+      each-push (λ x. Before x term) s.0 s.1 (every_weaker (λ x. Before x s.1) (λ x. Before x term) s.0 (λ x b. order_is_total.transitive (tree_of x.tree) (tree_of s.1.tree) (tree_of term.tree) b one)
       (pairs-pop Before s.0 s.1 (subst (Pairs Before) s.2 h)).1) one))
       (last_one old)
 
@@ -87,7 +88,7 @@ module _ (p : ℕ) (old new : List Term) (term : Term) where
   joined-ascending (added front last c e same small alike is) h k =
       let parts = pairs-pop Before front last (subst (Pairs Before) e h) in
       subst (Pairs Before) (sym is) (pairs-push Before front (record { coef = c; tree = term.tree }) parts.0
-      (each-imp (λ x. Before x last) (λ x. Before x (record { coef = c; tree = term.tree })) front (λ x b. subst (λ u. order (tree_of x.tree) u ≡ Less) same b) parts.1))
+      (every_weaker (λ x. Before x last) (λ x. Before x (record { coef = c; tree = term.tree })) front (λ x b. subst (λ u. order (tree_of x.tree) u ≡ Less) same b) parts.1))
   joined-ascending (cancelled front last e same alike is) h k = subst (Pairs Before) (sym is) (pairs-pop Before front last (subst (Pairs Before) e h)).0
 
 -- ---- all terms
@@ -108,7 +109,7 @@ pub record IsOnTheWay (p : ℕ) (whole rest terms : List Term) : Type 0 where
 
 all_found : (xs : List Term) → AllByRecursion (λ x. Mem (tree_of x.tree) (trees xs)) xs
 all_found [] = tt
-all_found (x ∷ xs) = (inl refl, each-imp (λ y. Mem (tree_of y.tree) (trees xs)) (λ y. Mem (tree_of y.tree) (trees (x ∷ xs))) xs (λ y m. inr m) (all_found xs))
+all_found (x ∷ xs) = (inl refl, every_weaker (λ y. Mem (tree_of y.tree) (trees xs)) (λ y. Mem (tree_of y.tree) (trees (x ∷ xs))) xs (λ y m. inr m) (all_found xs))
 
 each_tt : {X : Type 0} (xs : List X) → AllByRecursion (λ x. Unit {0}) xs
 each_tt [] = tt

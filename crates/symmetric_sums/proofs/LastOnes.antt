@@ -14,10 +14,6 @@ module _ {X : Type 0} where
   each-pop P [] y h = (tt, h.0)
   each-pop P (x ∷ xs) y h = let k : AllByRecursion P xs × P y = each-pop P xs y h.1 in ((h.0, k.0), k.1)
 
-  pub each-imp : (P Q : X → Type 0) (xs : List X) → ((x : X) → P x → Q x) → AllByRecursion P xs → AllByRecursion Q xs
-  each-imp P Q [] f h = tt
-  each-imp P Q (x ∷ xs) f h = (f x h.0, each-imp P Q xs f h.1)
-
   pub pairs-push : (R : X → X → Type 0) (xs : List X) (y : X) → Pairs R xs → AllByRecursion (λ x. R x y) xs → Pairs R (xs ++ y ∷ [])
   pairs-push R [] y h k = (tt, tt)
   pairs-push R (x ∷ xs) y h k = (each-push (R x) xs y h.0 k.0, pairs-push R xs y h.1 k.1)

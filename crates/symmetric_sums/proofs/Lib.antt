@@ -4,6 +4,5 @@ pub mod Weights
 pub mod Joining
 pub mod SpelledTerms
 pub mod Forms
-pub mod SymmetryInstances
 pub mod Decisions
 pub mod FormTrees

@@ -1,20 +1,21 @@
 -- Arities of lists of terms.
-use Rattle.std.proofs.Common.{◌≡◌, ◌≢◌, ℕ, suc, ◌+◌, ◌*◌, ◌-◌, ◌%◌, ◌<◌, ◌≤◌, List, [], ◌∷◌, ◌++◌, length, map, get_or, Some, None, Option, refl, sym, ap, ◌∙◌, subst, arith, ⊎_elim, length-append}
+use Rattle.std.proofs.Common.{◌≡◌, ◌≢◌, ℕ, suc, ◌+◌, ◌*◌, ◌-◌, ◌%◌, ◌<◌, List, [], ◌∷◌, ◌++◌, length, map, get_or, Some, None, Option, refl, sym, ap, ◌∙◌, subst, arith, ⊎_elim, length-append}
 use Rattle.std.specs.List.{All}
 use Rattle.std.proofs.Math.Nat.{mod-eq_of_lt}
 use Rattle.std.proofs.lemmas.Nat.{mod_below}
 use Rattle.std.proofs.lemmas.List.{length-map, get_or_append_left, get_or-append-add}
 use Rattle.std.proofs.lemmas.List.Elements.{All-append, All-push, All-map}
 use Rattle.labelled_trees.specs.Trees.{Tree}
+use Rattle.labelled_trees.specs.Labelled.{IsNumbered}
 use Rattle.labelled_trees.specs.Labelled as labelled
+use Rattle.labelled_trees.proofs.Numbered.{one_number, numbered_of_labelled}
 use Rattle.labelled_trees.specs.Meaning.{tree_of}
-use Rattle.labelled_trees.specs.Leaves.{occurs}
 use Rattle.labelled_trees.specs.declared.Tree.TheVariants.{Leaf}
 use Rattle.operad_ideals.proofs.SortedLists.{tested}
 use Rattle.prime_field.specs.Primes.{IsFieldPrime}
 use Rattle.prime_field.specs.Laws.{FieldLaw}
 use Rattle.prime_field.proofs.Laws.{fields}
-use Rattle.symmetric_sums.specs.Terms.{IsNumbered, HaveArity, ArityIs, IsSum, HaveOneArity, HaveResidues, negated}
+use Rattle.symmetric_sums.specs.Terms.{HaveArity, ArityIs, IsSum, HaveOneArity, HaveResidues, negated}
 use Rattle.labelled_trees.specs.declared.Tree as program
 use Rattle.symmetric_sums.specs.Calls.{Joins}
 use Rattle.symmetric_sums.specs.declared.term.Term.{Term}
@@ -24,24 +25,6 @@ all-left P xs ys h k d l = subst P (get_or_append_left xs ys d k l) (h k d (omeg
 
 pub all-right : {X : Type 0} (P : X → Type 0) (xs ys : List X) → All P (xs ++ ys) → All P ys
 all-right P xs ys h k d l = subst P (get_or-append-add xs ys k d) (h (length xs + k) d (omega (arith, length-append xs ys, l)))
-
-not_fewer : (m n : ℕ) (t : Tree ℕ) → IsNumbered m t → IsNumbered n t → m < n → ⊥
-not_fewer m n t a b l =
-    let one : occurs (suc m) t ≡ 1 = b.each (suc m) (omega arith) (omega (arith, l)) in
-    let low : suc m ≤ m = (a.only (suc m) (omega (arith, one))).1 in omega (arith, low)
-
--- a tree has one arity
-pub one_number : (m n : ℕ) (t : Tree ℕ) → IsNumbered m t → IsNumbered n t → m ≡ n
-one_number m n t a b = ⊎_elim
-    (λ l. absurd (not_fewer m n t a b l))
-    (λ l. ⊎_elim (λ k. absurd (not_fewer n m t b a k)) (λ k. omega (arith, l, k)) (tested n m))
-    (tested m n)
-
-pub numbering : (arity : ℕ → ℕ) (n : ℕ) (t : Tree ℕ) → labelled.IsLabelled arity n t → IsNumbered n t
-numbering arity n t h = record { each = h.each; only = h.only }
-
-pub labelling : (arity : ℕ → ℕ) (n : ℕ) (t : Tree ℕ) → labelled.Fits arity t → IsNumbered n t → labelled.IsLabelled arity n t
-labelling arity n t f h = record { fits = f; each = h.each; only = h.only }
 
 some_term : Term
 some_term = record { coef = 0; tree = Leaf 0 }
@@ -170,5 +153,5 @@ pub joins-refused : (arity : ℕ → ℕ) (terms : List Term) (tree : program.Tr
     → 0 < coef → Joins coef tree terms → ⊥
 joins-refused arity terms tree coef own theirs h a ne positive joins =
     let j = joins positive in
-    let mine : own ≡ j.0 = one_number own j.0 (tree_of tree) (numbering arity own (tree_of tree) h) j.1 in
+    let mine : own ≡ j.0 = one_number own j.0 (tree_of tree) (numbered_of_labelled h) j.1 in
     ne (one_arity terms theirs j.0 a j.2 ∙ sym mine)

@@ -11,11 +11,10 @@ use Rattle.modular_sums.proofs.Residues.{alike_add, alike_cancel, alike_drop}
 use Rattle.labelled_trees.specs.Trees.{Tree}
 use Rattle.labelled_trees.specs.Equality.{tree_discrete}
 use Rattle.labelled_trees.specs.Meaning.{tree_of}
-use Rattle.operad_ideals.specs.Parts.{plus, minus}
 use Rattle.operad_ideals.specs.Parts as math
-use Rattle.operad_ideals.specs.Laws.{arity}
 use Rattle.operad_ideals.specs.Spelling.{IsSorted}
 use Rattle.operad_ideals.specs.Sorting.{spelled, spelled_sign}
+use Rattle.operad_ideals.specs.SpelledSums.{spelled_sum}
 use Rattle.operad_ideals.specs.Presentations.{residue_of}
 use Rattle.operad_ideals.proofs.Spellings.{one_spelling}
 use Rattle.operad_ideals.proofs.Agreement.{agreement_keeps_labels}
@@ -28,11 +27,13 @@ use Rattle.symmetric_trees.specs.declared.spelling.Sign.{Sign}
 use Rattle.symmetric_trees.specs.declared.spelling.Sign.TheVariants.{Plus, Minus}
 use Rattle.std.specs.declared.cmp.Ordering.TheVariants.{Less}
 use Rattle.symmetric_sums.specs.Terms.{terms_of, HaveArity, IsSum}
-use Rattle.symmetric_sums.specs.Collected.{spelled_sum, IsCollected}
+use Rattle.symmetric_sums.specs.Collected.{IsCollected}
 use Rattle.symmetric_sums.specs.Collecting.{Pairs, Before, IsResidue, IsSpellingOf, AreSpellings, AreJoined}
 use Rattle.symmetric_sums.specs.declared.term.Term.{Term}
-use Rattle.symmetric_sums.proofs.Numberings.{numbering, labelling, arity_is}
-use Rattle.symmetric_sums.proofs.LastOnes.{each-imp, AllPairs-from_pairs}
+use Rattle.symmetric_sums.proofs.Numberings.{arity_is}
+use Rattle.labelled_trees.proofs.Numbered.{numbered_of_labelled, labelled_of_numbered}
+use Rattle.operad_ideals.proofs.SortedLists.{every_weaker}
+use Rattle.symmetric_sums.proofs.LastOnes.{AllPairs-from_pairs}
 use Rattle.symmetric_sums.proofs.Weights.{weight, share, weight-permutation, alike_hit}
 
 -- a residue times a sign
@@ -74,10 +75,12 @@ module _ (p : ℕ) (generators : List Generator) where
   spellings-weight [] (u ∷ us) h t = absurd h
   spellings-weight (s ∷ ts) [] h t = absurd h
   spellings-weight (s ∷ ts) (u ∷ us) h t =
-      alike_add (p - 1) (share u t) (hit (tree_discrete (spelled (parts_at generators) (tree_of s.tree)) t) (residue_of (p - 1) (spelled_sign (parts_at generators) (tree_of s.tree)) * s.coef))
+      let signed = residue_of (p - 1) (spelled_sign (parts_at generators) (tree_of s.tree)) in
+      let turned : signed * s.coef ≡ s.coef * signed = omega arith in
+      alike_add (p - 1) (share u t) (hit (tree_discrete (spelled (parts_at generators) (tree_of s.tree)) t) (s.coef * signed))
       (weight us t) (coef tree_discrete (spelled_sum (p - 1) (parts_at generators) (terms_of ts)) t)
       (ap (λ v. hit (tree_discrete v t) u.coef % suc (p - 1)) h.0.tree
-      ∙ alike_hit (p - 1) (tree_discrete (spelled (parts_at generators) (tree_of s.tree)) t) u.coef (residue_of (p - 1) (spelled_sign (parts_at generators) (tree_of s.tree)) * s.coef) h.0.coef)
+      ∙ alike_hit (p - 1) (tree_discrete (spelled (parts_at generators) (tree_of s.tree)) t) u.coef (s.coef * signed) (h.0.coef ∙ ap (λ m. m % suc (p - 1)) turned))
       (spellings-weight ts us h.1 t)
 
   -- the spelling of a labelled tree is sorted, and labelled by the same numbers
@@ -119,14 +122,14 @@ pairs-terms (x ∷ xs) h = (one xs h.0, pairs-terms xs h.1)
 module _ (p n : ℕ) (generators : List Generator) (ts us vs ws : List Term) (spellings : AreSpellings p generators ts us) (perm : IsPermutation us vs) (joined : AreJoined p vs ws)
     (fit : AllByRecursion (λ x. IsLabelled generators n (tree_of x.tree)) ts) where
   pub collected-good : AllByRecursion (λ x. IsGood p generators n (tree_of x.tree)) ws
-  collected-good = each-imp (λ x. Mem (tree_of x.tree) (map (λ y. tree_of y.tree) vs)) (λ x. IsGood p generators n (tree_of x.tree)) ws
+  collected-good = every_weaker (λ x. Mem (tree_of x.tree) (map (λ y. tree_of y.tree) vs)) (λ x. IsGood p generators n (tree_of x.tree)) ws
       (λ x m. found_one (IsGood p generators n) vs (tree_of x.tree) (sorted-good p generators n ts us vs spellings perm fit) m) joined.trees
 
   pub collected-form : IsCollected p (parts_at generators) (terms_of ts) (terms_of ws)
   collected-form = record {
     reduced = record {
       sorted = All-map (λ x. IsSorted (parts_at generators) x.1) (λ (x : Term). (x.coef, tree_of x.tree)) ws
-          (All-from_recursion (λ x. IsSorted (parts_at generators) (tree_of x.tree)) ws (each-imp (λ x. IsGood p generators n (tree_of x.tree)) (λ x. IsSorted (parts_at generators) (tree_of x.tree)) ws (λ x g. g.0) collected-good));
+          (All-from_recursion (λ x. IsSorted (parts_at generators) (tree_of x.tree)) ws (every_weaker (λ x. IsGood p generators n (tree_of x.tree)) (λ x. IsSorted (parts_at generators) (tree_of x.tree)) ws (λ x g. g.0) collected-good));
       ascending = AllPairs-from_pairs (λ x y. order x.1 y.1 ≡ Less) (terms_of ws) (pairs-terms ws joined.ascending);
       residues = All-map (λ x. (0 < x.0) × (x.0 < p)) (λ (x : Term). (x.coef, tree_of x.tree)) ws (All-from_recursion (IsResidue p) ws joined.residues);
     };
@@ -159,15 +162,15 @@ pub form-made : (p n : ℕ) (generators : List Generator) (ts us mid new ws sum 
 form-made p n generators ts us mid new ws sum len e f spellings same perm fit have joined =
     let mine : AreSpellings p generators sum us = subst (λ xs. AreSpellings p generators xs us) same spellings in
     let labelled_all : AllByRecursion (λ x. IsLabelled generators n (tree_of x.tree)) sum =
-    recursion_from_All (λ x. IsLabelled generators n (tree_of x.tree)) sum (λ k d l. labelling (arity (parts_at generators)) n (tree_of (get_or sum k d).tree) (fit k d l) (have k d l)) in
+    recursion_from_All (λ x. IsLabelled generators n (tree_of x.tree)) sum (λ k d l. labelled_of_numbered (fit k d l) (have k d l)) in
     let vs = take len (new ++ drop (length new) us) in
     let moved = written-permutation us mid new len e f perm in
     record {
       collected = collected-form p n generators sum us vs ws mine moved joined labelled_all;
       labelled = All-from_recursion (λ x. IsLabelled generators n (tree_of x.tree)) ws
-          (each-imp (λ x. IsGood p generators n (tree_of x.tree)) (λ x. IsLabelled generators n (tree_of x.tree)) ws (λ x g. g.1) (collected-good p n generators sum us vs ws mine moved joined labelled_all));
-      nonzero = All-from_recursion (λ (x : Term). 0 < x.coef) ws (each-imp (IsResidue p) (λ (x : Term). 0 < x.coef) ws (λ x r. r.0) joined.residues);
-      residues = All-from_recursion (λ (x : Term). x.coef < p) ws (each-imp (IsResidue p) (λ (x : Term). x.coef < p) ws (λ x r. r.1) joined.residues);
+          (every_weaker (λ x. IsGood p generators n (tree_of x.tree)) (λ x. IsLabelled generators n (tree_of x.tree)) ws (λ x g. g.1) (collected-good p n generators sum us vs ws mine moved joined labelled_all));
+      nonzero = All-from_recursion (λ (x : Term). 0 < x.coef) ws (every_weaker (IsResidue p) (λ (x : Term). 0 < x.coef) ws (λ x r. r.0) joined.residues);
+      residues = All-from_recursion (λ (x : Term). x.coef < p) ws (every_weaker (IsResidue p) (λ (x : Term). x.coef < p) ws (λ x r. r.1) joined.residues);
     }
 
 some_terms : (xs : List Term) → (xs ≡ [] → ⊥) → 0 < length xs
@@ -178,7 +181,7 @@ some_terms (x ∷ xs) h = omega arith
 pub form-sum : (p n : ℕ) (generators : List Generator) (sum ws : List Term) → IsForm p n generators sum ws → (ws ≡ [] → ⊥) → IsSum ws (Some n)
 form-sum p n generators sum ws form some = record {
   nonzero = form.nonzero;
-  arity_is = arity_is ws n (some_terms ws some) (λ k d l. numbering (arity (parts_at generators)) n (tree_of (get_or ws k d).tree) (form.labelled k d l));
+  arity_is = arity_is ws n (some_terms ws some) (λ k d l. numbered_of_labelled (form.labelled k d l));
 }
 
 pub taken : (ts : List Term) (i : ℕ) (x : Term) → i < length ts → x ≡ get_or ts i x → take (i + 1) ts ≡ take i ts ++ x ∷ []

@@ -1,8 +1,9 @@
 -- The answers of the calls on sums, each with its cause.
 use Rattle.std.specs.Prelude.{ℕ, ◌≡◌, ◌<◌, ◌==◌, List, [], ◌∷◌, ◌++◌, Result, Ok, Err, if◌then◌else◌}
+use Rattle.labelled_trees.specs.Labelled.{IsNumbered}
 use Rattle.labelled_trees.specs.Meaning.{tree_of}
 use Rattle.labelled_trees.specs.declared.Tree as program
-use Rattle.symmetric_sums.specs.Terms.{IsNumbered, HaveArity, HaveOneArity, negated}
+use Rattle.symmetric_sums.specs.Terms.{HaveArity, HaveOneArity, negated}
 use Rattle.symmetric_sums.specs.declared.term.Term.{Term}
 use Rattle.symmetric_sums.specs.declared.sum.SumFail.{SumFail}
 use Rattle.symmetric_sums.specs.declared.sum.SumFail.TheVariants.{ArityDiffers, NoMemory}

@@ -1,5 +1,5 @@
 -- The collected form of a sum.
-use Rattle.std.specs.Prelude.{ℕ, ◌≡◌, ◌+◌, ◌*◌, ◌-◌, ◌<◌, ◌↔◌, List, [], ◌∷◌, ◌++◌}
+use Rattle.std.specs.Prelude.{ℕ, ◌≡◌, ◌+◌, ◌-◌, ◌<◌, ◌↔◌, List, ◌++◌}
 use Rattle.std.specs.List.{All, AllPairs}
 use Rattle.std.specs.declared.cmp.Ordering.TheVariants.{Less}
 use Rattle.modular_sums.specs.Sums.{scale, Same, AllTerms}
@@ -8,15 +8,10 @@ use Rattle.labelled_trees.specs.Equality.{tree_discrete}
 use Rattle.labelled_trees.specs.Labelled.{IsLabelled}
 use Rattle.operad_ideals.specs.Parts.{Part}
 use Rattle.operad_ideals.specs.Spelling.{IsSorted}
-use Rattle.operad_ideals.specs.Sorting.{spelled, spelled_sign}
-use Rattle.operad_ideals.specs.Presentations.{Presentation, residue_of, parts, arity_of, without_relations}
+use Rattle.operad_ideals.specs.Presentations.{Presentation, parts, arity_of, without_relations}
+use Rattle.operad_ideals.specs.SpelledSums.{spelled_sum}
 use Rattle.operad_ideals.specs.Ideals.{InIdeal}
 use Rattle.symmetric_trees.specs.SpellingOrder.{order}
-
--- each tree replaced by its sorted spelling, and each number multiplied by what stands for the sign modulo suc q
-abbrev pub spelled_sum : ℕ → (ℕ → List Part) → List (ℕ × Tree ℕ) → List (ℕ × Tree ℕ)
-spelled_sum q parts [] = []
-spelled_sum q parts (x ∷ e) = (residue_of q (spelled_sign parts x.1) * x.0, spelled parts x.1) ∷ spelled_sum q parts e
 
 -- A list of terms is reduced: each tree is sorted, the trees stand in the spelling order, each once, and each number is a
 -- residue modulo p other than 0.

@@ -1,19 +1,14 @@
 -- What lists of terms mean.
-use Rattle.std.specs.Prelude.{ℕ, ◌≡◌, ◌*◌, ◌-◌, ◌%◌, ◌<◌, ◌≤◌, ◌==◌, List, [], length, map, Option, Some, None, if◌then◌else◌}
+use Rattle.std.specs.Prelude.{ℕ, ◌≡◌, ◌*◌, ◌-◌, ◌%◌, ◌<◌, ◌==◌, List, [], length, map, Option, Some, None, if◌then◌else◌}
 use Rattle.std.specs.List.{All}
 use Rattle.labelled_trees.specs.Trees.{Tree}
-use Rattle.labelled_trees.specs.Leaves.{occurs}
+use Rattle.labelled_trees.specs.Labelled.{IsNumbered}
 use Rattle.labelled_trees.specs.Meaning.{tree_of}
 use Rattle.symmetric_sums.specs.declared.term.Term.{Term}
 
 -- each term as a pair of a number and a tree
 abbrev pub terms_of : List Term → List (ℕ × Tree ℕ)
 terms_of = map (λ term. (term.coef, tree_of term.tree))
-
--- each number from 1 to n stands at one leaf, and no other number at a leaf
-pub record IsNumbered (n : ℕ) (t : Tree ℕ) : Type 0 where
-  pub each : (i : ℕ) → 0 < i → i ≤ n → occurs i t ≡ 1
-  pub only : (i : ℕ) → 0 < occurs i t → (0 < i) × (i ≤ n)
 
 -- all trees are numbered by 1 to n
 abbrev pub HaveArity : ℕ → List Term → Type 0

@@ -26,7 +26,7 @@ table-push generators generator table welcome = record {
   sizes = All-push SizesFit generators generator table.sizes welcome.sizes;
 }
 
-below_or_at : (k i : ℕ) → k < i + 1 → (k < i) ⊎ (i ≡ k)
+pub below_or_at : (k i : ℕ) → k < i + 1 → (k < i) ⊎ (i ≡ k)
 below_or_at k i l = grind arith
 
 -- no generator so far has the name

@@ -3,24 +3,18 @@ use Rattle.std.proofs.Common.{◌≡◌, ℕ, ◌<◌, ◌≤◌, List, length, 
 use Rattle.std.specs.declared.cmp.Ordering.{Ordering}
 use Rattle.std.specs.declared.cmp.Ordering.TheVariants.{Less, Equal, Greater}
 use Rattle.std.specs.Ordering.{nat_cmp, ordering_then, ordering_reverse}
-use Rattle.std.specs.Cmp.{IsTotalOrder, nat_cmp_total, ranked, nat_cmp_is}
+use Rattle.std.specs.Cmp.{IsTotalOrder, nat_cmp_total, nat_cmp_is}
 use Rattle.labelled_trees.specs.Trees.{Tree, Row, leaf, node, none, more, row}
 use Rattle.labelled_trees.specs.Meaning.{tree_of}
 use Rattle.labelled_trees.specs.declared.Tree as program
 use Rattle.labelled_trees.specs.declared.Tree.TheVariants.{Leaf, Node}
+use Rattle.std.proofs.lemmas.Map.Lookups.{exact_unsigned}
+use Rattle.labelled_trees.proofs.Orderings.{then_equal}
 use Rattle.labelled_trees.proofs.ProgramTrees.{tree_of-node}
 use Rattle.symmetric_trees.specs.SpellingOrder.{order, order_row, OrderIsTotal}
 
-nat_cmp-equal : (m n : ℕ) → nat_cmp m n ≡ Equal → m ≡ n
-nat_cmp-equal m n e = ranked m n Equal (sym e)
-
 nat_cmp-self : (m : ℕ) → nat_cmp m m ≡ Equal
 nat_cmp-self m = sym (nat_cmp_is m m Equal refl)
-
-then-equal : (a b : Ordering) → ordering_then a b ≡ Equal → (a ≡ Equal) × (b ≡ Equal)
-then-equal Less b e = absurd cc
-then-equal Equal b e = (refl, e)
-then-equal Greater b e = absurd cc
 
 then-turned : (a b c d : Ordering) → a ≡ ordering_reverse c → b ≡ ordering_reverse d → ordering_then a b ≡ ordering_reverse (ordering_then c d)
 then-turned a b Less d e f = ap (λ x. ordering_then x b) e
@@ -40,17 +34,17 @@ then-less Greater b c x y z ll el le others e f = absurd cc
 
 mutual
   order-equal : (t u : Tree ℕ) → order t u ≡ Equal → t ≡ u
-  order-equal (leaf m) (leaf n) e = ap leaf (nat_cmp-equal m n e)
+  order-equal (leaf m) (leaf n) e = ap leaf (exact_unsigned m n e)
   order-equal (leaf m) (node h s) e = absurd cc
   order-equal (node g r) (leaf n) e = absurd cc
-  order-equal (node g r) (node h s) e = let k : (nat_cmp g h ≡ Equal) × (order_row r s ≡ Equal) = then-equal (nat_cmp g h) (order_row r s) e in
-      ap₂ node (nat_cmp-equal g h k.0) (order_row-equal r s k.1)
+  order-equal (node g r) (node h s) e = let k : (nat_cmp g h ≡ Equal) × (order_row r s ≡ Equal) = then_equal (nat_cmp g h) (order_row r s) e in
+      ap₂ node (exact_unsigned g h k.0) (order_row-equal r s k.1)
 
   order_row-equal : (r s : Row ℕ) → order_row r s ≡ Equal → r ≡ s
   order_row-equal none none e = refl
   order_row-equal none (more u s) e = absurd cc
   order_row-equal (more t r) none e = absurd cc
-  order_row-equal (more t r) (more u s) e = let k : (order t u ≡ Equal) × (order_row r s ≡ Equal) = then-equal (order t u) (order_row r s) e in
+  order_row-equal (more t r) (more u s) e = let k : (order t u ≡ Equal) × (order_row r s ≡ Equal) = then_equal (order t u) (order_row r s) e in
       ap₂ more (order-equal t u k.0) (order_row-equal r s k.1)
 
 mutual
@@ -84,7 +78,7 @@ mutual
   order-less (node g r) (leaf n) v e f = absurd cc
   order-less (node g r) (node h s) (leaf o) e f = absurd cc
   order-less (node g r) (node h s) (node k q) e f = then-less (nat_cmp g h) (nat_cmp h k) (nat_cmp g k) (order_row r s) (order_row s q) (order_row r q)
-      (nat_cmp_total.trans g h k) (λ a. ap (λ i. nat_cmp i k) (nat_cmp-equal g h a)) (λ a. ap (nat_cmp g) (sym (nat_cmp-equal h k a))) (order_row-less r s q) e f
+      (nat_cmp_total.trans g h k) (λ a. ap (λ i. nat_cmp i k) (exact_unsigned g h a)) (λ a. ap (nat_cmp g) (sym (exact_unsigned h k a))) (order_row-less r s q) e f
 
   order_row-less : (r s q : Row ℕ) → order_row r s ≡ Less → order_row s q ≡ Less → order_row r q ≡ Less
   order_row-less none none q e f = absurd cc

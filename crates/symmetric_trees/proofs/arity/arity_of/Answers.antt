@@ -1,4 +1,4 @@
-use Rattle.std.proofs.Common.{◌≡◌, ℕ, ◌+◌, ◌<◌, ◌≤◌, ◌⊎◌, ⊎_elim, List, get_or, replicate, arith, subst, refl, min}
+use Rattle.std.proofs.Common.{◌≡◌, ℕ, ◌+◌, ◌<◌, ◌≤◌, ⊎_elim, List, get_or, replicate, arith, subst, refl, min}
 use Rattle.std.proofs.lemmas.List.{get_or-replicate}
 use Rattle.labelled_trees.specs.Meaning.{tree_of}
 use Rattle.labelled_trees.specs.Leaves.{occurs, leaf_count}
@@ -9,6 +9,7 @@ use Rattle.operad_ideals.specs.Laws.{arity}
 use Rattle.symmetric_trees.specs.Generators.{parts_at}
 use Rattle.symmetric_trees.specs.Trees.{Fits, IsLabelled}
 use Rattle.symmetric_trees.specs.declared.generators.Generator.{Generator}
+use Rattle.symmetric_trees.proofs.Tables.{below_or_at}
 use Rattle.symmetric_trees.proofs.arity.arity_of.Goals as goal
 
 pub returns-then-counts-gt255-clause-none : goal.returns-then-counts-gt255-clause-none
@@ -18,9 +19,6 @@ returns-then-counts-gt255-clause-none c n h =
     let one = h.each 256 (omega arith) (omega (arith, many)) in
     let low : 256 < 256 = at_leaf (tree_of c.args.tree.now) (λ i. i < 256) 256 c.add.ensures.small (omega (arith, one)) in
     omega (arith, low)
-
-below_or_at : (i label : ℕ) → i < label + 1 → (i < label) ⊎ (label ≡ i)
-below_or_at i label l = grind arith
 
 -- the count at a label, which isn't at its last value
 count_at : (times : List ℕ) (k : ℕ) (t : Tree ℕ) → k < 256 → min (get_or times k 0) 255 ≡ min (get_or (replicate 256 0) k 0 + occurs k t) 255 → min (get_or times k 0) 255 ≡ min (occurs k t) 255

@@ -1,9 +1,9 @@
 use Rattle.std.proofs.Common.{refl, sym, subst, arith, ◌<◌}
-use Rattle.labelled_trees.specs.Meaning.{tree_of}
 use Rattle.operad_ideals.specs.Laws.{arity}
 use Rattle.symmetric_trees.specs.Generators.{parts_at}
 use Rattle.symmetric_sums.specs.Terms.{HaveArity}
-use Rattle.symmetric_sums.proofs.Numberings.{joins-refused, sum-push, numbering, same_arity, any_arity}
+use Rattle.labelled_trees.proofs.Numbered.{numbered_of_labelled}
+use Rattle.symmetric_sums.proofs.Numberings.{joins-refused, sum-push, same_arity, any_arity}
 use Rattle.symmetric_sums.proofs.sum.Sum.add_term.Goals as goal
 use Rattle.symmetric_sums.proofs.sum.Sum.add_term.Goals.{in-Some-arity+else-theirs-arity, in_default-arity}
 
@@ -28,4 +28,4 @@ invariant_of-self c =
       | in_default-arity w ↦ any_arity c.args.self.now c.arity.result c.in-Some.arity c.arity.ensures.arity w.in_default-arity.is
     ] in
     sum-push c.self.inside.terms c.push.new.self c.self.inside.arity _ c.in-Some.arity c.self.invariant positive
-    (numbering (arity (parts_at c.args.table.now)) c.in-Some.arity (tree_of c.args.tree) c.in-Some.ensures.labelled) (subst (HaveArity c.in-Some.arity) (sym c.self.view_is) have) c.in-Ok.ensures.ok
+    (numbered_of_labelled c.in-Some.ensures.labelled) (subst (HaveArity c.in-Some.arity) (sym c.self.view_is) have) c.in-Ok.ensures.ok

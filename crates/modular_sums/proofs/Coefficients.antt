@@ -1,14 +1,7 @@
 -- Coefficients of sums in which a monomial doesn't stand, or stands first.
 use Rattle.std.proofs.Common.{◌≡◌, ℕ, ◌+◌, ◌*◌, List, [], ◌∷◌, refl, arith}
 use Rattle.modular_sums.specs.Sums.{hit, coef, AllTerms}
-
-hit_not : {A : Type 0} (d : Dec A) (c : ℕ) → (A → ⊥) → hit d c ≡ 0
-hit_not (yes a) c f = absurd (f a)
-hit_not (no _) c f = refl
-
-hit_so : {A : Type 0} (d : Dec A) (c : ℕ) → A → hit d c ≡ c
-hit_so (yes _) c a = refl
-hit_so (no f) c a = absurd (f a)
+use Rattle.modular_sums.proofs.Sums.{hit-yes, hit-no}
 
 hit_times : {A : Type 0} (d : Dec A) (c : ℕ) → hit d c + 0 ≡ c * (hit d 1 + 0)
 hit_times (yes _) c = omega arith
@@ -22,11 +15,11 @@ module _ {M : Type 0} (dec : Discrete M) where
   pub coef_absent : (e : List (ℕ × M)) (t : M) → AllTerms e (λ x. x ≡ t → ⊥) → coef dec e t ≡ 0
   unfolding coef
   coef_absent [] t h = refl
-  coef_absent (x ∷ e) t h = rw (hit_not (dec x.1 t) x.0 h.0, coef_absent e t h.1) (omega arith)
+  coef_absent (x ∷ e) t h = rw (hit-no (dec x.1 t) x.0 h.0, coef_absent e t h.1) (omega arith)
 
   pub coef_first : (c : ℕ) (t : M) (e : List (ℕ × M)) → coef dec e t ≡ 0 → coef dec ((c, t) ∷ e) t ≡ c
   unfolding coef
-  coef_first c t e z = rw (hit_so (dec t t) c refl, z) (omega arith)
+  coef_first c t e z = rw (hit-yes (dec t t) c refl, z) (omega arith)
 
   pub coef_times : (c : ℕ) (t u : M) → coef dec ((c, t) ∷ []) u ≡ c * coef dec ((1, t) ∷ []) u
   unfolding coef

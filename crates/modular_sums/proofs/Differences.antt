@@ -1,11 +1,11 @@
 -- Sums that are the same, where e ++ scale q f stands for e minus f.
-use Rattle.std.proofs.Common.{◌≡◌, ℕ, suc, ◌+◌, ◌*◌, ◌%◌, List, [], ◌∷◌, refl, sym, ◌∙◌, ap, arith}
+use Rattle.std.proofs.Common.{◌≡◌, ℕ, suc, ◌+◌, ◌*◌, ◌%◌, List, [], ◌∷◌, sym, ◌∙◌, ap, arith}
 use mathlib.Core.List.{◌++◌}
 use Rattle.modular_sums.specs.Residues.{Alike}
 use Rattle.modular_sums.specs.Sums.{coef, scale, Same}
-use Rattle.modular_sums.proofs.Residues.{alike_add, alike_mul, alike_drop}
-use Rattle.modular_sums.proofs.Sums.{coef-append, coef-scale}
-use Rattle.shuffle_normal_forms.proofs.Coefficients.{coef_nothing, coef_times}
+use Rattle.modular_sums.proofs.Residues.{alike_drop, alike_of_gone, less_alike}
+use Rattle.modular_sums.proofs.Sums.{coef-append, coef-scale, Same-cancelled}
+use Rattle.modular_sums.proofs.Coefficients.{coef_nothing, coef_times}
 
 module _ (q : ℕ) where
   -- h - (- f) is (h + l) - (l - f)
@@ -20,10 +20,6 @@ module _ (q : ℕ) where
       let k : c * h + e + q * (c * f + g) ≡ c * (h + q * f) + (e + q * g) = omega arith in
       ap (λ n. n % suc q) k
 
-  -- e - e is 0
-  gone : (e : ℕ) → Alike q (e + q * e) 0
-  gone e = let k : 0 + (e + q * e) ≡ e + q * e = omega arith in rw k at (alike_drop q 0 e)
-
   -- f - g is - (d - f) + (d - e) + (e - g)
   forms_apart : (d e f g : ℕ) → Alike q (f + q * g) (q * (d + q * f) + (d + q * e) + (e + q * g))
   forms_apart d e f g =
@@ -31,22 +27,6 @@ module _ (q : ℕ) where
       let b : q * (q * f) + q * g + (f + q * f) ≡ f + q * g + (q * f + q * (q * f)) = omega arith in
       rw a (sym (alike_drop q (q * (q * f) + q * g + (d + q * d)) e ∙ alike_drop q (q * (q * f) + q * g) d
       ∙ sym (alike_drop q (q * (q * f) + q * g) f) ∙ ap (λ n. n % suc q) b ∙ alike_drop q (f + q * g) (q * f)))
-
-  -- d - e is (d - f) - (e - g) where f is g
-  sums_apart : (d e f g : ℕ) → Alike q f g → Alike q (d + q * e) (d + q * f + q * (e + q * g))
-  sums_apart d e f g h =
-      let a : d + q * f + q * (e + q * g) ≡ d + q * e + q * (q * g) + q * f = omega arith in
-      let b : d + q * e + q * (q * g) + q * g ≡ d + q * e + (q * g + q * (q * g)) = omega arith in
-      let c : Alike q (d + q * e + q * (q * g) + q * f) (d + q * e + q * (q * g) + q * g) = alike_add q _ _ (q * f) (q * g) refl (alike_mul q q q f g refl h) in
-      rw a (sym (c ∙ ap (λ n. n % suc q) b ∙ alike_drop q (d + q * e) (q * g)))
-
-  -- where f - g is 0, f is g
-  alike_of_zero : (f g : ℕ) → Alike q (f + q * g) 0 → Alike q f g
-  alike_of_zero f g h =
-      let k : Alike q (f + q * g + g) (0 + g) = alike_add q (f + q * g) 0 g g h refl in
-      let a : f + q * g + g ≡ f + (g + q * g) = omega arith in
-      let b : 0 + g ≡ g = omega arith in
-      sym (alike_drop q f g) ∙ (rw (a, b) at k)
 
 module _ {M : Type 0} (dec : Discrete M) (q : ℕ) where
   abbrev co : List (ℕ × M) → M → ℕ
@@ -84,7 +64,7 @@ module _ {M : Type 0} (dec : Discrete M) (q : ℕ) where
       (added q c (co ((1, x) ∷ []) t) (co e t) (co f t) (co g t))
 
   pub same_gone : (e : List (ℕ × M)) → Same dec q (e ++ scale q e) []
-  same_gone e t = rw (coef-append dec e (scale q e) t, coef-scale dec q e t, coef_nothing dec t) (gone q (co e t))
+  same_gone e t = rw (coef_nothing dec t) (Same-cancelled dec q e t)
 
   pub same_forms_apart : (d e f g : List (ℕ × M)) → Same dec q (f ++ scale q g) ((scale q (d ++ scale q f) ++ (d ++ scale q e)) ++ (e ++ scale q g))
   same_forms_apart d e f g t = rw (
@@ -113,8 +93,8 @@ module _ {M : Type 0} (dec : Discrete M) (q : ℕ) where
     coef-append dec e (scale q g) t,
     coef-scale dec q g t,
   )
-      (sums_apart q (co d t) (co e t) (co f t) (co g t) (h t))
+      (less_alike q (co d t) (co e t) (co f t) (co g t) (h t))
 
   pub same_of_zero : (f g : List (ℕ × M)) → Same dec q (f ++ scale q g) [] → Same dec q f g
-  same_of_zero f g z t = alike_of_zero q (co f t) (co g t)
+  same_of_zero f g z t = alike_of_gone q (co f t) (co g t)
       (ap (λ c. c % suc q) (sym (coef-append dec f (scale q g) t ∙ ap (λ c. co f t + c) (coef-scale dec q g t))) ∙ z t ∙ ap (λ c. c % suc q) (coef_nothing dec t))
