@@ -1,19 +1,17 @@
 -- Reading a term of an element: what stands at a place, and that it is the only term that may be read there.
-use Rattle.std.proofs.Common.{◌≡◌, ◌≢◌, ℕ, zero, suc, ◌+◌, ◌<◌, ◌≤◌, Bool, true, false, List, [], ◌∷◌, ◌++◌, length, drop, slice_get, Option, Some, None, refl, ap, sym, ◌∙◌, subst, arith, append_assoc}
+use Rattle.std.proofs.Common.{◌≡◌, ◌≢◌, ℕ, ◌+◌, ◌<◌, ◌≤◌, Bool, true, false, List, [], ◌∷◌, ◌++◌, length, drop, slice_get, Option, Some, None, refl, ap, sym, ◌∙◌, subst, arith}
 use Rattle.std.specs.Prelude.{if◌then◌else◌}
-use Rattle.std.proofs.lemmas.Option.{slice_get_within}
 use Rattle.labelled_trees.specs.Trees.{Tree, leaf, node}
 use Rattle.labelled_trees.specs.Meaning.{tree_of}
-use Rattle.labelled_trees.specs.declared.Tree as program
 use Rattle.labelled_trees.proofs.Leaves.{by_leaf}
 use Rattle.symmetric_trees.specs.declared.generators.Generator.{Generator}
 use Rattle.symmetric_trees.specs.Generators.{IsTable}
 use Rattle.symmetric_trees.specs.Trees.{IsLabelled}
 use Rattle.symmetric_sums.proofs.Numberings.{one_number, numbering}
 use Rattle.presentation_text.specs.declared.lexing.Token.{Token}
-use Rattle.presentation_text.specs.declared.lexing.Token.TheVariants.{Word, Number, Byte}
+use Rattle.presentation_text.specs.declared.lexing.Token.TheVariants.{Number, Byte}
 use Rattle.presentation_text.specs.declared.elements.TermRead.{TermRead}
-use Rattle.presentation_text.specs.TreeText.{tree_tokens, name_of, IsReadableWithin, StandsAt, ReadsWithin}
+use Rattle.presentation_text.specs.TreeText.{tree_tokens, IsReadableWithin, StandsAt, ReadsWithin}
 use Rattle.presentation_text.specs.Elements.{Written, coefficient_tokens, term_tokens, mark, IsElementTree}
 use Rattle.presentation_text.specs.ElementSteps.{CoefficientStands, IsCoefficientAt, behind, NoStar, Unsigned, First, Further, written, TermStands, ReadsTerm}
 use Rattle.presentation_text.proofs.TreeTokens.{arity_in, read_once}

@@ -1,6 +1,6 @@
 use Rattle.std.proofs.Common.{◌≡◌, Some, None, refl, ap, sym, subst, ◌∙◌}
 use Rattle.labelled_trees.specs.Meaning.{tree_of}
-use Rattle.presentation_text.specs.TreeText.{StandsAt, ReadsWithin, IsReadableWithin}
+use Rattle.presentation_text.specs.TreeText.{StandsAt, ReadsWithin}
 use Rattle.presentation_text.specs.ElementSteps as steps
 use Rattle.presentation_text.proofs.ElementTerms.{term-absent, term-unlabelled, term-wide, term-stands}
 use Rattle.presentation_text.proofs.elements.read_term.Goals as goal
