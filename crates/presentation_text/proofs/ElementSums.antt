@@ -1,25 +1,23 @@
 -- The terms of an element, one behind the other, and the sum that they say.
-use Rattle.std.proofs.Common.{◌≡◌, ◌≢◌, ℕ, ◌+◌, ◌<◌, ◌≤◌, Bool, true, false, List, [], ◌∷◌, ◌++◌, length, drop, map, Option, Some, None, Result, Err, refl, ap, sym, ◌∙◌, subst, arith, append_assoc, append-nil, get_or, length-append, length-drop}
+use Rattle.std.proofs.Common.{◌≡◌, ◌≢◌, ℕ, ◌<◌, ◌≤◌, Bool, true, false, List, [], ◌∷◌, ◌++◌, length, drop, None, Err, refl, ap, sym, ◌∙◌, subst, arith, append_assoc, append-nil, length-drop}
 use Rattle.std.specs.Prelude.{if◌then◌else◌, ◌==◌}
 use Rattle.std.specs.List.{All}
-use Rattle.std.proofs.lemmas.List.Elements.{All-nil, All-cons, All-head, All-tail, All-append, All-push, All-weaker}
+use Rattle.std.proofs.lemmas.List.Elements.{All-nil, All-head, All-push, All-weaker}
 use Rattle.labelled_trees.specs.Trees.{Tree}
 use Rattle.labelled_trees.specs.Meaning.{tree_of}
 use Rattle.labelled_trees.specs.declared.Tree as program
 use Rattle.symmetric_trees.specs.declared.generators.Generator.{Generator}
 use Rattle.symmetric_trees.specs.Trees.{Fits, IsLabelled}
-use Rattle.symmetric_sums.specs.Terms.{IsNumbered, HaveResidues, terms_of}
+use Rattle.symmetric_sums.specs.Terms.{IsNumbered}
 use Rattle.symmetric_sums.specs.Calls.{with_term, Joins, Added}
 use Rattle.symmetric_sums.specs.declared.term.Term.{Term}
 use Rattle.symmetric_sums.specs.declared.sum.SumFail.{SumFail}
 use Rattle.symmetric_sums.specs.declared.sum.SumFail.TheVariants.{ArityDiffers}
 use Rattle.symmetric_sums.proofs.Numberings.{numbering, all-right}
 use Rattle.presentation_text.specs.declared.lexing.Token.{Token}
-use Rattle.presentation_text.specs.declared.lexing.Token.TheVariants.{Number, Byte}
 use Rattle.presentation_text.specs.declared.elements.TermRead.{TermRead}
-use Rattle.presentation_text.specs.declared.elements.ElementRead.{ElementRead}
-use Rattle.presentation_text.specs.Elements.{Written, term_tokens, mark, further_tokens, element_tokens, IsElementTree, HaveArity, IsElement, residue, said, ReadsElement}
-use Rattle.presentation_text.specs.ElementSteps.{NoStar, First, Further, written, TermStands, ReadsTerm, IsSumOver, HaveTrees, IsReadBehind, ReadsFurther}
+use Rattle.presentation_text.specs.Elements.{Written, term_tokens, mark, further_tokens, IsElementTree, residue, said}
+use Rattle.presentation_text.specs.ElementSteps.{NoStar, Further, written, TermStands, ReadsTerm, IsSumOver, HaveTrees}
 use Rattle.presentation_text.proofs.TreeTokens.{arity_in}
 use Rattle.presentation_text.proofs.ElementTerms.{no_star, one_arity}
 

@@ -1,19 +1,17 @@
 -- Reading a term of an element: what stands at a place, and that it is the only term that may be read there.
-use Rattle.std.proofs.Common.{◌≡◌, ◌≢◌, ℕ, zero, suc, ◌+◌, ◌<◌, ◌≤◌, Bool, true, false, List, [], ◌∷◌, ◌++◌, length, drop, slice_get, Option, Some, None, refl, ap, sym, ◌∙◌, subst, arith, append_assoc}
+use Rattle.std.proofs.Common.{◌≡◌, ◌≢◌, ℕ, ◌+◌, ◌<◌, ◌≤◌, Bool, true, false, List, [], ◌∷◌, ◌++◌, length, drop, slice_get, Option, Some, None, refl, ap, sym, ◌∙◌, subst, arith}
 use Rattle.std.specs.Prelude.{if◌then◌else◌}
-use Rattle.std.proofs.lemmas.Option.{slice_get_within}
 use Rattle.labelled_trees.specs.Trees.{Tree, leaf, node}
 use Rattle.labelled_trees.specs.Meaning.{tree_of}
-use Rattle.labelled_trees.specs.declared.Tree as program
 use Rattle.labelled_trees.proofs.Leaves.{by_leaf}
 use Rattle.symmetric_trees.specs.declared.generators.Generator.{Generator}
 use Rattle.symmetric_trees.specs.Generators.{IsTable}
 use Rattle.symmetric_trees.specs.Trees.{IsLabelled}
 use Rattle.symmetric_sums.proofs.Numberings.{one_number, numbering}
 use Rattle.presentation_text.specs.declared.lexing.Token.{Token}
-use Rattle.presentation_text.specs.declared.lexing.Token.TheVariants.{Word, Number, Byte}
+use Rattle.presentation_text.specs.declared.lexing.Token.TheVariants.{Number, Byte}
 use Rattle.presentation_text.specs.declared.elements.TermRead.{TermRead}
-use Rattle.presentation_text.specs.TreeText.{tree_tokens, name_of, IsReadableWithin, StandsAt, ReadsWithin}
+use Rattle.presentation_text.specs.TreeText.{tree_tokens, IsReadableWithin, StandsAt, ReadsWithin}
 use Rattle.presentation_text.specs.Elements.{Written, coefficient_tokens, term_tokens, mark, IsElementTree}
 use Rattle.presentation_text.specs.ElementSteps.{CoefficientStands, IsCoefficientAt, behind, NoStar, Unsigned, First, Further, written, TermStands, ReadsTerm}
 use Rattle.presentation_text.proofs.TreeTokens.{arity_in, read_once}
@@ -82,31 +80,32 @@ behind_only generators tokens at (Some c) (Some d) t s h star e =
 
 -- ---- a term whose sign is known
 
-module _ (generators : List Generator) (table : IsTable generators) (tokens : List Token) (at : ℕ) (negative : Bool) (found : Option ℕ) (coefficient : IsCoefficientAt tokens at found) where
+module _ (generators : List Generator) (table : IsTable generators) (tokens : List Token) (at : ℕ) (negative : Bool) (found : Option ℕ) (coefficient : IsCoefficientAt tokens at found)
+    (begin : ℕ) (begin_is : begin ≡ behind found at) where
   -- no tree can be read
-  pub term-absent : ReadsWithin 8 generators tokens (behind found at) None → ReadsTerm (Unsigned negative generators (drop at tokens)) generators tokens at None
+  pub term-absent : ReadsWithin 8 generators tokens begin None → ReadsTerm (Unsigned negative generators (drop at tokens)) generators tokens at None
   term-absent absent term n others tree star spelled =
       let b : Behind generators tokens at found term.coefficient term.tree others = behind_only generators tokens at found term.coefficient term.tree others coefficient star spelled.1 in
-      absent term.tree (behind found at + length (tree_tokens generators term.tree)) (stands-from generators tokens (behind found at) term.tree others b.spelled) (readable generators n term.tree tree)
+      absent term.tree (begin + length (tree_tokens generators term.tree)) (stands-from generators tokens begin term.tree others (ap (λ k. drop k tokens) begin_is ∙ b.spelled)) (readable generators n term.tree tree)
 
   -- the tree that was read is that of any term
-  one_term : (t : Tree ℕ) (end : ℕ) → StandsAt generators tokens (behind found at) t end → IsReadableWithin 8 generators t
+  one_term : (t : Tree ℕ) (end : ℕ) → StandsAt generators tokens begin t end → IsReadableWithin 8 generators t
       → (term : Written) (n : ℕ) (others : List Token) → IsElementTree generators n term.tree → NoStar others → Unsigned negative generators (drop at tokens) term others
       → (term.coefficient ≡ found) × (term.tree ≡ t) × (others ≡ drop end tokens)
   one_term t end stands may term n others tree star spelled =
       let b : Behind generators tokens at found term.coefficient term.tree others = behind_only generators tokens at found term.coefficient term.tree others coefficient star spelled.1 in
-      let once = read_once generators table term.tree t others (drop end tokens) tree.labelled.fits may.fits (sym b.spelled ∙ stands.spelled) in
+      let once = read_once generators table term.tree t others (drop end tokens) tree.labelled.fits may.fits (sym b.spelled ∙ ap (λ k. drop k tokens) (sym begin_is) ∙ stands.spelled) in
       (b.same, once.0, once.1)
 
   -- the tree isn't labelled
-  pub term-unlabelled : (t : Tree ℕ) (end : ℕ) → StandsAt generators tokens (behind found at) t end → IsReadableWithin 8 generators t → ((n : ℕ) → IsLabelled generators n t → ⊥)
+  pub term-unlabelled : (t : Tree ℕ) (end : ℕ) → StandsAt generators tokens begin t end → IsReadableWithin 8 generators t → ((n : ℕ) → IsLabelled generators n t → ⊥)
       → ReadsTerm (Unsigned negative generators (drop at tokens)) generators tokens at None
   term-unlabelled t end stands may never term n others tree star spelled =
       let one = one_term t end stands may term n others tree star spelled in
       never n (subst (IsLabelled generators n) one.1 tree.labelled)
 
   -- the tree has too many leaves
-  pub term-wide : (t : Tree ℕ) (end arity : ℕ) → StandsAt generators tokens (behind found at) t end → IsReadableWithin 8 generators t → IsLabelled generators arity t → 9 < arity
+  pub term-wide : (t : Tree ℕ) (end arity : ℕ) → StandsAt generators tokens begin t end → IsReadableWithin 8 generators t → IsLabelled generators arity t → 9 < arity
       → ReadsTerm (Unsigned negative generators (drop at tokens)) generators tokens at None
   term-wide t end arity stands may labelled wide term n others tree star spelled =
       let one = one_term t end stands may term n others tree star spelled in
@@ -114,13 +113,13 @@ module _ (generators : List Generator) (table : IsTable generators) (tokens : Li
       let narrow = tree.narrow in absurd (omega arith)
 
   -- a term that is read
-  pub term-stands : (term : TermRead) → term.negative ≡ negative → term.coefficient ≡ found → StandsAt generators tokens (behind found at) (tree_of term.tree) term.end
+  pub term-stands : (term : TermRead) → term.negative ≡ negative → term.coefficient ≡ found → StandsAt generators tokens begin (tree_of term.tree) term.end
       → IsReadableWithin 8 generators (tree_of term.tree) → IsLabelled generators term.arity (tree_of term.tree) → term.arity ≤ 9 → TermStands (Unsigned negative generators (drop at tokens)) generators tokens at term
   term-stands term sign number stands may labelled narrow = record {
-    begins = at_least found stands.begins;
+    begins = at_least found (subst (λ k. k < term.end) begin_is stands.begins);
     within = stands.within;
     tree = record { labelled = labelled; narrow = narrow; shallow = may.shallow };
-    spelled = (sign, spelled_by found coefficient stands.spelled ∙ ap (λ c. (coefficient_tokens c ++ tree_tokens generators (tree_of term.tree)) ++ drop term.end tokens) (sym number));
+    spelled = (sign, spelled_by found coefficient (ap (λ k. drop k tokens) (sym begin_is) ∙ stands.spelled) ∙ ap (λ c. (coefficient_tokens c ++ tree_tokens generators (tree_of term.tree)) ++ drop term.end tokens) (sym number));
     only = λ other n others tree star spelled.
         let one = one_term (tree_of term.tree) term.end stands may other n others tree star spelled in
         (same_written other (written term) (spelled.0 ∙ sym sign) (one.0 ∙ sym number) one.1, one.2);

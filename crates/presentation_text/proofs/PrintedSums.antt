@@ -1,7 +1,6 @@
 -- The tokens of printed sums: what is printed is read back.
-use Rattle.std.proofs.Common.{◌≡◌, ℕ, ◌+◌, ◌-◌, ◌/◌, ◌%◌, ◌^◌, ◌<◌, ◌≤◌, Bool, true, false, List, [], ◌∷◌, ◌++◌, map, length, Option, Some, None, refl, ap, sym, ◌∙◌, subst, arith, append_assoc, append-nil, inl, inr}
-use Rattle.std.specs.Prelude.{if◌then◌else◌, ◌==◌, nat_lt}
-use Rattle.std.specs.List.{All}
+use Rattle.std.proofs.Common.{◌≡◌, ℕ, ◌-◌, ◌%◌, ◌^◌, ◌<◌, ◌≤◌, Bool, true, false, List, [], ◌∷◌, ◌++◌, map, Option, Some, None, refl, ap, sym, ◌∙◌, arith, append_assoc, inl, inr}
+use Rattle.std.specs.Prelude.{if◌then◌else◌, ◌==◌}
 use Rattle.std.specs.Fmt.{decimal}
 use Rattle.std.proofs.Math.Nat.{mod-eq_of_lt}
 use Rattle.std.proofs.lemmas.Bool.Decides.{nat_tests}
@@ -13,13 +12,12 @@ use Rattle.prime_field.specs.Primes.{IsFieldPrime}
 use Rattle.symmetric_trees.specs.declared.generators.Generator.{Generator}
 use Rattle.symmetric_trees.specs.Generators.{IsTable}
 use Rattle.symmetric_trees.specs.Trees.{Fits}
-use Rattle.presentation_text.specs.declared.lexing.Token.{Token}
 use Rattle.presentation_text.specs.declared.lexing.Token.TheVariants.{Number, Byte}
-use Rattle.presentation_text.specs.Tokens.{is_digit, is_word_byte, StartsOtherwise, tokens}
+use Rattle.presentation_text.specs.Tokens.{is_word_byte, StartsOtherwise, tokens}
 use Rattle.presentation_text.specs.TreeText.{HasWords, tree_tokens, tree_text}
 use Rattle.presentation_text.specs.Elements.{Written, coefficient_tokens, term_tokens, mark, further_tokens, element_tokens, number_of, residue, said}
-use Rattle.presentation_text.specs.SumText.{is_negative, magnitude, factor_text, term_text, sign_text, further_text, first_text, sum_text, IsPrintable}
-use Rattle.presentation_text.specs.Laws.{IsReadBack, PrintedSumsLaw, PrintedSumsAreReadBack}
+use Rattle.presentation_text.specs.SumText.{is_negative, magnitude, factor_text, term_text, further_text, sum_text, IsPrintable}
+use Rattle.presentation_text.specs.Laws.{PrintedSumsAreReadBack}
 use Rattle.presentation_text.proofs.TokenLaws.{tokens-single, tokens-blank}
 use Rattle.presentation_text.proofs.PrintedTokens.{tokens-decimal, tokens-tree_text}
 use Rattle.presentation_text.proofs.ElementsOnce.{IsPositive, ArePositive, terms_once}

@@ -36,14 +36,15 @@ abbrev pub NoStar : List Token → Type 0
 NoStar [] = Unit {0}
 NoStar (token ∷ tokens) = token ≢ Byte 42
 
--- Three ways in which tokens are those of a term and then others: its sign is known from before, it is the first term
--- of an element, or it is a further one.
+-- the tokens are those of a term without its sign, which is known, and then others
 abbrev pub Unsigned : Bool → List Generator → List Token → Written → List Token → Type 0
 Unsigned negative generators tokens term others = (term.negative ≡ negative) × (tokens ≡ term_tokens generators term ++ others)
 
+-- the tokens are those of a first term, with '-' or nothing before it, and then others
 abbrev pub First : List Generator → List Token → Written → List Token → Type 0
 First generators tokens term others = tokens ≡ (if term.negative then Byte 45 ∷ [] else []) ++ (term_tokens generators term ++ others)
 
+-- the tokens are those of a further term, with its '-' or '+', and then others
 abbrev pub Further : List Generator → List Token → Written → List Token → Type 0
 Further generators tokens term others = tokens ≡ mark term.negative ∷ (term_tokens generators term ++ others)
 
@@ -77,7 +78,7 @@ pub record IsSumOver (p : ℕ) (generators : List Generator) (n : ℕ) (sum : Li
 abbrev pub HaveTrees : List Generator → ℕ → List Written → Type 0
 HaveTrees generators n = All (λ term. IsElementTree generators n term.tree)
 
--- the tokens are those of further terms, and the element says them behind the first one
+-- The tokens are those of further terms. The element says them behind the first one, and has the arity of all.
 pub record IsReadBehind (p : ℕ) (generators : List Generator) (first : TermRead) (tokens : List Token) (found : ElementRead) (others : List Written) : Type 0 where
   pub trees : HaveTrees generators first.arity others
   pub spelled : tokens ≡ further_tokens generators others

@@ -6,7 +6,7 @@ use Rattle.symmetric_trees.specs.Trees.{IsLabelled}
 use Rattle.symmetric_trees.specs.declared.generators.Generator.{Generator}
 use Rattle.symmetric_sums.specs.Terms.{terms_of}
 use Rattle.presentation_text.specs.declared.lexing.Token.{Token}
-use Rattle.presentation_text.specs.declared.lexing.Token.TheVariants.{Word, Number, Long, Byte, Bad}
+use Rattle.presentation_text.specs.declared.lexing.Token.TheVariants.{Number, Byte}
 use Rattle.presentation_text.specs.declared.elements.ElementRead.{ElementRead}
 use Rattle.presentation_text.specs.TreeText.{tree_tokens, nested}
 

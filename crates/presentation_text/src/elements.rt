@@ -1,4 +1,4 @@
-ghost use Rattle.std.specs.Prelude.{◌≡◌, ◌<◌, ◌≤◌, ◌↔◌, ◌++◌, ◌∷◌, [], IfOk, IfSome, IsTrue, MatchOption, OnOk, drop, length, slice_get, ℕ, Some};
+ghost use Rattle.std.specs.Prelude.{◌≡◌, ◌<◌, ◌↔◌, ◌++◌, ◌∷◌, [], IfOk, IfSome, IsTrue, OnOk, drop};
 ghost use Rattle.std.specs.List.{All};
 ghost use Rattle.labelled_trees.specs.Meaning.{tree_of};
 ghost use Rattle.symmetric_trees.specs.Generators.{IsTable};
@@ -46,19 +46,20 @@ fn is_zero(tokens: &[Token], at: usize) -> bool
     }
 }
 
-// The number of a `number *` that stands at the place.
-fn coefficient_at(tokens: &[Token], at: usize) -> Option<u64>
-    ensures { steps.IsCoefficientAt tokens.now at result }
+// The number of a `number *` that stands at the place, and the place behind it; else nothing and the place itself.
+fn read_coefficient(tokens: &[Token], at: usize) -> (Option<u64>, usize)
+    ensures coefficient { steps.IsCoefficientAt tokens.now at result.0 }
+    ensures behind { result.1 ≡ steps.behind result.0 at }
 {
     match tokens.get(at) {
         Some(Token::Number(number)) => {
             if is_mark(tokens, at + 1, b'*') {
-                Some(*number)
+                (Some(*number), at + 2)
             } else {
-                None
+                (None, at)
             }
         }
-        _ => None,
+        _ => (None, at),
     }
 }
 
@@ -73,11 +74,7 @@ fn read_term(
     requires sound { IsTable table.now }
     ensures { IfOk result (steps.ReadsTerm (steps.Unsigned negative table.now (drop at tokens.now)) table.now tokens.now at) }
 {
-    let coefficient = coefficient_at(tokens, at);
-    let begin = match coefficient {
-        Some(_) => at + 2,
-        None => at,
-    };
+    let (coefficient, begin) = read_coefficient(tokens, at);
     let Some((tree, end)) = read_tree(alloc, table, tokens, begin)? else {
         return Ok(None);
     };
@@ -216,7 +213,7 @@ pub fn read_element(
             arity: None,
         }));
     }
-    // The generators of a table have different names, so that one tree at most stands at a place.
+    // `len` tells that the generators have different names, so that one tree at most stands at a place.
     let _generators = table.len();
     let Some(first) = read_first(alloc, table, tokens, at)? else {
         return Ok(None);

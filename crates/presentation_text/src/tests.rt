@@ -1,4 +1,5 @@
 use super::*;
+use prime_field::Field;
 use sqlite_items::Items;
 use std::alloc::{AllocError, Global};
 use std::test::*;
@@ -64,5 +65,78 @@ fn a_tree_is_read_and_printed(rt: HostRuntime) -> Result<(), Fail> {
         b"l(l(1,2),3)".as_slice()
     );
     assert!(rt; read_tree(alloc, &table, &line, 6)?.is_none());
+    Ok(())
+}
+
+// What the text is read as modulo 101, printed; no text where it is no element.
+fn read_and_printed(alloc: Global, text: &str) -> Result<Option<Vec<u8>>, Fail> {
+    let field = Field::of(101).ok_or("101 is listed")?;
+    let table = table(alloc)?;
+    let line = tokens(alloc, text.as_bytes())?;
+    match read_element(alloc, field, &table, &line, 0)? {
+        Some(element) => Ok(Some(print_sum(alloc, field, &table, &element.sum)?)),
+        None => Ok(None),
+    }
+}
+
+#[test]
+fn elements_are_read_and_printed(rt: HostRuntime) -> Result<(), Fail> {
+    let alloc = rt.alloc();
+    for (text, wanted) in [
+        ("10*l(1,2)", "10*l(1,2)"),
+        ("0", "0"),
+        ("3*1 + 5*1", "3*1 + 5*1"),
+        ("-l(1,2) - 2 * l(2,1)", "-l(1,2) - 2*l(2,1)"),
+        ("1*l(1,2)+1*l(2,1)", "l(1,2) + l(2,1)"),
+        ("100*l(1,2)", "-l(1,2)"),
+        ("98*l(1,2)", "-3*l(1,2)"),
+        ("50*l(1,2)", "50*l(1,2)"),
+        ("51*l(1,2)", "-50*l(1,2)"),
+        ("104*l(1,2)", "3*l(1,2)"),
+        ("l(1,2) - 98*l(2,1)", "l(1,2) + 3*l(2,1)"),
+        ("0*l(1,2) + l(2,1)", "l(2,1)"),
+        ("202*l(1,2)", "0"),
+    ] {
+        let printed = read_and_printed(alloc, text)?.ok_or("no element")?;
+        assert_eq!(rt; printed.as_slice(), wanted.as_bytes());
+    }
+    Ok(())
+}
+
+#[test]
+fn other_texts_are_no_elements(rt: HostRuntime) -> Result<(), Fail> {
+    let alloc = rt.alloc();
+    for text in [
+        "",
+        "0 + l(1,2)",
+        "+l(1,2)",
+        "0*0",
+        "l(1,2) +",
+        "--l(1,2)",
+        "l(1,2) + 1",
+        "0*l(1,2) + 1",
+        "1234567890123456789*1",
+        "2*3*1",
+        "l(1,3)",
+        "l(1,2) l(2,1)",
+        "2*",
+    ] {
+        assert!(rt; read_and_printed(alloc, text)?.is_none());
+    }
+    Ok(())
+}
+
+#[test]
+fn arity_counts_zero_terms(rt: HostRuntime) -> Result<(), Fail> {
+    let alloc = rt.alloc();
+    let field = Field::of(101).ok_or("101 is listed")?;
+    let table = table(alloc)?;
+    let line = tokens(alloc, b"0*l(1,2)")?;
+    let element = read_element(alloc, field, &table, &line, 0)?.ok_or("no element")?;
+    assert_eq!(rt; element.arity, Some(2));
+    assert_eq!(rt; element.sum.terms().len(), 0);
+    let zero = tokens(alloc, b"normal 0")?;
+    let element = read_element(alloc, field, &table, &zero, 1)?.ok_or("no element")?;
+    assert_eq!(rt; element.arity, None);
     Ok(())
 }

@@ -1,4 +1,4 @@
-use Rattle.std.proofs.Common.{◌≡◌, ◌∷◌, [], None, Some, drop, subst}
+use Rattle.std.proofs.Common.{◌≡◌, ◌∷◌, [], drop, subst}
 use Rattle.std.proofs.lemmas.Result.{IfOk-weaker}
 use Rattle.presentation_text.specs.declared.lexing.Token.TheVariants.{Number}
 use Rattle.presentation_text.specs.Elements as spec

@@ -1,4 +1,4 @@
-use Rattle.std.proofs.Common.{◌≡◌, ◌<◌, ◌≢◌, Some, true, false, length, drop, slice_get, arith, rules}
+use Rattle.std.proofs.Common.{◌≡◌, ◌<◌, ◌≢◌, Some, true, false, length, drop, slice_get, rules}
 use Rattle.std.proofs.lemmas.Option.{slice_get_within}
 use Rattle.std.proofs.lemmas.Result.{IfOk-weaker}
 use Rattle.presentation_text.specs.declared.lexing.Token.TheVariants.{Byte}
