@@ -4,15 +4,13 @@ use Rattle.std.specs.List.{All}
 use Rattle.modular_sums.specs.Sums.{AllTerms}
 use Rattle.labelled_trees.specs.Trees.{Tree}
 use Rattle.labelled_trees.specs.Meaning.{tree_of}
-use Rattle.labelled_trees.proofs.Counts.{leaf_count-labelled}
-use Rattle.operad_ideals.specs.Laws.{arity}
-use Rattle.symmetric_trees.specs.Generators.{parts_at}
+use Rattle.labelled_trees.proofs.Numbered.{numbered_of_labelled}
 use Rattle.symmetric_trees.specs.Trees.{IsLabelled}
 use Rattle.symmetric_trees.specs.declared.generators.Generator.{Generator}
-use Rattle.symmetric_sums.specs.Terms.{terms_of, IsNumbered}
+use Rattle.symmetric_sums.specs.Terms.{terms_of}
 use Rattle.symmetric_sums.specs.Terms as sums
 use Rattle.symmetric_sums.specs.declared.term.Term.{Term}
-use Rattle.symmetric_sums.proofs.Numberings.{numbering}
+use Rattle.presentation_text.proofs.ElementTerms.{one_arity}
 use Rattle.presentation_text.specs.Elements.{Written, IsElementTree, HaveArity, IsElement, residue, said}
 use Rattle.operad_run.specs.OneGenerator.{IsWithin, IsQueryLine}
 
@@ -47,12 +45,9 @@ within_terms p n generators terms (Some m) h w = ⊎_elim
     (λ few. all_within generators m n (said p terms) (few m refl) (all_said p (IsLabelled generators m) terms (all_labelled generators m terms h.1)))
     w
 
-labelled_once : (generators : List Generator) (m n : ℕ) (t : Tree ℕ) → IsLabelled generators m t → IsLabelled generators n t → m ≡ n
-labelled_once generators m n t h g = sym (leaf_count-labelled (arity (parts_at generators)) m t h) ∙ leaf_count-labelled (arity (parts_at generators)) n t g
-
 first_within : (generators : List Generator) (m n : ℕ) (e : List (ℕ × Tree ℕ)) → AllTerms e (IsLabelled generators m) → AllTerms e (IsWithin generators n) → (e ≡ []) ⊎ (m ≤ n)
 first_within generators m n [] h w = inl refl
-first_within generators m n (x ∷ e) h w = let same = labelled_once generators m w.0.0 x.1 h.0 w.0.2 in inr (omega (arith, same, w.0.1))
+first_within generators m n (x ∷ e) h w = let same = one_arity generators m w.0.0 x.1 h.0 w.0.2 in inr (omega (arith, same, w.0.1))
 
 pub within_back : (p n : ℕ) (generators : List Generator) (terms : List Written) (o : Option ℕ) → HaveArity generators o terms
     → AllTerms (said p terms) (IsWithin generators n) → (said p terms ≡ []) ⊎ ((m : ℕ) → o ≡ Some m → m ≤ n)
@@ -66,7 +61,7 @@ within_back p n generators terms (Some m) h w = ⊎_elim
 
 all_numbered : (generators : List Generator) (m : ℕ) (sum : List Term) → AllTerms (terms_of sum) (IsLabelled generators m) → sums.HaveArity m sum
 all_numbered generators m [] h k d l = absurd (omega arith)
-all_numbered generators m (x ∷ sum) h zero d l = numbering (arity (parts_at generators)) m (tree_of x.tree) h.0
+all_numbered generators m (x ∷ sum) h zero d l = numbered_of_labelled h.0
 all_numbered generators m (x ∷ sum) h (suc k) d l = all_numbered generators m sum h.1 k d (omega arith)
 
 pub query_arity : (p n : ℕ) (generators : List Generator) (line : List _) (sum : List Term) → IsQueryLine p generators n line (terms_of sum) → (m : ℕ) × AllTerms (terms_of sum) (IsLabelled generators m)

@@ -8,12 +8,13 @@ use Rattle.labelled_trees.specs.Meaning.{tree_of}
 use Rattle.labelled_trees.specs.declared.Tree as program
 use Rattle.symmetric_trees.specs.declared.generators.Generator.{Generator}
 use Rattle.symmetric_trees.specs.Trees.{Fits, IsLabelled}
-use Rattle.symmetric_sums.specs.Terms.{IsNumbered}
+use Rattle.labelled_trees.specs.Labelled.{IsNumbered}
 use Rattle.symmetric_sums.specs.Calls.{with_term, Joins, Added}
 use Rattle.symmetric_sums.specs.declared.term.Term.{Term}
 use Rattle.symmetric_sums.specs.declared.sum.SumFail.{SumFail}
 use Rattle.symmetric_sums.specs.declared.sum.SumFail.TheVariants.{ArityDiffers}
-use Rattle.symmetric_sums.proofs.Numberings.{numbering, all-right}
+use Rattle.labelled_trees.proofs.Numbered.{numbered_of_labelled}
+use Rattle.symmetric_sums.proofs.Numberings.{all-right}
 use Rattle.presentation_text.specs.declared.lexing.Token.{Token}
 use Rattle.presentation_text.specs.declared.elements.TermRead.{TermRead}
 use Rattle.presentation_text.specs.Elements.{Written, term_tokens, mark, further_tokens, IsElementTree, residue, said}
@@ -41,8 +42,8 @@ over-push p generators n old new coef tree over labelled small is = by_zero (coe
 pub joins : (p : ℕ) (generators : List Generator) (n : ℕ) (old : List Term) (coef : ℕ) (tree : program.Tree) → IsSumOver p generators n old → IsLabelled generators n (tree_of tree) → Joins coef tree old
 joins p generators n old coef tree over labelled = λ positive. (
   n,
-  numbering (arity_in generators) n (tree_of tree) labelled,
-  All-weaker (λ (x : Term). IsLabelled generators n (tree_of x.tree)) (λ (x : Term). IsNumbered n (tree_of x.tree)) (λ x h. numbering (arity_in generators) n (tree_of x.tree) h) old over.labelled,
+  numbered_of_labelled labelled,
+  All-weaker (λ (x : Term). IsLabelled generators n (tree_of x.tree)) (λ (x : Term). IsNumbered n (tree_of x.tree)) (λ x h. numbered_of_labelled h) old over.labelled,
 )
 
 pub never_differs : (coef : ℕ) (tree : program.Tree) (old new : List Term) (fail : SumFail) → fail ≡ ArityDiffers → Added coef tree old (Err fail) new → Joins coef tree old → ⊥

@@ -7,7 +7,7 @@ use Rattle.labelled_trees.proofs.Leaves.{by_leaf}
 use Rattle.symmetric_trees.specs.declared.generators.Generator.{Generator}
 use Rattle.symmetric_trees.specs.Generators.{IsTable}
 use Rattle.symmetric_trees.specs.Trees.{IsLabelled}
-use Rattle.symmetric_sums.proofs.Numberings.{one_number, numbering}
+use Rattle.labelled_trees.proofs.Numbered.{one_number, numbered_of_labelled}
 use Rattle.presentation_text.specs.declared.lexing.Token.{Token}
 use Rattle.presentation_text.specs.declared.lexing.Token.TheVariants.{Number, Byte}
 use Rattle.presentation_text.specs.declared.elements.TermRead.{TermRead}
@@ -34,7 +34,7 @@ no_byte generators (Some c) t b x s e = cc
 
 -- a tree's arity
 pub one_arity : (generators : List Generator) (m n : ℕ) (t : Tree ℕ) → IsLabelled generators m t → IsLabelled generators n t → m ≡ n
-one_arity generators m n t a b = one_number m n t (numbering (arity_in generators) m t a) (numbering (arity_in generators) n t b)
+one_arity generators m n t a b = one_number m n t (numbered_of_labelled a) (numbered_of_labelled b)
 
 -- a tree of an element may be read
 pub readable : (generators : List Generator) (n : ℕ) (t : Tree ℕ) → IsElementTree generators n t → IsReadableWithin 8 generators t

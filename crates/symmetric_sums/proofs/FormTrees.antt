@@ -12,10 +12,11 @@ use Rattle.labelled_trees.specs.Labelled.{IsLabelled}
 use Rattle.operad_ideals.specs.Parts.{Part}
 use Rattle.operad_ideals.specs.Laws.{arity}
 use Rattle.operad_ideals.specs.Sorting.{spelled, spelled_sign}
+use Rattle.operad_ideals.specs.SpelledSums.{spelled_sum}
 use Rattle.operad_ideals.proofs.Agreement.{agreement_keeps_labels}
 use Rattle.operad_ideals.proofs.Spellings.{one_spelling}
 use Rattle.symmetric_trees.specs.SpellingOrder.{order}
-use Rattle.symmetric_sums.specs.Collected.{spelled_sum, IsCollected}
+use Rattle.symmetric_sums.specs.Collected.{IsCollected}
 use Rattle.symmetric_sums.specs.Collecting.{Pairs}
 use Rattle.symmetric_sums.proofs.Forms.{coef-other, coef-first, not_itself}
 use Rattle.symmetric_sums.proofs.LastOnes.{pairs_from_AllPairs}
