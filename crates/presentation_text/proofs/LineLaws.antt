@@ -52,10 +52,6 @@ lines-first text line rest some split = ⊎_elim
     whole [] some h = absurd cc
     whole (c ∷ cs) some h = lines-last c cs h
 
--- what a slice up to the end holds
-pub rest_of : (text : List ℕ) (n : ℕ) → take (length text - n) (drop n text) ≡ drop n text
-rest_of text n = take_all (length text - n) (drop n text) (omega (arith, length-drop n text))
-
 abbrev is_feed : ℕ → Bool
 is_feed c = c == 10
 
@@ -90,7 +86,8 @@ position_past false n l e h = grind (arith, nat_tests)
 pub first_line-to_feed : (text : List ℕ) (end : ℕ) → position is_feed text ≡ Some end → IsFirstLine text (take end text) (take (length text - (end + 1)) (drop (end + 1) text))
 first_line-to_feed text end h =
     let at = position_is _ (position_or_len is_feed text) (length text) end refl h in
-    rw (rest_of text (end + 1), add-one) (split_at text end at.0 (omega arith))
+    let rest = take_all (length text - (end + 1)) (drop (end + 1) text) (omega (arith, length-drop (end + 1) text)) in
+    rw (rest, add-one) (split_at text end at.0 (omega arith))
 
 no_feed_left : (b : Bool) (c : ℕ) (cs : List ℕ) → (c == 10) ≡ b → length (c ∷ cs) ≤ cond (not b) (1 + position_or_len is_feed cs) 0 → (length cs ≤ position_or_len is_feed cs → HasNoFeed cs) → HasNoFeed (c ∷ cs)
 no_feed_left true c cs e past further = absurd (omega arith)

@@ -11,7 +11,7 @@ use Rattle.labelled_trees.specs.Meaning.{tree_of}
 use Rattle.labelled_trees.specs.declared.Tree as program
 use Rattle.labelled_trees.specs.declared.Tree.TheVariants.{Leaf, Node}
 use Rattle.labelled_trees.proofs.ProgramTrees.{tree_of-leaf, tree_of-node}
-use Rattle.labelled_trees.proofs.Rows.{width-row}
+use Rattle.labelled_trees.proofs.Rows.{row-inputs, width-row}
 use Rattle.symmetric_trees.specs.declared.generators.Generator.{Generator}
 use Rattle.symmetric_trees.specs.Generators.{IsTable, IsTaken, IsNamed}
 use Rattle.symmetric_trees.proofs.Tables.{taken-at}
@@ -125,10 +125,6 @@ more_is generators (t ∷ ts) = ap (λ x. Byte 44 ∷ (tree_tokens generators t 
 row_is : (generators : List Generator) (ts : List (Tree ℕ)) → 0 < length ts → Byte 40 ∷ row_tokens generators (row ts) ≡ marked_tokens generators 40 ts
 row_is generators [] l = absurd (omega arith)
 row_is generators (t ∷ ts) l = ap (λ x. Byte 40 ∷ (tree_tokens generators t ++ x)) (more_is generators ts)
-
-row-inputs : (r : Row ℕ) → row (inputs r) ≡ r
-row-inputs none = refl
-row-inputs (more t r) = ap (more t) (row-inputs r)
 
 -- the tokens of a vertex
 node_tokens : (generators : List Generator) (g : ℕ) (ts : List (Tree ℕ)) (rest : List Token) → 0 < length ts
