@@ -30,9 +30,6 @@ all_labelled generators m terms h k d l = (h k d l).labelled
 
 -- ---- their arity is at most n
 
-some-is : (m n : ℕ) → Some m ≡ Some n → m ≡ n
-some-is m n e = cc
-
 all_within : (generators : List Generator) (m n : ℕ) (e : List (ℕ × Tree ℕ)) → m ≤ n → AllTerms e (IsLabelled generators m) → AllTerms e (IsWithin generators n)
 all_within generators m n [] l h = tt
 all_within generators m n (x ∷ e) l h = ((m, l, h.0), all_within generators m n e l h.1)
@@ -54,7 +51,7 @@ pub within_back : (p n : ℕ) (generators : List Generator) (terms : List Writte
 within_back p n generators terms None h w = inl (ap (said p) h)
 within_back p n generators terms (Some m) h w = ⊎_elim
     (λ empty. inl empty)
-    (λ few. inr (λ k e. subst (λ i. i ≤ n) (some-is m k e) few))
+    (λ few. inr (λ k e. let same : m ≡ k = cc in subst (λ i. i ≤ n) same few))
     (first_within generators m n (said p terms) (all_said p (IsLabelled generators m) terms (all_labelled generators m terms h.1)) w)
 
 -- ---- the sum of a query has an arity
