@@ -6,3 +6,5 @@ pub mod SpelledTerms
 pub mod Forms
 pub mod SymmetryInstances
 pub mod Decisions
+pub mod SymmetryRules
+pub mod Expansions

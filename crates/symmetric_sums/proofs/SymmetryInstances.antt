@@ -17,7 +17,7 @@ neighbours (suc i) none l = absurd (omega (arith, l))
 neighbours (suc i) (more t r) l = let h = neighbours i r (omega (arith, l)) in (t ∷ h.0, h.1, h.2, h.3, ap suc h.4, ap (more t) h.5)
 
 -- neighbours of a part stand within the arity
-within_arity : (ps : List Part) (i : ℕ) (s : Sign) → InOnePart ps i s → suc i < total ps
+pub within_arity : (ps : List Part) (i : ℕ) (s : Sign) → InOnePart ps i s → suc i < total ps
 within_arity [] i s h = absurd h
 within_arity (p ∷ ps) i s (inl h) = omega (arith, h.0)
 within_arity (p ∷ ps) i s (inr h) = let k : suc h.0 < total ps = within_arity ps h.0 s h.2 in omega (arith, h.1, k)

@@ -69,6 +69,20 @@ impl Sum {
         Sum { terms, arity }
     }
 
+    // The sum of these terms, if any, of one arity.
+    pub(crate) fn with_arity(terms: Items<Term>, arity: u8) -> Sum
+        requires nonzero { All (λ term. 0 < term.coef) terms }
+        requires arity { HaveArity arity terms }
+        ensures terms { result ≡ terms }
+    {
+        let theirs = if terms.is_empty() {
+            None
+        } else {
+            Some(arity)
+        };
+        Sum::of_terms(terms, theirs)
+    }
+
     /// The terms in their order. No residue is 0.
     pub fn terms(&self) -> &[Term]
         ensures terms { result.now ≡ self.now }
