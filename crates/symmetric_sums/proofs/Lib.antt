@@ -8,3 +8,4 @@ pub mod SymmetryInstances
 pub mod Decisions
 pub mod SymmetryRules
 pub mod Expansions
+pub mod EqualTerms

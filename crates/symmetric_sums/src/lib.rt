@@ -3,6 +3,7 @@
 #![tactic(auto)]
 
 mod collecting;
+mod comparing;
 mod expanding;
 mod instance;
 mod sum;
@@ -10,6 +11,7 @@ mod symmetry;
 mod term;
 
 pub use collecting::{collected, collected_forms_decide, one_collected_form};
+pub use comparing::have_one_form;
 pub use expanding::{ExpandFail, Expanded, expand, expand_around, expand_with_arity};
 pub use instance::{Instance, Rule};
 pub use sum::{Sum, SumFail};

@@ -163,6 +163,22 @@ impl Sum {
         Ok(Some(own))
     }
 
+    /// The terms of this sum, then those of the other one. Where both have terms, these have one arity.
+    /// `AllocError` comes for want of memory alone, and then both sums are gone.
+    pub fn followed_by(self, more: Sum) -> Result<Sum, AllocError>
+        requires arity { HaveOneArity self more }
+        ensures terms { IfOk result (λ sum. sum ≡ self ++ more) }
+    {
+        let arity = if self.terms.is_empty() {
+            more.arity
+        } else {
+            self.arity
+        };
+        let Sum { mut terms, arity: _ } = self;
+        terms.append(more.terms)?;
+        Ok(Sum::of_terms(terms, arity))
+    }
+
     /// The terms of this sum in their order, each residue times `coef`; no terms where `coef` is 0. All residues are of the
     /// field. So scaling by 1 gives a copy. `AllocError` comes for want of memory alone.
     pub fn scaled(&self, alloc: Global, field: Field, coef: u32) -> Result<Sum, AllocError>
