@@ -67,6 +67,7 @@ pub fn expand(
     requires rels { All (FitsOver field table.now) rels.now }
     requires steps { All (FitsOver field table.now) steps.now }
     ensures answer { IsExpanded field table.now (rule_element field table.now rels.now steps.now instance.now.rule) instance.now result }
+    ensures fits { IfOk result (FitsOver field table.now) }
 {
     let Expanded { sum, arity: _ } =
         expand_with_arity(alloc, field, table, rels, steps, instance)?;
@@ -86,6 +87,8 @@ pub fn expand_with_arity(
     requires rels { All (FitsOver field table.now) rels.now }
     requires steps { All (FitsOver field table.now) steps.now }
     ensures answer { IsExpandedTo field table.now (rule_element field table.now rels.now steps.now instance.now.rule) instance.now result }
+    ensures residues { IfOk result (λ expanded. HaveResidues field expanded.sum) }
+    ensures labelled { IfOk result (λ expanded. All (λ term. IsLabelled table.now expanded.arity (tree_of term.tree)) expanded.sum) }
 {
     match instance.rule {
         Rule::Rel(number) => expand_numbered(alloc, field, table, rels, number, instance),
@@ -108,7 +111,9 @@ fn expand_numbered(
 ) -> Result<Expanded, ExpandFail>
     requires coef { instance.now.coef < field }
     requires sums { All (FitsOver field table.now) sums.now }
-    ensures { IsExpandedTo field table.now (sum_at sums.now number) instance.now result }
+    ensures answer { IsExpandedTo field table.now (sum_at sums.now number) instance.now result }
+    ensures residues { IfOk result (λ expanded. HaveResidues field expanded.sum) }
+    ensures labelled { IfOk result (λ expanded. All (λ term. IsLabelled table.now expanded.arity (tree_of term.tree)) expanded.sum) }
 {
     if number == 0 {
         return Err(ExpandFail::Unfit);

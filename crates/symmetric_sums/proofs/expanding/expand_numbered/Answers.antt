@@ -16,10 +16,14 @@ returns-in-Some c =
     let here : c.args.number - 1 < length c.args.sums.now = grind (arith, common_steps, c.in-Some.ensures.lookup) in
     let is : c.in-Some.element.now ≡ get_or c.args.sums.now (c.args.number - 1) c.in-Some.element.now = grind (arith, common_steps, c.in-Some.ensures.lookup) in
     let positive : 0 < c.args.number = omega (arith, c.if-number-eq0.false) in
-    subst (λ e. IsExpandedTo c.args.field c.args.table.now e c.args.instance.now c.expand_around.result) (sym (sum_at-found c.args.sums.now c.args.number c.in-Some.element.now positive here is)) c.expand_around.ensures.answer
+    record {
+      answer = subst (λ e. IsExpandedTo c.args.field c.args.table.now e c.args.instance.now c.expand_around.result) (sym (sum_at-found c.args.sums.now c.args.number c.in-Some.element.now positive here is)) c.expand_around.ensures.answer;
+      residues = c.expand_around.ensures.residues;
+      labelled = c.expand_around.ensures.labelled;
+    }
 
 pub returns-in-None : goal.returns-in-None
 returns-in-None c =
     let past : length c.args.sums.now ≤ c.args.number - 1 = grind (arith, common_steps, c.in-None.ensures.lookup) in
     let positive : 0 < c.args.number = omega (arith, c.if-number-eq0.false) in
-    nothing-valid c.args.table.now _ c.args.instance.now (sum_at-past c.args.sums.now c.args.number positive past)
+    record { answer = nothing-valid c.args.table.now _ c.args.instance.now (sum_at-past c.args.sums.now c.args.number positive past); residues = tt; labelled = tt }
