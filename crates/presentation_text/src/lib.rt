@@ -1,12 +1,14 @@
 //! The text of presentations: lines, tokens, and trees as they are read and printed.
 #![tactic(auto)]
 
+mod document;
 mod elements;
 mod lexing;
 mod lines;
 mod reading;
 mod writing;
 
+pub use document::{Ask, AskKind, Document, OrderName, Tail};
 pub use elements::{ElementRead, elements_are_read_once, read_element};
 pub use lexing::{Token, tokens, tokens_are_defined, words_are_words};
 pub use lines::{counts, lines_are_defined, next_line};

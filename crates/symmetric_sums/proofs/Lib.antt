@@ -6,3 +6,6 @@ pub mod SpelledTerms
 pub mod Forms
 pub mod Decisions
 pub mod FormTrees
+pub mod SymmetryRules
+pub mod Expansions
+pub mod EqualTerms

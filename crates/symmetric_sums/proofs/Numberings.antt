@@ -1,5 +1,5 @@
 -- Arities of lists of terms.
-use Rattle.std.proofs.Common.{◌≡◌, ◌≢◌, ℕ, suc, ◌+◌, ◌*◌, ◌-◌, ◌%◌, ◌<◌, List, [], ◌∷◌, ◌++◌, length, map, get_or, Some, None, Option, refl, sym, ap, ◌∙◌, subst, arith, ⊎_elim, length-append}
+use Rattle.std.proofs.Common.{◌≡◌, ◌≢◌, ℕ, suc, ◌+◌, ◌*◌, ◌-◌, ◌%◌, ◌<◌, ◌≤◌, List, [], ◌∷◌, ◌++◌, length, map, get_or, Some, None, Option, refl, sym, ap, ◌∙◌, subst, arith, ⊎_elim, inl, inr, ◌⊎◌, length-append}
 use Rattle.std.specs.List.{All}
 use Rattle.std.proofs.Math.Nat.{mod-eq_of_lt}
 use Rattle.std.proofs.lemmas.Nat.{mod_below}
@@ -155,3 +155,20 @@ joins-refused arity terms tree coef own theirs h a ne positive joins =
     let j = joins positive in
     let mine : own ≡ j.0 = one_number own j.0 (tree_of tree) (numbered_of_labelled h) j.1 in
     ne (one_arity terms theirs j.0 a j.2 ∙ sym mine)
+
+some_of : (terms : List Term) → (terms ≡ [] → ⊥) → 0 < length terms
+some_of [] h = absurd (h refl)
+some_of (x ∷ xs) h = omega arith
+
+-- two sums of one arity, one after the other
+pub sum-followed : (one other new : List Term) (a b o : Option ℕ) → IsSum one a → IsSum other b → HaveOneArity one other → ((one ≡ []) × (o ≡ b)) ⊎ ((one ≡ [] → ⊥) × (o ≡ a)) → new ≡ one ++ other → IsSum new o
+sum-followed one other new a b o s t h (inl k) e =
+    subst (λ xs. IsSum xs o) (sym (e ∙ ap (λ xs. xs ++ other) k.0)) (subst (IsSum other) (sym k.1) t)
+sum-followed one other new a b o s t h (inr k) e = subst (λ xs. IsSum xs o) (sym e) (record {
+  nonzero = All-append (λ (x : Term). 0 < x.coef) one other s.nonzero t.nonzero;
+  arity_is = subst (ArityIs (one ++ other)) (sym k.1) (go a s.arity_is);
+})
+  where
+    go : (c : Option ℕ) → ArityIs one c → ArityIs (one ++ other) c
+    go None i = let z = i.empty refl in let p = some_of one k.0 in absurd (omega (arith, z, p))
+    go (Some m) i = let same : h.0 ≡ m = sym (one_arity one m h.0 i h.1) in joint-some one other m i (subst (λ n. HaveArity n other) same h.2)

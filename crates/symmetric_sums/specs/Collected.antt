@@ -26,6 +26,10 @@ pub record IsCollected (p : ℕ) (parts : ℕ → List Part) (e f : List (ℕ ×
   pub reduced : IsReduced p parts f
   pub same : Same tree_discrete (p - 1) f (spelled_sum (p - 1) parts e)
 
+-- Two sums collect to the same sum.
+abbrev pub HaveOneForm : ℕ → (ℕ → List Part) → List (ℕ × Tree ℕ) → List (ℕ × Tree ℕ) → Type 0
+HaveOneForm p parts e f = (g : List (ℕ × Tree ℕ)) × IsCollected p parts e g × IsCollected p parts f g
+
 -- A sum has one collected form.
 abbrev pub OneCollectedForm : Type 0
 OneCollectedForm = (p : ℕ) (parts : ℕ → List Part) (e f g : List (ℕ × Tree ℕ)) → 0 < p → IsCollected p parts e f → IsCollected p parts e g → f ≡ g

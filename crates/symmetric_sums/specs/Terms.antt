@@ -4,6 +4,8 @@ use Rattle.std.specs.List.{All}
 use Rattle.labelled_trees.specs.Trees.{Tree}
 use Rattle.labelled_trees.specs.Labelled.{IsNumbered}
 use Rattle.labelled_trees.specs.Meaning.{tree_of}
+use Rattle.symmetric_trees.specs.Trees.{Fits}
+use Rattle.symmetric_trees.specs.declared.generators.Generator.{Generator}
 use Rattle.symmetric_sums.specs.declared.term.Term.{Term}
 
 -- each term as a pair of a number and a tree
@@ -27,6 +29,12 @@ pub record IsSum (terms : List Term) (arity : Option ℕ) : Type 0 where
 -- each number is a residue modulo p
 abbrev pub HaveResidues : ℕ → List Term → Type 0
 HaveResidues p = All (λ term. term.coef < p)
+
+-- A sum fits a field and a table: its residues are of the field, and each vertex of its trees names a generator of the table
+-- and has as many inputs as its arity.
+pub record FitsOver (p : ℕ) (generators : List Generator) (terms : List Term) : Type 0 where
+  pub residues : HaveResidues p terms
+  pub trees : All (λ term. Fits generators (tree_of term.tree)) terms
 
 -- one arity is that of all trees of both lists
 abbrev pub HaveOneArity : List Term → List Term → Type 0

@@ -69,6 +69,20 @@ impl Sum {
         Sum { terms, arity }
     }
 
+    // The sum of these terms, if any, of one arity.
+    pub(crate) fn with_arity(terms: Items<Term>, arity: u8) -> Sum
+        requires nonzero { All (λ term. 0 < term.coef) terms }
+        requires arity { HaveArity arity terms }
+        ensures terms { result ≡ terms }
+    {
+        let theirs = if terms.is_empty() {
+            None
+        } else {
+            Some(arity)
+        };
+        Sum::of_terms(terms, theirs)
+    }
+
     /// The terms in their order. No residue is 0.
     pub fn terms(&self) -> &[Term]
         ensures terms { result.now ≡ self.now }
@@ -147,6 +161,22 @@ impl Sum {
             }
         }
         Ok(Some(own))
+    }
+
+    /// The terms of this sum, then those of the other one. Where both have terms, these have one arity.
+    /// `AllocError` comes for want of memory alone, and then both sums are gone.
+    pub fn followed_by(self, more: Sum) -> Result<Sum, AllocError>
+        requires arity { HaveOneArity self more }
+        ensures terms { IfOk result (λ sum. sum ≡ self ++ more) }
+    {
+        let arity = if self.terms.is_empty() {
+            more.arity
+        } else {
+            self.arity
+        };
+        let Sum { mut terms, arity: _ } = self;
+        terms.append(more.terms)?;
+        Ok(Sum::of_terms(terms, arity))
     }
 
     /// The terms of this sum in their order, each residue times `coef`; no terms where `coef` is 0. All residues are of the

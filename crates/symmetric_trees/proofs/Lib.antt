@@ -1,4 +1,5 @@
 pub mod Branches
+pub mod GraftedTrees
 pub mod LeastOf
 pub mod SpellingSteps
 pub mod Tables

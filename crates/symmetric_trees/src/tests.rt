@@ -1,4 +1,10 @@
-use crate::{GenFail, GenTable, Generator, Name, Part, PartKind, Sign, Tree, arity_of, spelled};
+ghost use Rattle.std.specs.Prelude.{◌<◌, ◌≤◌, ℕ, IsTrue};
+ghost use Rattle.labelled_trees.specs.Leaves.{AllLeaves};
+ghost use Rattle.labelled_trees.specs.Meaning.{tree_of};
+
+use crate::{
+    GenFail, GenTable, Generator, Name, Part, PartKind, Sign, Tree, arity_of, fill, graft, spelled,
+};
 use sqlite_items::Items;
 use std::alloc::{AllocError, Global};
 use std::mem;
@@ -196,6 +202,58 @@ fn sorts(rt: HostRuntime) -> Result<(), Fail> {
         let found = spelled(alloc, &table, &written)?;
         assert_eq!(rt; found.0, sign, "{text}");
         assert!(rt; is_same(&found.1, &tree(alloc, sorted)?), "{text}");
+    }
+    Ok(())
+}
+
+// Whether each leaf number is from 1 to `most`.
+fn is_within(tree: &Tree, most: usize) -> bool
+    ensures { IsTrue result → AllLeaves (tree_of tree.now) (λ i. (0 < i) × (i ≤ most)) }
+{
+    match tree {
+        Tree::Leaf(number) => *number > 0 && *number as usize <= most,
+        Tree::Node(_, inputs) => {
+            for input in inputs.as_slice() {
+                if !is_within(input, most) {
+                    return false;
+                }
+            }
+            true
+        }
+    }
+}
+
+#[test]
+fn grafts(rt: HostRuntime) -> Result<(), Fail> {
+    let alloc = rt.alloc();
+    for (below, one, other, grown) in [
+        ("l(1,2)", "l(1,3)", "2", "l(l(1,3),2)"),
+        ("l(2,l(1,1))", "3", "m(4,5)", "l(m(4,5),l(3,3))"),
+        ("2", "1", "l(0,7)", "l(0,7)"),
+    ] {
+        let below = tree(alloc, below)?;
+        let inputs = [tree(alloc, one)?, tree(alloc, other)?];
+        assert!(rt; is_within(&below, inputs.len()));
+        let found = graft(alloc, &below, &inputs)?;
+        assert!(rt; is_same(&found, &tree(alloc, grown)?), "{grown}");
+    }
+    Ok(())
+}
+
+#[test]
+fn fills(rt: HostRuntime) -> Result<(), Fail> {
+    let alloc = rt.alloc();
+    for (context, below, one, other, filled) in [
+        ("l(0,3)", "l(1,2)", "1", "2", "l(l(1,2),3)"),
+        ("0", "p(2,1)", "4", "l(1,2)", "p(l(1,2),4)"),
+        ("b(1,0,0)", "m(1,2)", "3", "2", "b(1,m(3,2),m(3,2))"),
+        ("l(1,2)", "l(1,2)", "1", "2", "l(1,2)"),
+    ] {
+        let below = tree(alloc, below)?;
+        let inputs = [tree(alloc, one)?, tree(alloc, other)?];
+        assert!(rt; is_within(&below, inputs.len()));
+        let found = fill(alloc, &tree(alloc, context)?, &below, &inputs)?;
+        assert!(rt; is_same(&found, &tree(alloc, filled)?), "{filled}");
     }
     Ok(())
 }

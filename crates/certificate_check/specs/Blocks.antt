@@ -1,0 +1,79 @@
+-- When a block of steps holds.
+use Rattle.std.specs.Prelude.{ℕ, ◌≡◌, ◌<◌, ◌++◌, List, [], ◌∷◌, map, flat_map}
+use Rattle.std.specs.List.{All}
+use Rattle.labelled_trees.specs.Trees.{Tree}
+use Rattle.symmetric_trees.specs.Generators.{parts_at}
+use Rattle.symmetric_trees.specs.declared.generators.Generator.{Generator}
+use Rattle.symmetric_sums.specs.Terms.{FitsOver, terms_of}
+use Rattle.symmetric_sums.specs.Collected.{HaveOneForm}
+use Rattle.symmetric_sums.specs.Instances.{rule_element, IsValid, instance_element}
+use Rattle.symmetric_sums.specs.declared.term.Term.{Term}
+use Rattle.symmetric_sums.specs.declared.instance.Rule.{Rule}
+use Rattle.symmetric_sums.specs.declared.instance.Rule.TheVariants.{Rel, Swap, Step as StepRule}
+use Rattle.symmetric_sums.specs.declared.instance.Instance.{Instance}
+use Rattle.certificate_text.specs.declared.block.Step.{Step}
+
+-- ---- what the checker is given
+
+-- the step's element fits the field and the table, and the coefficients of its uses are residues
+pub record IsReady (p : ℕ) (generators : List Generator) (step : Step) : Type 0 where
+  pub element : FitsOver p generators step.element
+  pub coefs : All (λ item. item.coef < p) step.uses
+
+abbrev pub AreReady : ℕ → List Generator → List Step → Type 0
+AreReady p generators = All (IsReady p generators)
+
+-- ---- uses
+
+abbrev pub elements_of : List Step → List (List Term)
+elements_of = map (λ step. step.element)
+
+-- a relation or a step is cited, and no symmetry rule
+abbrev pub CitesElement : Rule → Type 0
+CitesElement (Rel k) = Unit {0}
+CitesElement (Swap g at) = ⊥
+CitesElement (StepRule k) = Unit {0}
+
+-- the element around which a use stands, among the relations and the elements of earlier steps
+abbrev pub cited : ℕ → List Generator → List (List Term) → List (List Term) → Instance → List (ℕ × Tree ℕ)
+cited p generators rels earlier item = rule_element p generators rels earlier item.rule
+
+-- The use is a valid instance, in arity n, of a relation or of an earlier step.
+pub record IsGoodUse (p : ℕ) (generators : List Generator) (rels earlier : List (List Term)) (n : ℕ) (item : Instance) : Type 0 where
+  pub cites : CitesElement item.rule
+  pub valid : IsValid generators (cited p generators rels earlier item) n item
+
+-- All uses are such instances, in one arity.
+abbrev pub AreGoodUses : ℕ → List Generator → List (List Term) → List (List Term) → List Instance → Type 0
+AreGoodUses p generators rels earlier uses = (n : ℕ) × All (IsGoodUse p generators rels earlier n) uses
+
+-- the elements of the uses, one after the other
+abbrev pub sum_of : ℕ → List Generator → List (List Term) → List (List Term) → List Instance → List (ℕ × Tree ℕ)
+sum_of p generators rels earlier = flat_map (λ item. instance_element p (cited p generators rels earlier item) item)
+
+-- ---- steps and blocks
+
+-- A step holds over the earlier ones: its uses are good, and its element and their sum collect to the same sum.
+pub record StepHolds (p : ℕ) (generators : List Generator) (rels earlier : List (List Term)) (step : Step) : Type 0 where
+  pub uses : AreGoodUses p generators rels earlier step.uses
+  pub same : HaveOneForm p (parts_at generators) (terms_of step.element) (sum_of p generators rels earlier step.uses)
+
+-- each step holds over the earlier ones and those before it
+abbrev pub StepsHold : ℕ → List Generator → List (List Term) → List (List Term) → List Step → Type 0
+StepsHold p generators rels earlier [] = Unit {0}
+StepsHold p generators rels earlier (step ∷ steps) = StepHolds p generators rels earlier step × StepsHold p generators rels (earlier ++ step.element ∷ []) steps
+
+-- the element of the last step; nothing where there are no steps
+abbrev pub last_element : List Step → List (ℕ × Tree ℕ)
+last_element [] = []
+last_element (step ∷ []) = terms_of step.element
+last_element (step ∷ (next ∷ steps)) = last_element (next ∷ steps)
+
+-- the wanted element and the last step's element collect to the same sum
+abbrev pub IsWanted : ℕ → List Generator → List Term → List Step → Type 0
+IsWanted p generators want steps = HaveOneForm p (parts_at generators) (terms_of want) (last_element steps)
+
+-- A block holds: each step holds over those before it, and the last one gives the wanted element.
+pub record BlockHolds (p : ℕ) (generators : List Generator) (rels : List (List Term)) (want : List Term) (steps : List Step) : Type 0 where
+  pub steps_hold : StepsHold p generators rels [] steps
+  pub wanted : IsWanted p generators want steps

@@ -1,0 +1,96 @@
+ghost use Rattle.std.specs.Prelude.{◌≡◌, ◌+◌, ◌-◌, ◌^◌, ◌<◌, IfOk, length};
+ghost use Rattle.std.specs.List.{All};
+ghost use Rattle.symmetric_sums.specs.Terms.{FitsOver};
+ghost use Rattle.certificate_check.specs.Blocks.{AreReady, IsReady, elements_of};
+ghost use Rattle.certificate_check.specs.Answers.{IsAnswer};
+ghost use Rattle.certificate_check.specs.Checking.{IsChecked};
+
+use crate::uses::{Fault, sum_of_uses};
+use crate::{CheckAnswer, CheckCause};
+use certificate_text::{Block, Step};
+use presentation_text::Document;
+use std::alloc::{AllocError, Global};
+use symmetric_sums::{Sum, have_one_form};
+
+/// Whether a block holds. It holds where each use of each step is a valid instance of a relation of the document or of an
+/// earlier step, all uses of a step have one arity, the element of each step and the sum of its uses' elements collect to the
+/// same sum, and the wanted element and that of the last step do; without steps the wanted element collects to 0.
+///
+/// `Accepted` comes exactly where it holds. `Refused` names the first step that doesn't, and the cause at its first bad use:
+/// `Ahead` where the use cites a step number that is 0 or not before the step, else `UseUnfit` where it cites a symmetry rule,
+/// isn't valid in any arity, or has another arity than the step's first use; with good uses, `Differs` where the element isn't
+/// their sum. After all steps, `NotWanted` names the number of steps where the wanted element isn't as above.
+///
+/// There are fewer than 2^32 - 1 steps, all sums fit the document's field and generators, and the coefficient of each use is
+/// a residue. `AllocError` comes for want of memory alone.
+pub fn check_block(
+    alloc: Global,
+    document: &Document,
+    block: &Block,
+) -> Result<CheckAnswer, AllocError>
+    requires few { length block.now.steps < 2 ^ 32 - 1 }
+    requires rels { All (FitsOver document.now.field document.now.gens) document.now.rels }
+    requires want { FitsOver document.now.field document.now.gens block.now.want }
+    requires steps { AreReady document.now.field document.now.gens block.now.steps }
+    ensures answer { IfOk result (IsAnswer document.now.field document.now.gens document.now.rels block.now.want block.now.steps) }
+{
+    check_steps(alloc, document, &block.want, block.steps.as_slice())
+}
+
+/// As `check_block`, for the parts of a block.
+pub fn check_steps(
+    alloc: Global,
+    document: &Document,
+    want: &Sum,
+    steps: &[Step],
+) -> Result<CheckAnswer, AllocError>
+    requires few { length steps.now < 2 ^ 32 - 1 }
+    requires rels { All (FitsOver document.now.field document.now.gens) document.now.rels }
+    requires want { FitsOver document.now.field document.now.gens want.now }
+    requires steps { AreReady document.now.field document.now.gens steps.now }
+    ensures answer { IfOk result (IsAnswer document.now.field document.now.gens document.now.rels want.now steps.now) }
+{
+    let mut before: u32 = 0;
+    for step in steps {
+        match check_step(alloc, document, &steps[..before as usize], step) {
+            Ok(()) => {}
+            Err(Fault::Cause(cause)) => {
+                let step = before + 1;
+                return Ok(CheckAnswer::Refused { step, cause });
+            }
+            Err(Fault::NoMemory) => return Err(AllocError),
+        }
+        before += 1;
+    }
+    let nothing = Sum::new(alloc);
+    let last = match steps {
+        [.., step] => &step.element,
+        [] => &nothing,
+    };
+    if have_one_form(alloc, document.field, &document.gens, want, last)? {
+        return Ok(CheckAnswer::Accepted);
+    }
+    Ok(CheckAnswer::Refused {
+        step: before,
+        cause: CheckCause::NotWanted,
+    })
+}
+
+// Whether a step holds over those before it.
+fn check_step(
+    alloc: Global,
+    document: &Document,
+    earlier: &[Step],
+    step: &Step,
+) -> Result<(), Fault>
+    requires rels { All (FitsOver document.now.field document.now.gens) document.now.rels }
+    requires earlier { AreReady document.now.field document.now.gens earlier.now }
+    requires step { IsReady document.now.field document.now.gens step.now }
+    ensures { IsChecked document.now.field document.now.gens document.now.rels (elements_of earlier.now) step.now result }
+{
+    let sum = sum_of_uses(alloc, document, earlier, step.uses.as_slice())?;
+    if have_one_form(alloc, document.field, &document.gens, &step.element, &sum)? {
+        return Ok(());
+    }
+    Err(Fault::Cause(CheckCause::Differs))
+}
