@@ -1,6 +1,7 @@
 pub mod AnswerSteps
 pub mod Decides
 pub mod DocumentLines
+pub mod FormsRuns
 pub mod FormsSteps
 pub mod OneAnswer
 pub mod OneTable

@@ -7,3 +7,4 @@ pub mod OpeningLines
 pub mod Queries
 pub mod Laws
 pub mod Runs
+pub mod FormsRuns

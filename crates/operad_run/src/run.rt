@@ -1,8 +1,7 @@
 //! A run: the words and the bytes of a source in, the text into a sink.
-ghost use Rattle.std.specs.Prelude.{◌≡◌, ◌++◌, IfOk, codes, map, string_bytes};
-ghost use Rattle.std.specs.Fmt.{decimal};
-ghost use Rattle.operad_run.specs.Answers.{line as ended};
-ghost use Rattle.operad_run.specs.Runs.{IsRun, Told};
+ghost use Rattle.std.specs.Prelude.{◌≡◌, IfOk, map, string_bytes};
+ghost use Rattle.operad_run.specs.Runs.{Told, fault_text as text_of_fault};
+ghost use Rattle.operad_run.specs.FormsRuns.{IsRun};
 
 use crate::commands::forms_arity;
 use crate::documents::forms;
@@ -27,7 +26,7 @@ fn tell<K: Sink>(sink: &mut K, text: &[u8], status: Status) -> Status
 
 // The text that names the first line that isn't as said.
 fn fault_text(alloc: Global, line: u32) -> Result<Vec<u8>, AllocError>
-    ensures { IfOk result (λ text. text.items ≡ ended (codes "fault document " ++ (decimal line ++ codes " NotBuilt"))) }
+    ensures { IfOk result (λ text. text.items ≡ text_of_fault line) }
 {
     let mut text = Vec::new(alloc);
     text.extend_from_slice(b"fault document ")?;

@@ -3,7 +3,7 @@ use Rattle.operad_run.specs.OneGenerator.{IsFirstFault, token_lines}
 use Rattle.operad_run.specs.Documents.{IsAnswered}
 use Rattle.operad_run.specs.Stops.{StopsAt}
 use Rattle.operad_run.specs.declared.status.Status.TheVariants.{Done, Usage, Document, Limit, ReadFault}
-use Rattle.operad_run.proofs.Runs.{told_is_run}
+use Rattle.operad_run.proofs.FormsRuns.{told_is_run}
 use Rattle.operad_run.proofs.run.operad_run.Goals as goal
 
 pub returns-in_default : goal.returns-in_default
