@@ -3,8 +3,6 @@ pub mod Decides
 pub mod DocumentLines
 pub mod FormsSteps
 pub mod OneAnswer
-pub mod OneTable
-pub mod OpeningSteps
 pub mod QueryElements
 pub mod QueryLines
 pub mod Runs

@@ -3,7 +3,8 @@ use Rattle.std.proofs.Common.{◌≡◌, ℕ, ◌+◌, ◌≤◌, ⊎_elim, inl,
 use Rattle.std.specs.Io.KnownBytes.{Consumes, IsAtEnd}
 use Rattle.outside_io.specs.Taken.{Takes}
 use Rattle.operad_run.specs.Commands.{IsForms}
-use Rattle.operad_run.specs.OneGenerator.{IsDocument, IsFirstFault, token_lines}
+use Rattle.presentation_text.specs.Opening.{token_lines}
+use Rattle.operad_run.specs.OneGenerator.{IsDocument, IsFirstFault}
 use Rattle.operad_run.proofs.DocumentLines.{no_fault}
 use Rattle.operad_run.specs.Runs.{Outside, Came, CameTooMany, Says, Told, Wrote, Ends, IsComplete, IsRun, most_bytes}
 use Rattle.operad_run.specs.declared.status.Status.{Status}

@@ -7,7 +7,8 @@ use Rattle.outside_io.specs.Causes.{Rose}
 use Rattle.outside_io.specs.Taken.{Takes}
 use Rattle.symmetric_trees.specs.declared.generators.Generator.{Generator}
 use Rattle.operad_run.specs.Commands.{IsForms, IsCommand}
-use Rattle.operad_run.specs.OneGenerator.{IsDocument, IsFirstFault, token_lines}
+use Rattle.presentation_text.specs.Opening.{token_lines}
+use Rattle.operad_run.specs.OneGenerator.{IsDocument, IsFirstFault}
 use Rattle.operad_run.specs.Answers.{line}
 use Rattle.operad_run.specs.Documents.{IsAnswered}
 use Rattle.operad_run.specs.declared.status.Status.{Status}
