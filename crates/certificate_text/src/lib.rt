@@ -2,5 +2,9 @@
 #![tactic(auto)]
 
 mod block;
+mod cert_fail;
+mod reading;
 
 pub use block::{Block, Step};
+pub use cert_fail::{CertFail, ReadCertFail};
+pub use reading::read_blocks;

@@ -3,10 +3,11 @@ use Rattle.std.proofs.Common.{◌≡◌, ℕ, suc, ◌+◌, ◌<◌, ◌≤◌, 
 use Rattle.labelled_trees.specs.Trees.{Tree}
 use Rattle.symmetric_trees.specs.declared.generators.Generator.{Generator}
 use Rattle.presentation_text.specs.declared.lexing.Token.{Token}
-use Rattle.operad_run.specs.OneGenerator.{opening, IsGeneratorLine, IsQueryLine, AreQueryLines, no_queries, one_query, AreDocumentLines, AreAsSaid, GoWrong, IsFirstFault}
-use Rattle.operad_run.specs.OpeningLines.{StartsWithout, IsOpeningFault}
+use Rattle.presentation_text.specs.Opening.{opening, IsGeneratorLine}
+use Rattle.operad_run.specs.OneGenerator.{IsQueryLine, AreQueryLines, no_queries, one_query, AreDocumentLines, AreAsSaid, GoWrong, IsFirstFault}
+use Rattle.presentation_text.specs.OpeningLines.{StartsWithout, IsOpeningFault}
 use Rattle.operad_run.specs.Queries.{IsNoQuery, IsFirstOther}
-use Rattle.operad_run.proofs.OneTable.{one_generator}
+use Rattle.presentation_text.proofs.OneTable.{one_generator}
 
 -- ---- two ways to part a list
 

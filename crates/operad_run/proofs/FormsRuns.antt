@@ -1,7 +1,8 @@
 -- How runs of `operad` end.
 use Rattle.std.proofs.Common.{◌≡◌, ℕ, ◌+◌, inl, inr, List, [], length, get_or, refl, ap, sym, ◌∙◌, subst, arith}
 use Rattle.operad_run.specs.Commands.{IsForms, IsCommand}
-use Rattle.operad_run.specs.OneGenerator.{IsDocument, IsFirstFault, token_lines}
+use Rattle.presentation_text.specs.Opening.{token_lines}
+use Rattle.operad_run.specs.OneGenerator.{IsDocument, IsFirstFault}
 use Rattle.operad_run.specs.Runs.{Outside, Told, Ends}
 use Rattle.operad_run.specs.FormsRuns.{Says, IsComplete, IsRun}
 use Rattle.operad_run.specs.declared.status.Status.{Status}

@@ -8,15 +8,16 @@ use Rattle.presentation_text.specs.TreeText.{HasWords}
 use Rattle.presentation_text.specs.declared.lexing.Token.{Token}
 use Rattle.presentation_text.specs.declared.lexing.Token.TheVariants.{Word}
 use Rattle.presentation_text.proofs.TokenLaws.{words}
-use Rattle.operad_run.specs.OneGenerator.{opening, IsGeneratorLine, IsTableLine, IsFirstFault, token_lines}
+use Rattle.presentation_text.specs.Opening.{opening, IsGeneratorLine, IsTableLine, token_lines}
+use Rattle.operad_run.specs.OneGenerator.{IsFirstFault}
 use Rattle.operad_run.specs.Documents.{IsAnswered}
 use Rattle.operad_run.specs.Queries.{AreAnswered, IsFirstOther}
-use Rattle.operad_run.specs.Stops.{StopsAt}
-use Rattle.operad_run.specs.declared.forms_fail.FormsFail.{FormsFail}
+use Rattle.presentation_text.specs.Stops.{StopsAt}
+use Rattle.presentation_text.specs.declared.line_fail.LineFail.{LineFail}
 use Rattle.operad_run.proofs.Decides.{answers_decide}
 use Rattle.operad_run.proofs.DocumentLines.{query_fault}
-use Rattle.operad_run.proofs.OneTable.{table_of_line}
-use Rattle.operad_run.proofs.OpeningSteps.{stops-map}
+use Rattle.presentation_text.proofs.OneTable.{table_of_line}
+use Rattle.presentation_text.proofs.OpeningSteps.{stops-map}
 
 -- the name of a generator that a line gives is a word
 has_words : (text : List ℕ) (generator : Generator) → IsGeneratorLine (tokens text) generator → HasWords (generator ∷ [])
@@ -45,7 +46,7 @@ module _ (bytes line : List ℕ) (n : ℕ) (lines : List (List Token)) (generato
       query_fault n (token_lines bytes) (tokens line) table.generator lines number lines_are table.line_is (subst (λ gs. IsFirstOther 101 gs n 5 lines number) table.table_is h)
 
   -- what the lines of the queries lead to is what the text leads to
-  pub queries_led : {A : Type 0} (items : A → List ℕ) (p : ℕ) (r : Result A FormsFail) → p ≡ 101
+  pub queries_led : {A : Type 0} (items : A → List ℕ) (p : ℕ) (r : Result A LineFail) → p ≡ 101
       → MatchResult r (λ out. AreAnswered p generators n lines (items out)) (StopsAt (IsFirstOther p generators n 5 lines))
       → MatchResult r (λ out. IsAnswered bytes n (items out)) (StopsAt (IsFirstFault n (token_lines bytes)))
   queries_led items p (Ok out) e h = queries_answered (items out) (subst (λ q. AreAnswered q generators n lines (items out)) e h)

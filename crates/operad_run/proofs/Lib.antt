@@ -4,8 +4,6 @@ pub mod DocumentLines
 pub mod FormsRuns
 pub mod FormsSteps
 pub mod OneAnswer
-pub mod OneTable
-pub mod OpeningSteps
 pub mod QueryElements
 pub mod QueryLines
 pub mod Runs

@@ -9,11 +9,12 @@ use Rattle.presentation_text.specs.SumText.{sum_text}
 use Rattle.presentation_text.specs.Elements.{IsElement, said}
 use Rattle.presentation_text.specs.declared.lexing.Token.{Token}
 use Rattle.presentation_text.proofs.ElementsOnce.{once}
-use Rattle.operad_run.specs.OneGenerator.{opening, IsGeneratorLine, IsQueryLine, AreQueryLines, no_queries, one_query, AreDocumentLines, IsDocument, token_lines}
+use Rattle.presentation_text.specs.Opening.{opening, IsGeneratorLine, token_lines}
+use Rattle.operad_run.specs.OneGenerator.{IsQueryLine, AreQueryLines, no_queries, one_query, AreDocumentLines, IsDocument}
 use Rattle.operad_run.specs.Answers.{IsAnswer, AreAnswers, no_answers, one_answer, line}
 use Rattle.operad_run.specs.Documents.{IsAnswered}
 use Rattle.operad_run.specs.Laws.{AnswersAreDetermined}
-use Rattle.operad_run.proofs.OneTable.{one_generator, table_of_line}
+use Rattle.presentation_text.proofs.OneTable.{one_generator, table_of_line}
 use Rattle.operad_run.proofs.DocumentLines.{one_fault, no_fault, cancel_front}
 
 -- a line is the query of one element

@@ -4,7 +4,8 @@ use Rattle.labelled_trees.specs.Trees.{Tree}
 use Rattle.outside_io.specs.Causes.{Rose}
 use Rattle.symmetric_trees.specs.declared.generators.Generator.{Generator}
 use Rattle.operad_run.specs.Commands.{IsForms, IsCommand}
-use Rattle.operad_run.specs.OneGenerator.{IsDocument, IsFirstFault, token_lines}
+use Rattle.presentation_text.specs.Opening.{token_lines}
+use Rattle.operad_run.specs.OneGenerator.{IsDocument, IsFirstFault}
 use Rattle.operad_run.specs.Documents.{IsAnswered}
 use Rattle.operad_run.specs.Runs.{Outside, Came, most_bytes, IsMisused, IsUnreadable, IsTooLong, fault_text, Ends}
 use Rattle.operad_run.specs.declared.status.Status.{Status}

@@ -2,7 +2,8 @@
 use Rattle.std.specs.Prelude.{ℕ, ◌≡◌, List}
 use Rattle.labelled_trees.specs.Trees.{Tree}
 use Rattle.symmetric_trees.specs.declared.generators.Generator.{Generator}
-use Rattle.operad_run.specs.OneGenerator.{IsDocument, IsFirstFault, token_lines}
+use Rattle.presentation_text.specs.Opening.{token_lines}
+use Rattle.operad_run.specs.OneGenerator.{IsDocument, IsFirstFault}
 use Rattle.operad_run.specs.Documents.{IsAnswered}
 
 -- What a run tells is a function of the bytes and the greatest arity: a document has one text of answers, another text has

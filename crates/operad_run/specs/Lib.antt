@@ -1,9 +1,7 @@
 pub mod Commands
-pub mod Stops
 pub mod OneGenerator
 pub mod Answers
 pub mod Documents
-pub mod OpeningLines
 pub mod Queries
 pub mod Laws
 pub mod Runs

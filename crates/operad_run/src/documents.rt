@@ -1,16 +1,15 @@
 ghost use Rattle.std.specs.Prelude.{◌+◌, ◌≤◌, ◌<◌, ◌^◌, MatchResult, length};
 ghost use Rattle.symmetric_trees.specs.Generators.{IsTable};
-ghost use Rattle.operad_run.specs.OneGenerator.{IsFirstFault, token_lines};
+ghost use Rattle.presentation_text.specs.Opening.{token_lines};
+ghost use Rattle.operad_run.specs.OneGenerator.{IsFirstFault};
 ghost use Rattle.operad_run.specs.Documents.{IsAnswered};
 ghost use Rattle.operad_run.specs.Laws.{AnswersAreDetermined};
 ghost use Rattle.operad_run.specs.Queries.{AreAnswered, IsFirstOther};
 ghost use Rattle.operad_run.specs.Runs.{most_bytes};
-ghost use Rattle.operad_run.specs.Stops.{StopsAt};
+ghost use Rattle.presentation_text.specs.Stops.{StopsAt};
 
-use crate::forms_fail::FormsFail;
-use crate::opening::{read_table, skip_opening};
 use crate::queries::answer_line;
-use presentation_text::next_line;
+use presentation_text::{LineFail, next_line, read_table, skip_opening};
 use prime_field::Field;
 use std::alloc::Global;
 use symmetric_trees::GenTable;
@@ -23,7 +22,7 @@ fn answers(
     text: &[u8],
     most: u8,
     first: u32,
-) -> Result<Vec<u8>, FormsFail>
+) -> Result<Vec<u8>, LineFail>
     requires few { most ≤ 9 }
     requires sound { IsTable table.now }
     requires short { first + length text.now < 2 ^ 32 }
@@ -36,8 +35,8 @@ fn answers(
     while let Some((line, behind)) = next_line(rest) {
         match answer_line(alloc, field, table, line, most, &mut out) {
             Ok(true) => {}
-            Ok(false) => return Err(FormsFail::At { line: number }),
-            Err(_) => return Err(FormsFail::NoMemory),
+            Ok(false) => return Err(LineFail::At { line: number }),
+            Err(_) => return Err(LineFail::NoMemory),
         }
         rest = behind;
         number += 1;
@@ -47,7 +46,7 @@ fn answers(
 
 /// The text of the answers to a document with one generator and queries of an arity of at most `most`, from 1 to 9. `At`
 /// names the first line that isn't as said, or the one that is missing behind the last; `NoMemory` comes for want of memory alone.
-pub fn forms(alloc: Global, text: &[u8], most: u8) -> Result<Vec<u8>, FormsFail>
+pub fn forms(alloc: Global, text: &[u8], most: u8) -> Result<Vec<u8>, LineFail>
     requires few { most ≤ 9 }
     requires short { length text.now ≤ most_bytes }
     ensures answer { MatchResult result (λ out. IsAnswered text.now most out.items)
@@ -58,12 +57,12 @@ pub fn forms(alloc: Global, text: &[u8], most: u8) -> Result<Vec<u8>, FormsFail>
     };
     let rest = skip_opening(alloc, text)?;
     let Some((line, queries)) = next_line(rest) else {
-        return Err(FormsFail::At { line: 4 });
+        return Err(LineFail::At { line: 4 });
     };
     match read_table(alloc, line) {
         Ok(Some(table)) => answers(alloc, field, &table, queries, most, 5),
-        Ok(None) => Err(FormsFail::At { line: 4 }),
-        Err(_) => Err(FormsFail::NoMemory),
+        Ok(None) => Err(LineFail::At { line: 4 }),
+        Err(_) => Err(LineFail::NoMemory),
     }
 }
 

@@ -3,8 +3,6 @@
 
 mod commands;
 mod documents;
-mod forms_fail;
-mod opening;
 mod queries;
 mod run;
 mod status;

@@ -9,8 +9,7 @@ ghost use Rattle.presentation_text.specs.Tokens.{tokens as tokens_of};
 ghost use Rattle.operad_run.specs.OneGenerator.{IsQueryLine};
 ghost use Rattle.operad_run.specs.Queries.{IsAnswered, IsNoQuery};
 
-use crate::opening::is_word;
-use presentation_text::{ElementRead, Token, read_element, tokens, write_sum};
+use presentation_text::{ElementRead, Token, is_word, read_element, tokens, write_sum};
 use prime_field::Field;
 use std::alloc::{AllocError, Global};
 use symmetric_sums::{Sum, collected};

@@ -5,10 +5,9 @@ ghost use Rattle.operad_run.specs.FormsRuns.{IsRun};
 
 use crate::commands::forms_arity;
 use crate::documents::forms;
-use crate::forms_fail::FormsFail;
 use crate::status::Status;
 use outside_io::{ReadFail, Sink, Source, read_all, write_all};
-use presentation_text::write_number;
+use presentation_text::{LineFail, write_number};
 use std::alloc::{AllocError, Global};
 
 // The most bytes that a document has.
@@ -71,10 +70,10 @@ pub fn operad_run<S: Source, K: Sink>(
     };
     match forms(alloc, bytes.as_slice(), most) {
         Ok(text) => tell(sink, text.as_slice(), Status::Done),
-        Err(FormsFail::At { line }) => match fault_text(alloc, line) {
+        Err(LineFail::At { line }) => match fault_text(alloc, line) {
             Ok(text) => tell(sink, text.as_slice(), Status::Document),
             Err(_) => Status::NoMemory,
         },
-        Err(FormsFail::NoMemory) => Status::NoMemory,
+        Err(LineFail::NoMemory) => Status::NoMemory,
     }
 }

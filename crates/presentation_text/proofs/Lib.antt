@@ -8,3 +8,5 @@ pub mod ElementTerms
 pub mod ElementSums
 pub mod ElementsOnce
 pub mod PrintedSums
+pub mod OpeningSteps
+pub mod OneTable

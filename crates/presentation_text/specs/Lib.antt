@@ -4,4 +4,9 @@ pub mod TreeText
 pub mod Elements
 pub mod ElementSteps
 pub mod SumText
+pub mod Opening
+pub mod ElementLines
+pub mod Documents
+pub mod OpeningLines
+pub mod Stops
 pub mod Laws

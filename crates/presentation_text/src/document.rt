@@ -10,7 +10,7 @@ pub struct Document {
     pub version: u8,
     pub field: Field,
     pub order: OrderName,
-    /// The weight of each generator where the order is `WeightPath`; else none.
+    /// The weight of each generator, which no other order than `WeightPath` reads.
     pub weights: Items<u32>,
     pub gens: GenTable,
     pub rels: Items<Sum>,

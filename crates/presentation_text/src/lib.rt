@@ -2,16 +2,26 @@
 #![tactic(auto)]
 
 mod document;
+mod documents;
+mod element_lines;
 mod elements;
+mod kinds;
 mod lexing;
+mod line_fail;
 mod lines;
+mod opening;
 mod reading;
 mod writing;
 
 pub use document::{Ask, AskKind, Document, OrderName, Tail};
+pub use documents::read_document;
+pub use element_lines::read_element_line;
 pub use elements::{ElementRead, elements_are_read_once, read_element};
+pub use kinds::{DocFail, DocKind, ReadDocFail};
 pub use lexing::{Token, tokens, tokens_are_defined, words_are_words};
+pub use line_fail::LineFail;
 pub use lines::{counts, lines_are_defined, next_line};
+pub use opening::{is_word, read_table, skip_opening};
 pub use reading::{read_tree, trees_are_read_once};
 pub use writing::{
     print_sum, print_tree, printed_sums_are_read_back, printed_trees_are_read_back, write_number,

@@ -1,7 +1,7 @@
 use Rattle.std.proofs.Common.{◌≡◌, ℕ, subst, ap, map, arith}
 use Rattle.std.specs.Bool.{OnTrue, OnFalse}
 use Rattle.presentation_text.specs.Tokens.{tokens}
-use Rattle.operad_run.specs.OneGenerator.{token_lines}
+use Rattle.presentation_text.specs.Opening.{token_lines}
 use Rattle.operad_run.specs.Queries.{IsAnswered, IsNoQuery}
 use Rattle.operad_run.proofs.AnswerSteps.{none_so_far, one_more, first_other}
 use Rattle.operad_run.proofs.documents.answers.Goals as goal

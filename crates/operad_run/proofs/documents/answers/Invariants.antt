@@ -1,5 +1,5 @@
 use Rattle.std.proofs.Common.{◌+◌, ◌≤◌, length}
-use Rattle.operad_run.specs.OneGenerator.{token_lines}
+use Rattle.presentation_text.specs.Opening.{token_lines}
 use Rattle.operad_run.proofs.AnswerSteps.{AnsweredSoFar}
 use Rattle.operad_run.proofs.documents.answers.Given as goal
 

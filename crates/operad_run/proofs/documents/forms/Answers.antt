@@ -2,11 +2,12 @@ use Rattle.std.proofs.Common.{◌≡◌, ◌++◌, ◌∙◌, ap, map, refl, sub
 use Rattle.std.specs.Option.{IfNone, IfSome}
 use Rattle.symmetric_trees.specs.declared.generators.Generator.{Generator}
 use Rattle.presentation_text.specs.Tokens.{tokens}
-use Rattle.operad_run.specs.OneGenerator.{opening, IsGeneratorLine, IsTableLine, IsFirstFault, token_lines}
+use Rattle.presentation_text.specs.Opening.{opening, IsGeneratorLine, IsTableLine, token_lines}
+use Rattle.operad_run.specs.OneGenerator.{IsFirstFault}
 use Rattle.operad_run.specs.Documents.{IsAnswered}
-use Rattle.operad_run.specs.OpeningLines.{IsOpeningFault}
-use Rattle.operad_run.specs.Stops.{StopsAt}
-use Rattle.operad_run.proofs.OpeningSteps.{handed_on, stops-map}
+use Rattle.presentation_text.specs.OpeningLines.{IsOpeningFault}
+use Rattle.presentation_text.specs.Stops.{StopsAt}
+use Rattle.presentation_text.proofs.OpeningSteps.{handed_on, stops-map}
 use Rattle.operad_run.proofs.DocumentLines.{opening_fault, generator_missing, generator_fault}
 use Rattle.operad_run.proofs.FormsSteps.{queries_led}
 use Rattle.operad_run.proofs.documents.forms.Goals as goal

@@ -1,7 +1,8 @@
 use Rattle.std.proofs.Common.{◌∙◌, ap, map, string_bytes, refl, subst, sym, Err}
-use Rattle.operad_run.specs.OneGenerator.{IsFirstFault, token_lines}
+use Rattle.presentation_text.specs.Opening.{token_lines}
+use Rattle.operad_run.specs.OneGenerator.{IsFirstFault}
 use Rattle.operad_run.specs.Documents.{IsAnswered}
-use Rattle.operad_run.specs.Stops.{StopsAt}
+use Rattle.presentation_text.specs.Stops.{StopsAt}
 use Rattle.operad_run.specs.declared.status.Status.TheVariants.{Done, Usage, Document, Limit, ReadFault}
 use Rattle.operad_run.proofs.FormsRuns.{told_is_run}
 use Rattle.operad_run.proofs.run.operad_run.Goals as goal

@@ -2,15 +2,15 @@
 use Rattle.std.proofs.Common.{◌≡◌, ℕ, ◌+◌, List, [], ◌∷◌, ◌++◌, length, Result, Ok, Err, refl, ap, sym, ◌∙◌, subst}
 use Rattle.std.specs.Result.{IsErr, IsErrAnd, IfOk, MatchResult}
 use Rattle.presentation_text.specs.declared.lexing.Token.{Token}
-use Rattle.operad_run.specs.OneGenerator.{opening}
-use Rattle.operad_run.specs.OpeningLines.{opening_line, StartsWithout, IsOpeningFault}
-use Rattle.operad_run.specs.Stops.{StopsAt}
-use Rattle.operad_run.specs.declared.forms_fail.FormsFail.{FormsFail}
-use Rattle.operad_run.specs.declared.forms_fail.FormsFail.TheVariants.{At, NoMemory}
-use Rattle.operad_run.specs.declared.opening.OpeningLine.TheVariants.{Header, Field, Order}
+use Rattle.presentation_text.specs.Opening.{opening}
+use Rattle.presentation_text.specs.OpeningLines.{opening_line, StartsWithout, IsOpeningFault}
+use Rattle.presentation_text.specs.Stops.{StopsAt}
+use Rattle.presentation_text.specs.declared.line_fail.LineFail.{LineFail}
+use Rattle.presentation_text.specs.declared.line_fail.LineFail.TheVariants.{At, NoMemory}
+use Rattle.presentation_text.specs.declared.opening.OpeningLine.TheVariants.{Header, Field, Order}
 
 -- what a number is said to be may be said in another way
-pub stops-map : (P Q : ℕ → Type 0) (fail : FormsFail) → ((n : ℕ) → P n → Q n) → StopsAt P fail → StopsAt Q fail
+pub stops-map : (P Q : ℕ → Type 0) (fail : LineFail) → ((n : ℕ) → P n → Q n) → StopsAt P fail → StopsAt Q fail
 stops-map P Q (At n) f h = f n h
 stops-map P Q NoMemory f h = tt
 
@@ -56,12 +56,12 @@ pub whole_opening : (document middle last rest : List (List Token)) → document
 whole_opening document middle last rest e f g = e ∙ ap (λ ls. opening_line Header ∷ ls) (f ∙ ap (λ ls. opening_line Field ∷ ls) g)
 
 -- an error that is handed on
-pub handed_on : {A : Type 0} (r : Result A FormsFail) (P : A → Type 0) (Q : FormsFail → Type 0) (fail : FormsFail) → IsErr r → IsErrAnd r (λ e. e ≡ fail) → Q fail → MatchResult r P Q
+pub handed_on : {A : Type 0} (r : Result A LineFail) (P : A → Type 0) (Q : LineFail → Type 0) (fail : LineFail) → IsErr r → IsErrAnd r (λ e. e ≡ fail) → Q fail → MatchResult r P Q
 handed_on (Ok x) P Q fail h e q = absurd e
 handed_on (Err f) P Q fail h e q = subst Q (sym e) q
 
 -- where the first two lines stand, all is as the third one says
-pub opening_led : {A : Type 0} (document middle last : List (List Token)) (lines_of : A → List (List Token)) (r : Result A FormsFail)
+pub opening_led : {A : Type 0} (document middle last : List (List Token)) (lines_of : A → List (List Token)) (r : Result A LineFail)
     → document ≡ opening_line Header ∷ middle → middle ≡ opening_line Field ∷ last
     → MatchResult r (λ rest. last ≡ opening_line Order ∷ lines_of rest) (StopsAt (λ at. (at ≡ 3) × StartsWithout (opening_line Order) last))
     → MatchResult r (λ rest. document ≡ opening ++ lines_of rest) (StopsAt (IsOpeningFault document))
@@ -70,10 +70,10 @@ opening_led document middle last lines_of (Err fail) e f h =
     stops-map (λ at. (at ≡ 3) × StartsWithout (opening_line Order) last) (IsOpeningFault document) fail (λ at. no_order document middle last at e f) h
 
 -- an error that is handed on has no value
-pub no_value : {A : Type 0} (r : Result A FormsFail) (P : A → Type 0) (Q : FormsFail → Type 0) → IsErrAnd r Q → IfOk r P
+pub no_value : {A : Type 0} (r : Result A LineFail) (P : A → Type 0) (Q : LineFail → Type 0) → IsErrAnd r Q → IfOk r P
 no_value (Ok x) P Q h = absurd h
 no_value (Err fail) P Q h = tt
 
-pub value-imp : {A : Type 0} (r : Result A FormsFail) (P Q : A → Type 0) → ((x : A) → P x → Q x) → IfOk r P → IfOk r Q
+pub value-imp : {A : Type 0} (r : Result A LineFail) (P Q : A → Type 0) → ((x : A) → P x → Q x) → IfOk r P → IfOk r Q
 value-imp (Ok x) P Q f h = f x h
 value-imp (Err fail) P Q f h = tt

@@ -4,24 +4,26 @@ ghost use Rattle.symmetric_trees.specs.declared.generators.PartKind.{PartKind};
 ghost use Rattle.presentation_text.specs.Tokens.{tokens as tokens_of};
 ghost use Rattle.presentation_text.specs.declared.lexing.Token.{Token};
 ghost use Rattle.presentation_text.specs.declared.lexing.Token.TheVariants.{Word, Number};
-ghost use Rattle.operad_run.specs.OneGenerator.{opening, IsGeneratorLine, IsKindWord, IsTableLine, token_lines};
-ghost use Rattle.operad_run.specs.OpeningLines.{opening_line, IsOpeningFault, StartsWithout};
-ghost use Rattle.operad_run.specs.Stops.{StopsAt};
+ghost use Rattle.presentation_text.specs.Opening.{opening, IsGeneratorLine, IsKindWord, IsTableLine, token_lines};
+ghost use Rattle.presentation_text.specs.OpeningLines.{opening_line, IsOpeningFault, StartsWithout};
+ghost use Rattle.presentation_text.specs.Stops.{StopsAt};
 
-use crate::forms_fail::FormsFail;
-use presentation_text::{Token, next_line, tokens};
+use crate::lexing::{Token, tokens};
+use crate::line_fail::LineFail;
+use crate::lines::next_line;
 use sqlite_items::Items;
 use std::alloc::{AllocError, Global};
 use symmetric_trees::{GenTable, Generator, Name, Part, PartKind};
 
-/// The lines that a document opens with.
+// The lines that a document opens with.
 #[derive(Clone, Copy, Debug, PartialEq, Eq)]
-pub enum OpeningLine {
+enum OpeningLine {
     Header,
     Field,
     Order,
 }
 
+/// Whether the token is this word.
 pub fn is_word(token: &Token, word: &str) -> bool
     ensures { IsTrue result ↔ (token.now ≡ Word word.now) }
 {
@@ -55,29 +57,29 @@ impl OpeningLine {
     }
 
     // The text behind this line, which is the text's first, with this number.
-    fn skip(self, alloc: Global, text: &[u8], number: u32) -> Result<&[u8], FormsFail>
+    fn skip(self, alloc: Global, text: &[u8], number: u32) -> Result<&[u8], LineFail>
         ensures skipped { MatchResult result (λ rest. token_lines text.now ≡ opening_line self ∷ token_lines rest.now)
             (StopsAt (λ at. (at ≡ number) × StartsWithout (opening_line self) (token_lines text.now))) }
         ensures shorter { IfOk result (λ rest. length rest.now ≤ length text.now) }
     {
         let Some((line, rest)) = next_line(text) else {
-            return Err(FormsFail::At { line: number });
+            return Err(LineFail::At { line: number });
         };
         match tokens(alloc, line) {
             Ok(found) => {
                 if self.has_tokens(found.as_slice()) {
                     Ok(rest)
                 } else {
-                    Err(FormsFail::At { line: number })
+                    Err(LineFail::At { line: number })
                 }
             }
-            Err(_) => Err(FormsFail::NoMemory),
+            Err(_) => Err(LineFail::NoMemory),
         }
     }
 }
 
 fn binary(alloc: Global, name: &Name, kind: PartKind) -> Result<Generator, AllocError>
-    ensures { IfOk result (λ generator. generator ≡ Rattle.operad_run.specs.OneGenerator.binary name.now kind) }
+    ensures { IfOk result (λ generator. generator ≡ Rattle.presentation_text.specs.Opening.binary name.now kind) }
 {
     let mut parts = Items::new(alloc);
     parts.push(Part { kind, size: 2 })?;
@@ -165,8 +167,9 @@ pub fn read_table(alloc: Global, line: &[u8]) -> Result<Option<GenTable>, AllocE
     }
 }
 
-/// The text behind the first three lines; `At` with the number of the first one that is another or missing.
-pub fn skip_opening(alloc: Global, text: &[u8]) -> Result<&[u8], FormsFail>
+/// The text behind the first three lines, which have the tokens of `operad 1`, `field 101` and `order path`; `At` with the
+/// number of the first one that is another or missing. `NoMemory` comes for want of memory alone.
+pub fn skip_opening(alloc: Global, text: &[u8]) -> Result<&[u8], LineFail>
     ensures skipped { MatchResult result (λ rest. token_lines text.now ≡ opening ++ token_lines rest.now)
         (StopsAt (IsOpeningFault (token_lines text.now))) }
     ensures shorter { IfOk result (λ rest. length rest.now ≤ length text.now) }

@@ -2,8 +2,8 @@ use Rattle.std.proofs.Common.{◌≡◌, sym, ◌∙◌, subst}
 use Rattle.std.specs.Option.{IfNone}
 use Rattle.symmetric_trees.specs.declared.generators.Generator.{Generator}
 use Rattle.presentation_text.specs.Tokens.{tokens}
-use Rattle.operad_run.specs.OneGenerator.{IsGeneratorLine}
-use Rattle.operad_run.proofs.opening.read_table.Goals as goal
+use Rattle.presentation_text.specs.Opening.{IsGeneratorLine}
+use Rattle.presentation_text.proofs.opening.read_table.Goals as goal
 
 pub returns-clause-absent : goal.returns-clause-absent
 returns-clause-absent c generator h =

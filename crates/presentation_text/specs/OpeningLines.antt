@@ -1,10 +1,10 @@
 -- The lines that a document opens with, one by one.
 use Rattle.std.specs.Prelude.{ℕ, ◌≡◌, ◌+◌, List, ◌∷◌, ◌++◌, length, codes, []}
-use Rattle.operad_run.specs.declared.opening.OpeningLine.{OpeningLine}
-use Rattle.operad_run.specs.declared.opening.OpeningLine.TheVariants.{Header, Field, Order}
+use Rattle.presentation_text.specs.declared.opening.OpeningLine.{OpeningLine}
+use Rattle.presentation_text.specs.declared.opening.OpeningLine.TheVariants.{Header, Field, Order}
 use Rattle.presentation_text.specs.declared.lexing.Token.{Token}
 use Rattle.presentation_text.specs.declared.lexing.Token.TheVariants.{Word, Number}
-use Rattle.operad_run.specs.OneGenerator.{opening}
+use Rattle.presentation_text.specs.Opening.{opening}
 
 abbrev pub opening_line : OpeningLine → List Token
 opening_line Header = Word (codes "operad") ∷ (Number 1 ∷ [])

@@ -6,7 +6,7 @@ use Rattle.symmetric_trees.specs.declared.generators.PartKind.{PartKind}
 use Rattle.symmetric_trees.specs.declared.generators.PartKind.TheVariants.{Sym, Alt, Free}
 use Rattle.symmetric_trees.proofs.Tables.{table-push}
 use Rattle.presentation_text.specs.declared.lexing.Token.{Token}
-use Rattle.operad_run.specs.OneGenerator.{binary, IsKindWord, IsGeneratorLine}
+use Rattle.presentation_text.specs.Opening.{binary, IsKindWord, IsGeneratorLine}
 
 one_kind : (kind other : PartKind) (word : List ℕ) → IsKindWord kind word → IsKindWord other word → kind ≡ other
 one_kind Sym Sym word h g = refl

@@ -1,10 +1,10 @@
 use Rattle.std.proofs.Common.{◌≡◌, ◌≤◌, ◌++◌, length, arith}
-use Rattle.operad_run.specs.OneGenerator.{opening, token_lines}
-use Rattle.operad_run.specs.OpeningLines.{opening_line, StartsWithout, IsOpeningFault}
-use Rattle.operad_run.specs.Stops.{StopsAt}
-use Rattle.operad_run.specs.declared.opening.OpeningLine.TheVariants.{Header, Field, Order}
-use Rattle.operad_run.proofs.OpeningSteps.{stops-map, no_header, no_field, no_order, opening_led, handed_on, no_value, value-imp}
-use Rattle.operad_run.proofs.opening.skip_opening.Goals as goal
+use Rattle.presentation_text.specs.Opening.{opening, token_lines}
+use Rattle.presentation_text.specs.OpeningLines.{opening_line, StartsWithout, IsOpeningFault}
+use Rattle.presentation_text.specs.Stops.{StopsAt}
+use Rattle.presentation_text.specs.declared.opening.OpeningLine.TheVariants.{Header, Field, Order}
+use Rattle.presentation_text.proofs.OpeningSteps.{stops-map, no_header, no_field, no_order, opening_led, handed_on, no_value, value-imp}
+use Rattle.presentation_text.proofs.opening.skip_opening.Goals as goal
 
 pub returns-in_err-rest : goal.returns-in_err-rest
 returns-in_err-rest c = record {

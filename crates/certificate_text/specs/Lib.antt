@@ -1,0 +1,3 @@
+pub mod UseText
+pub mod BlockText
+pub mod Laws
