@@ -1,0 +1,2 @@
+pub mod GoodUses
+pub mod HeldSteps

@@ -158,7 +158,7 @@ place-valid generators terms n instance h l = record {
 pub leaves-named : (terms : List Term) (m i : ℕ) (t : Term) → HaveArity m terms → i < length terms → t ≡ get_or terms i t → AllLeaves (tree_of t.tree) (λ j. (0 < j) × (j ≤ m))
 leaves-named terms m i t h l e = by_leaf (tree_of t.tree) (λ j. (0 < j) × (j ≤ m)) (subst (λ (x : Term). IsNumbered m (tree_of x.tree)) (sym e) (h i t l)).only
 
-one_label : (generators : List Generator) (m n : ℕ) (t : Tree ℕ) → IsLabelled generators m t → IsLabelled generators n t → m ≡ n
+pub one_label : (generators : List Generator) (m n : ℕ) (t : Tree ℕ) → IsLabelled generators m t → IsLabelled generators n t → m ≡ n
 one_label generators m n t a b = one_number m n t (numbering (arity (parts_at generators)) m t a) (numbering (arity (parts_at generators)) n t b)
 
 -- ---- the steps of the loop
