@@ -53,10 +53,10 @@ products-all : (p c : ℕ) (e : List (ℕ × Tree ℕ)) (P : Tree ℕ → Type 0
 products-all p c [] P h = tt
 products-all p c (x ∷ e) P h = (h.0, products-all p c e P h.1)
 
-without_zeros-zero : (x : ℕ × Tree ℕ) (e : List (ℕ × Tree ℕ)) → x.0 ≡ 0 → without_zeros (x ∷ e) ≡ without_zeros e
+pub without_zeros-zero : (x : ℕ × Tree ℕ) (e : List (ℕ × Tree ℕ)) → x.0 ≡ 0 → without_zeros (x ∷ e) ≡ without_zeros e
 without_zeros-zero x e z = rw z refl
 
-without_zeros-some : (x : ℕ × Tree ℕ) (e : List (ℕ × Tree ℕ)) → x.0 ≢ 0 → without_zeros (x ∷ e) ≡ x ∷ without_zeros e
+pub without_zeros-some : (x : ℕ × Tree ℕ) (e : List (ℕ × Tree ℕ)) → x.0 ≢ 0 → without_zeros (x ∷ e) ≡ x ∷ without_zeros e
 without_zeros-some x e z = go (x.0 == 0) refl
   where
     go : (b : Bool) → (x.0 == 0) ≡ b → without_zeros (x ∷ e) ≡ x ∷ without_zeros e

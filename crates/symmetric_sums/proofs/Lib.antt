@@ -9,3 +9,5 @@ pub mod Decisions
 pub mod SymmetryRules
 pub mod Expansions
 pub mod EqualTerms
+pub mod PlacedIdeals
+pub mod Members
