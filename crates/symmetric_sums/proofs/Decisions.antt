@@ -139,7 +139,7 @@ module _ (p : Presentation) (n : ℕ) where
           ap (λ m. m % suc p.q) e₁ ∙ alike_mul p.q x.0 x.0 (p.q * residue_of p.q s) (residue_of p.q (times minus s)) refl (residue-times p.q minus s)
       go (no _) = let z : p.q * 0 ≡ x.0 * 0 = omega arith in ap (λ m. m % suc p.q) z
 
-  less_spelled : (e : List (ℕ × Tree ℕ)) → AllTerms e (IsLabelled (arity_of p) n) → InIdeal (without_relations p) n (e ++ scale p.q (spelled_sum p.q (parts p) e))
+  pub less_spelled : (e : List (ℕ × Tree ℕ)) → AllTerms e (IsLabelled (arity_of p) n) → InIdeal (without_relations p) n (e ++ scale p.q (spelled_sum p.q (parts p) e))
   unfolding coef scale
   less_spelled [] l = ideal_zero (without_relations p) n
   less_spelled (x ∷ e) l =
@@ -159,7 +159,7 @@ module _ (p : Presentation) (n : ℕ) where
 
   -- ---- collected forms
 
-  form-same : (e f : List (ℕ × Tree ℕ)) → IsCollected (p.q + 1) (parts p) e f → Same tree_discrete p.q f (spelled_sum p.q (parts p) e)
+  pub form-same : (e f : List (ℕ × Tree ℕ)) → IsCollected (p.q + 1) (parts p) e f → Same tree_discrete p.q f (spelled_sum p.q (parts p) e)
   form-same e f c = let z : p.q + 1 - 1 ≡ p.q = omega arith in subst (λ m. Same tree_discrete m f (spelled_sum m (parts p) e)) z c.same
 
   less-coef : (e f : List (ℕ × Tree ℕ)) (t : Tree ℕ) → coef tree_discrete (e ++ scale p.q f) t ≡ coef tree_discrete e t + p.q * coef tree_discrete f t

@@ -11,3 +11,4 @@ pub mod Expansions
 pub mod EqualTerms
 pub mod PlacedIdeals
 pub mod Members
+pub mod OneForms

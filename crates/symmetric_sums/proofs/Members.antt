@@ -1,5 +1,5 @@
 -- Instances of relations, of symmetry rules and of members are members.
-use Rattle.std.proofs.Common.{◌≡◌, ℕ, zero, suc, ◌+◌, ◌-◌, ◌*◌, ◌%◌, ◌<◌, ◌≤◌, List, [], ◌∷◌, length, map, get_or, Option, Some, None, refl, ap, sym, ◌∙◌, subst, arith, inl, inr}
+use Rattle.std.proofs.Common.{◌≡◌, ℕ, zero, suc, ◌+◌, ◌-◌, ◌*◌, ◌%◌, ◌<◌, List, [], ◌∷◌, length, map, Option, Some, None, refl, ap, sym, ◌∙◌, subst, arith, inl, inr}
 use Rattle.std.specs.List.{All, AllByRecursion}
 use Rattle.std.proofs.Math.Nat.{mod-mod}
 use Rattle.std.proofs.lemmas.List.{length-map}
@@ -14,7 +14,6 @@ use Rattle.labelled_trees.specs.Trees.{Tree, graft, node}
 use Rattle.labelled_trees.specs.Contexts.{fill}
 use Rattle.labelled_trees.specs.Equality.{tree_discrete}
 use Rattle.labelled_trees.specs.Insertions.{IsContext, put, item}
-use Rattle.labelled_trees.specs.Labelled as labelled
 use Rattle.labelled_trees.specs.Leaves.{occurs}
 use Rattle.labelled_trees.specs.Meaning.{tree_of}
 use Rattle.labelled_trees.specs.declared.Tree as program
@@ -22,9 +21,9 @@ use Rattle.labelled_trees.proofs.Holes.{hole_at}
 use Rattle.labelled_trees.proofs.Insertions.{put-fill}
 use Rattle.operad_ideals.specs.Laws.{arity}
 use Rattle.operad_ideals.specs.Parts.{Sign}
-use Rattle.operad_ideals.specs.Presentations.{Relation, Presentation, arity_of, IsSound}
+use Rattle.operad_ideals.specs.Presentations.{Relation, Presentation, IsSound}
 use Rattle.operad_ideals.specs.Rules.{numbered, Rule, relation, symmetry, rule_arity, rule_terms}
-use Rattle.operad_ideals.specs.Ideals.{placed, Instance as PlainInstance, element, InIdeal}
+use Rattle.operad_ideals.specs.Ideals.{Instance as PlainInstance, element, InIdeal}
 use Rattle.operad_ideals.specs.HoleInstances.{InHoleIdeal}
 use Rattle.operad_ideals.proofs.Ideals.{ideal_one, ideal-scale, ideal-same}
 use Rattle.operad_ideals.proofs.HoleInstances.{ideals_are_one}
@@ -137,7 +136,7 @@ module _ (p : ℕ) (generators : List Generator) (rels : List (List Term)) (n : 
   sound_each (x ∷ xs) h r (inl e) = subst (λ z. AllTerms z.terms (IsLabelled generators z.arity)) (sym e) h.0
   sound_each (x ∷ xs) h r (inr m) = sound_each xs h.1 r m
 
-  sound : All (λ rel. IsElement generators (terms_of rel)) rels → IsSound whole
+  pub sound : All (λ rel. IsElement generators (terms_of rel)) rels → IsSound whole
   sound h = sound_each rels (recursion_from_All (λ rel. IsElement generators (terms_of rel)) rels h)
 
   around_member : All (λ rel. IsElement generators (terms_of rel)) rels → (e : List (ℕ × Tree ℕ)) (instance : Instance) → IsMember p generators rels e → IsValid generators e n instance

@@ -1,5 +1,5 @@
 -- The ideal is closed under filling contexts and grafting inputs.
-use Rattle.std.proofs.Common.{◌≡◌, ℕ, suc, ◌+◌, ◌*◌, ◌<◌, ◌≤◌, List, [], ◌∷◌, refl, ap, ap₂, sym, ◌∙◌, subst, arith}
+use Rattle.std.proofs.Common.{◌≡◌, ℕ, suc, ◌*◌, ◌<◌, List, ap, sym, ◌∙◌, subst, arith}
 use native.Mathlib.Decide.{ℕ_discrete, dec_lt}
 use Rattle.modular_sums.specs.Sums.{moved, AllTerms}
 use Rattle.modular_sums.proofs.Images.{AllTerms-imp, moved-moved, moved_ext}
@@ -18,7 +18,7 @@ use Rattle.labelled_trees.proofs.Grafts.{graft_assoc}
 use Rattle.labelled_trees.proofs.Leaves.{by_leaf, at_leaf}
 use Rattle.labelled_trees.proofs.RangeSums.{by_counts, range_sum_ext}
 use Rattle.operad_ideals.specs.Presentations.{Presentation, arity_of}
-use Rattle.operad_ideals.specs.Rules.{Rule, rule_terms}
+use Rattle.operad_ideals.specs.Rules.{rule_terms}
 use Rattle.operad_ideals.specs.HoleInstances.{HoleInstance, hole_element, InHoleIdeal}
 
 -- ---- trees with the same labels
