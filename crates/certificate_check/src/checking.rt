@@ -2,6 +2,7 @@ ghost use Rattle.std.specs.Prelude.{◌-◌, ◌^◌, ◌<◌, ◌↔◌, IfOk, 
 ghost use Rattle.std.specs.List.{All};
 ghost use Rattle.symmetric_sums.specs.Terms.{FitsOver};
 ghost use Rattle.certificate_check.specs.Blocks.{AreReady, IsReady, IsWanted, elements_of};
+ghost use Rattle.certificate_check.specs.Soundness.{HeldBlocksAreMembers};
 ghost use Rattle.certificate_check.specs.Answers.{IsAnswer};
 ghost use Rattle.certificate_check.specs.Checking.{IsChecked, IsRefusal};
 
@@ -113,3 +114,8 @@ fn check_step(
     }
     Err(Fault::Cause(CheckCause::Differs))
 }
+
+/// Law: the wanted element of a block that holds is in the ideal that the relations generate, in its arity.
+pub fn held_blocks_are_members()
+    ensures law { HeldBlocksAreMembers }
+{}
