@@ -1,0 +1,3 @@
+pub mod GoodUses
+pub mod HeldSteps
+pub mod HeldBlocks

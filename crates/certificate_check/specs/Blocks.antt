@@ -1,5 +1,5 @@
 -- When a block of steps holds.
-use Rattle.std.specs.Prelude.{ℕ, ◌≡◌, ◌<◌, ◌++◌, List, [], ◌∷◌, map, flat_map}
+use Rattle.std.specs.Prelude.{ℕ, ◌<◌, ◌++◌, List, [], ◌∷◌, map, flat_map}
 use Rattle.std.specs.List.{All}
 use Rattle.labelled_trees.specs.Trees.{Tree}
 use Rattle.symmetric_trees.specs.Generators.{parts_at}

@@ -11,8 +11,9 @@ use Rattle.symmetric_sums.specs.declared.instance.Instance.{Instance}
 use Rattle.certificate_text.specs.declared.block.Step.{Step}
 use Rattle.certificate_check.specs.Blocks.{cited, IsGoodUse, AreGoodUses, sum_of, StepHolds}
 use Rattle.certificate_check.specs.Answers.{IsAhead, HasUseFault, IsStepFault}
-use Rattle.certificate_check.specs.declared.answer.CheckCause.{CheckCause}
 use Rattle.certificate_check.specs.declared.answer.CheckCause.TheVariants.{Ahead, UseUnfit, Differs, NotWanted}
+use Rattle.certificate_check.specs.declared.answer.CheckAnswer.{CheckAnswer}
+use Rattle.certificate_check.specs.declared.answer.CheckAnswer.TheVariants.{Accepted, Refused}
 use Rattle.certificate_check.specs.declared.uses.Fault.{Fault}
 use Rattle.certificate_check.specs.declared.uses.Fault.TheVariants.{Cause, NoMemory as OutOfMemory}
 
@@ -42,3 +43,8 @@ abbrev pub IsChecked : ℕ → List Generator → List (List Term) → List (Lis
 IsChecked p generators rels earlier step (Ok done) = StepHolds p generators rels earlier step
 IsChecked p generators rels earlier step (Err (Cause cause)) = IsStepFault p generators rels earlier step cause
 IsChecked p generators rels earlier step (Err OutOfMemory) = Unit {0}
+
+-- the answer names the step and the fault's cause
+abbrev pub IsRefusal : ℕ → Fault → CheckAnswer → Type 0
+IsRefusal k fault Accepted = ⊥
+IsRefusal k fault (Refused step cause) = (step ≡ k) × (fault ≡ Cause cause)

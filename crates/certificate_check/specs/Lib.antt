@@ -1,3 +1,4 @@
 pub mod Blocks
 pub mod Answers
 pub mod Checking
+pub mod Soundness

@@ -1,9 +1,10 @@
-ghost use Rattle.std.specs.Prelude.{◌≡◌, ◌+◌, ◌-◌, ◌^◌, ◌<◌, IfOk, length};
+ghost use Rattle.std.specs.Prelude.{◌-◌, ◌^◌, ◌<◌, ◌↔◌, IfOk, IsTrue, length};
 ghost use Rattle.std.specs.List.{All};
 ghost use Rattle.symmetric_sums.specs.Terms.{FitsOver};
-ghost use Rattle.certificate_check.specs.Blocks.{AreReady, IsReady, elements_of};
+ghost use Rattle.certificate_check.specs.Blocks.{AreReady, IsReady, IsWanted, elements_of};
+ghost use Rattle.certificate_check.specs.Soundness.{HeldBlocksAreMembers};
 ghost use Rattle.certificate_check.specs.Answers.{IsAnswer};
-ghost use Rattle.certificate_check.specs.Checking.{IsChecked};
+ghost use Rattle.certificate_check.specs.Checking.{IsChecked, IsRefusal};
 
 use crate::uses::{Fault, sum_of_uses};
 use crate::{CheckAnswer, CheckCause};
@@ -52,28 +53,47 @@ pub fn check_steps(
 {
     let mut before: u32 = 0;
     for step in steps {
-        match check_step(alloc, document, &steps[..before as usize], step) {
-            Ok(()) => {}
-            Err(Fault::Cause(cause)) => {
-                let step = before + 1;
-                return Ok(CheckAnswer::Refused { step, cause });
-            }
-            Err(Fault::NoMemory) => return Err(AllocError),
+        if let Err(fault) = check_step(alloc, document, &steps[..before as usize], step) {
+            return refused(before + 1, fault);
         }
         before += 1;
     }
-    let nothing = Sum::new(alloc);
-    let last = match steps {
-        [.., step] => &step.element,
-        [] => &nothing,
-    };
-    if have_one_form(alloc, document.field, &document.gens, want, last)? {
+    if is_wanted(alloc, document, want, steps)? {
         return Ok(CheckAnswer::Accepted);
     }
     Ok(CheckAnswer::Refused {
         step: before,
         cause: CheckCause::NotWanted,
     })
+}
+
+// The answer at a fault of a step.
+fn refused(step: u32, fault: Fault) -> Result<CheckAnswer, AllocError>
+    ensures { IfOk result (IsRefusal step fault) }
+{
+    match fault {
+        Fault::Cause(cause) => Ok(CheckAnswer::Refused { step, cause }),
+        Fault::NoMemory => Err(AllocError),
+    }
+}
+
+// Whether the wanted element and that of the last step collect to the same sum; without steps, whether it collects to 0.
+fn is_wanted(
+    alloc: Global,
+    document: &Document,
+    want: &Sum,
+    steps: &[Step],
+) -> Result<bool, AllocError>
+    requires want { FitsOver document.now.field document.now.gens want.now }
+    requires steps { AreReady document.now.field document.now.gens steps.now }
+    ensures { IfOk result (λ wanted. IsTrue wanted ↔ IsWanted document.now.field document.now.gens want.now steps.now) }
+{
+    let field = document.field;
+    let gens = &document.gens;
+    match steps {
+        [.., last] => have_one_form(alloc, field, gens, want, &last.element),
+        [] => have_one_form(alloc, field, gens, want, &Sum::new(alloc)),
+    }
 }
 
 // Whether a step holds over those before it.
@@ -94,3 +114,8 @@ fn check_step(
     }
     Err(Fault::Cause(CheckCause::Differs))
 }
+
+/// Law: the wanted element of a block that holds is in the ideal that the relations generate, in its arity.
+pub fn held_blocks_are_members()
+    ensures law { HeldBlocksAreMembers }
+{}

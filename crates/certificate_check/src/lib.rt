@@ -6,4 +6,4 @@ mod checking;
 mod uses;
 
 pub use answer::{CheckAnswer, CheckCause};
-pub use checking::{check_block, check_steps};
+pub use checking::{check_block, check_steps, held_blocks_are_members};

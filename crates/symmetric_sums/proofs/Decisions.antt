@@ -16,7 +16,7 @@ use Rattle.symmetric_sums.specs.Collected.{IsCollected, CollectedFormsDecide}
 use Rattle.symmetric_sums.proofs.Forms.{one_reduced}
 
 module _ (p : Presentation) (n : ℕ) where
-  form-same : (e f : List (ℕ × Tree ℕ)) → IsCollected (p.q + 1) (parts p) e f → Same tree_discrete p.q f (spelled_sum p.q (parts p) e)
+  pub form-same : (e f : List (ℕ × Tree ℕ)) → IsCollected (p.q + 1) (parts p) e f → Same tree_discrete p.q f (spelled_sum p.q (parts p) e)
   form-same e f c = let z : p.q + 1 - 1 ≡ p.q = omega arith in subst (λ m. Same tree_discrete m f (spelled_sum m (parts p) e)) z c.same
 
   less-coef : (e f : List (ℕ × Tree ℕ)) (t : Tree ℕ) → coef tree_discrete (e ++ scale p.q f) t ≡ coef tree_discrete e t + p.q * coef tree_discrete f t

@@ -54,10 +54,10 @@ products-all : (p c : ℕ) (e : List (ℕ × Tree ℕ)) (P : Tree ℕ → Type 0
 products-all p c [] P h = tt
 products-all p c (x ∷ e) P h = (h.0, products-all p c e P h.1)
 
-without_zeros-zero : (x : ℕ × Tree ℕ) (e : List (ℕ × Tree ℕ)) → x.0 ≡ 0 → without_zeros (x ∷ e) ≡ without_zeros e
+pub without_zeros-zero : (x : ℕ × Tree ℕ) (e : List (ℕ × Tree ℕ)) → x.0 ≡ 0 → without_zeros (x ∷ e) ≡ without_zeros e
 without_zeros-zero x e z = rw z refl
 
-without_zeros-some : (x : ℕ × Tree ℕ) (e : List (ℕ × Tree ℕ)) → x.0 ≢ 0 → without_zeros (x ∷ e) ≡ x ∷ without_zeros e
+pub without_zeros-some : (x : ℕ × Tree ℕ) (e : List (ℕ × Tree ℕ)) → x.0 ≢ 0 → without_zeros (x ∷ e) ≡ x ∷ without_zeros e
 without_zeros-some x e z = go (x.0 == 0) refl
   where
     go : (b : Bool) → (x.0 == 0) ≡ b → without_zeros (x ∷ e) ≡ x ∷ without_zeros e
@@ -159,7 +159,7 @@ place-valid generators terms n instance h l = record {
 pub leaves-named : (terms : List Term) (m i : ℕ) (t : Term) → HaveArity m terms → i < length terms → t ≡ get_or terms i t → AllLeaves (tree_of t.tree) (λ j. (0 < j) × (j ≤ m))
 leaves-named terms m i t h l e = by_leaf (tree_of t.tree) (λ j. (0 < j) × (j ≤ m)) (subst (λ (x : Term). IsNumbered m (tree_of x.tree)) (sym e) (h i t l)).only
 
-one_label : (generators : List Generator) (m n : ℕ) (t : Tree ℕ) → IsLabelled generators m t → IsLabelled generators n t → m ≡ n
+pub one_label : (generators : List Generator) (m n : ℕ) (t : Tree ℕ) → IsLabelled generators m t → IsLabelled generators n t → m ≡ n
 one_label generators m n t a b = one_number m n t (numbered_of_labelled a) (numbered_of_labelled b)
 
 -- ---- the steps of the loop

@@ -9,3 +9,6 @@ pub mod FormTrees
 pub mod SymmetryRules
 pub mod Expansions
 pub mod EqualTerms
+pub mod PlacedIdeals
+pub mod Members
+pub mod OneForms

@@ -5,3 +5,4 @@ pub mod Collecting
 pub mod Instances
 pub mod Expanding
 pub mod Symmetries
+pub mod Membership

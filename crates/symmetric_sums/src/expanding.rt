@@ -5,6 +5,7 @@ ghost use Rattle.labelled_trees.specs.Meaning.{tree_of};
 ghost use Rattle.symmetric_trees.specs.Trees.{IsLabelled};
 ghost use Rattle.symmetric_sums.specs.Terms.{FitsOver, HaveArity, HaveResidues, terms_of};
 ghost use Rattle.symmetric_sums.specs.Instances.{IsExpanded, IsExpandedTo, rule_element, sum_at};
+ghost use Rattle.symmetric_sums.specs.Membership.{InstancesAreMembers};
 ghost use Rattle.symmetric_sums.specs.Expanding.{HasPlace, IsFilled};
 
 use crate::symmetry::symmetry_rule;
@@ -225,3 +226,9 @@ fn holes(tree: &Tree) -> u8
         }
     }
 }
+
+/// Law: where the steps are in the ideal of the relations, each valid instance of a relation, of a symmetry rule or of a step has
+/// an element in the ideal.
+pub fn instances_are_members()
+    ensures law { InstancesAreMembers }
+{}

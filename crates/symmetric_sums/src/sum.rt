@@ -1,8 +1,8 @@
-ghost use Rattle.std.specs.Prelude.{◌≡◌, ◌++◌, ◌<◌, [], ℕ, IfOk, IfSome, IfNone, MatchResult, length};
+ghost use Rattle.std.specs.Prelude.{◌≡◌, ◌++◌, ◌<◌, [], ℕ, IfOk, IfSome, IfNone, IsTrue, ◌↔◌, MatchResult, length};
 ghost use Rattle.std.specs.List.{All};
 ghost use Rattle.labelled_trees.specs.Meaning.{tree_of};
 ghost use Rattle.symmetric_trees.specs.Trees.{IsLabelled};
-ghost use Rattle.symmetric_sums.specs.Terms.{ArityIs, HaveArity, HaveOneArity, HaveResidues, IsSum, multiples, negated};
+ghost use Rattle.symmetric_sums.specs.Terms.{ArityIs, FitsOver, HaveArity, HaveOneArity, HaveResidues, IsSum, multiples, negated};
 ghost use Rattle.symmetric_sums.specs.Calls.{Added, Subtracted};
 
 use crate::Term;
@@ -96,6 +96,25 @@ impl Sum {
         ensures arity { ArityIs self.now result }
     {
         self.arity
+    }
+
+    /// Whether the sum fits a field and a table: its residues are of the field, and each vertex of its trees names a generator
+    /// of the table and has as many inputs as its arity.
+    pub fn fits(&self, field: Field, table: &GenTable) -> bool
+        ensures exact { IsTrue result ↔ FitsOver field table.now self.now }
+    {
+        let Some(_) = self.arity() else {
+            return true;
+        };
+        for term in self.terms() {
+            if term.coef >= field.prime() {
+                return false;
+            }
+            let Some(_) = arity_of(&term.tree, table) else {
+                return false;
+            };
+        }
+        true
     }
 
     /// Puts a term behind the others: a residue of the field, beside a tree that fits the table and carries 1 to `n`, each

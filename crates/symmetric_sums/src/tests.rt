@@ -1,9 +1,3 @@
-ghost use Rattle.std.specs.Prelude.{◌≡◌, ◌<◌, IsTrue};
-ghost use Rattle.std.specs.List.{All};
-ghost use Rattle.labelled_trees.specs.Meaning.{tree_of};
-ghost use Rattle.symmetric_trees.specs.Trees.{Fits};
-ghost use Rattle.symmetric_sums.specs.Terms.{HaveResidues};
-
 use crate::{Sum, SumFail, collected};
 use prime_field::Field;
 use sqlite_items::Items;
@@ -57,22 +51,6 @@ fn add(
     Ok(sum.add_term(alloc, field, table, coef, tree))
 }
 
-// Whether the sum's residues are of the field, and its trees fit the table.
-fn is_ready(field: Field, table: &GenTable, sum: &Sum) -> bool
-    ensures residues { IsTrue result → HaveResidues field sum.now }
-    ensures fit { IsTrue result → All (λ term. Fits table.now (tree_of term.tree)) sum.now }
-{
-    for term in sum.terms() {
-        if term.coef >= field.prime() {
-            return false;
-        }
-        let Some(_) = arity_of(&term.tree, table) else {
-            return false;
-        };
-    }
-    true
-}
-
 #[test]
 fn compares_trees(rt: HostRuntime) -> Result<(), Fail> {
     let alloc = rt.alloc();
@@ -103,7 +81,7 @@ fn adds_and_subtracts(rt: HostRuntime) -> Result<(), Fail> {
     assert_eq!(rt; refused, Err(SumFail::ArityDiffers));
     let mut other = Sum::new(alloc);
     add(alloc, field, &table, &mut other, 1, wide)??;
-    assert!(rt; is_ready(field, &table, &other) && is_ready(field, &table, &sum));
+    assert!(rt; other.fits(field, &table) && sum.fits(field, &table));
     let differs = match sum.minus(alloc, field, &other) {
         Ok(_) => None,
         Err(fail) => Some(fail),
@@ -124,12 +102,12 @@ fn scales_and_collects(rt: HostRuntime) -> Result<(), Fail> {
     let table = lie(alloc)?;
     let mut sum = Sum::new(alloc);
     add(alloc, field, &table, &mut sum, 1, leaves(alloc, 1, 2)?)??;
-    assert!(rt; is_ready(field, &table, &sum) && 60 < field.prime());
+    assert!(rt; sum.fits(field, &table) && 60 < field.prime());
     assert_eq!(rt; sum.scaled(alloc, field, 0)?.terms().len(), 0);
     let twice = sum.scaled(alloc, field, 60)?;
     assert_eq!(rt; twice.terms().len(), 1);
     add(alloc, field, &table, &mut sum, 3, leaves(alloc, 2, 1)?)??;
-    assert!(rt; is_ready(field, &table, &sum));
+    assert!(rt; sum.fits(field, &table));
     let form = collected(alloc, field, &table, &sum)?;
     let [term] = form.terms() else {
         return Err(Fail::from("one term"));
@@ -140,7 +118,7 @@ fn scales_and_collects(rt: HostRuntime) -> Result<(), Fail> {
         Ordering::Equal
     );
     add(alloc, field, &table, &mut sum, 2, leaves(alloc, 1, 2)?)??;
-    assert!(rt; is_ready(field, &table, &sum));
+    assert!(rt; sum.fits(field, &table));
     assert_eq!(rt; collected(alloc, field, &table, &sum)?.terms().len(), 0);
     Ok(())
 }

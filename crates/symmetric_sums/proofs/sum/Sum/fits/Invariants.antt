@@ -2,7 +2,7 @@ use Rattle.std.proofs.Common.{◌<◌, take}
 use Rattle.std.specs.List.{All}
 use Rattle.labelled_trees.specs.Meaning.{tree_of}
 use Rattle.symmetric_trees.specs.Trees.{Fits}
-use Rattle.symmetric_sums.proofs.tests.is_ready.Given as goal
+use Rattle.symmetric_sums.proofs.sum.Sum.fits.Given as goal
 
 abbrev pub invariant-loop-term : goal.invariant-loop-term
 invariant-loop-term l = record {
