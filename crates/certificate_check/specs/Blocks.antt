@@ -11,17 +11,13 @@ use Rattle.symmetric_sums.specs.declared.term.Term.{Term}
 use Rattle.symmetric_sums.specs.declared.instance.Rule.{Rule}
 use Rattle.symmetric_sums.specs.declared.instance.Rule.TheVariants.{Rel, Swap, Step as StepRule}
 use Rattle.symmetric_sums.specs.declared.instance.Instance.{Instance}
+use Rattle.certificate_text.specs.BlockText.{IsReadyStep}
 use Rattle.certificate_text.specs.declared.block.Step.{Step}
 
 -- ---- what the checker is given
 
--- the step's element fits the field and the table, and the coefficients of its uses are residues
-pub record IsReady (p : ℕ) (generators : List Generator) (step : Step) : Type 0 where
-  pub element : FitsOver p generators step.element
-  pub coefs : All (λ item. item.coef < p) step.uses
-
 abbrev pub AreReady : ℕ → List Generator → List Step → Type 0
-AreReady p generators = All (IsReady p generators)
+AreReady p generators = All (IsReadyStep p generators)
 
 -- ---- uses
 

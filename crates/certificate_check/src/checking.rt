@@ -1,8 +1,9 @@
 ghost use Rattle.std.specs.Prelude.{◌-◌, ◌^◌, ◌<◌, ◌↔◌, IfOk, IsTrue, length};
 ghost use Rattle.std.specs.List.{All};
 ghost use Rattle.symmetric_sums.specs.Terms.{FitsOver};
-ghost use Rattle.certificate_check.specs.Blocks.{AreReady, IsReady, IsWanted, elements_of};
+ghost use Rattle.certificate_check.specs.Blocks.{AreReady, IsWanted, elements_of};
 ghost use Rattle.certificate_check.specs.Soundness.{HeldBlocksAreMembers};
+ghost use Rattle.certificate_text.specs.BlockText.{IsReadyStep};
 ghost use Rattle.certificate_check.specs.Answers.{IsAnswer};
 ghost use Rattle.certificate_check.specs.Checking.{IsChecked, IsRefusal};
 
@@ -105,7 +106,7 @@ fn check_step(
 ) -> Result<(), Fault>
     requires rels { All (FitsOver document.now.field document.now.gens) document.now.rels }
     requires earlier { AreReady document.now.field document.now.gens earlier.now }
-    requires step { IsReady document.now.field document.now.gens step.now }
+    requires step { IsReadyStep document.now.field document.now.gens step.now }
     ensures { IsChecked document.now.field document.now.gens document.now.rels (elements_of earlier.now) step.now result }
 {
     let sum = sum_of_uses(alloc, document, earlier, step.uses.as_slice())?;

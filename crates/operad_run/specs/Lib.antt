@@ -6,3 +6,5 @@ pub mod Queries
 pub mod Laws
 pub mod Runs
 pub mod FormsRuns
+pub mod Certified
+pub mod CheckRuns

@@ -1,8 +1,10 @@
 //! The program: words, a source and a sink in, a status out.
 #![tactic(auto)]
 
+mod checks;
 mod commands;
 mod documents;
+mod member;
 mod queries;
 mod run;
 mod status;
@@ -10,5 +12,6 @@ mod status;
 mod tests;
 
 pub use documents::answers_are_determined;
+pub use member::check_run;
 pub use run::operad_run;
 pub use status::Status;

@@ -11,10 +11,10 @@ use presentation_text::{LineFail, write_number};
 use std::alloc::{AllocError, Global};
 
 // The most bytes that a document has.
-const MOST_BYTES: u64 = 16_777_216;
+pub(crate) const MOST_BYTES: u64 = 16_777_216;
 
 // Writes the text; the status is then this one, or that the sink failed.
-fn tell<K: Sink>(sink: &mut K, text: &[u8], status: Status) -> Status
+pub(crate) fn tell<K: Sink>(sink: &mut K, text: &[u8], status: Status) -> Status
     ensures told { Told status text.now result (K.taken sink.old) (K.taken sink.new) (K.faults sink.old) (K.faults sink.new) }
 {
     match write_all(sink, text) {
@@ -24,7 +24,7 @@ fn tell<K: Sink>(sink: &mut K, text: &[u8], status: Status) -> Status
 }
 
 // The text that names the first line that isn't as said.
-fn fault_text(alloc: Global, line: u32) -> Result<Vec<u8>, AllocError>
+pub(crate) fn fault_text(alloc: Global, line: u32) -> Result<Vec<u8>, AllocError>
     ensures { IfOk result (λ text. text.items ≡ text_of_fault line) }
 {
     let mut text = Vec::new(alloc);

@@ -1,7 +1,8 @@
 use Rattle.std.proofs.Common.{◌+◌, ap, sym, subst, take}
 use Rattle.std.specs.Prelude.{Err}
 use Rattle.std.proofs.lemmas.Result.{IfOk-weaker}
-use Rattle.certificate_check.specs.Blocks.{IsReady, elements_of, StepHolds}
+use Rattle.certificate_text.specs.BlockText.{IsReadyStep}
+use Rattle.certificate_check.specs.Blocks.{elements_of, StepHolds}
 use Rattle.certificate_check.specs.Answers.{IsAnswer}
 use Rattle.certificate_check.specs.Checking.{IsChecked, IsRefusal}
 use Rattle.certificate_check.proofs.HeldSteps.{refused-first, hold-more}
@@ -10,7 +11,7 @@ use Rattle.certificate_check.proofs.checking.check_steps.Goals as goal
 pub check_step-requires-clause-step : goal.check_step-requires-clause-step
 check_step-requires-clause-step c =
     let d = c.args.document.now in
-    subst (IsReady d.field d.gens) (sym c.step-item.is) (c.requires.steps c.loop-step.step-index c.step-item.result c.loop-step-test.true)
+    subst (IsReadyStep d.field d.gens) (sym c.step-item.is) (c.requires.steps c.loop-step.step-index c.step-item.result c.loop-step-test.true)
 
 pub returns-in-Err : goal.returns-in-Err
 returns-in-Err c =
