@@ -145,7 +145,7 @@ module _ (p : ℕ) (generators : List Generator) (rels earlier : List (List Term
     some = λ n k. (
       (let m = ap length e ∙ length-append done (item ∷ []) in omega (arith, m)),
       let own_is : own ≡ n = cc in
-      subst (λ m. All (IsGoodUse p generators rels earlier m) after) own_is (subst (All (IsGoodUse p generators rels earlier own)) (sym e) (All-push (IsGoodUse p generators rels earlier own) done item (labels_so_far done sum arity own h same) good))
+          subst (λ m. All (IsGoodUse p generators rels earlier m) after) own_is (subst (All (IsGoodUse p generators rels earlier own)) (sym e) (All-push (IsGoodUse p generators rels earlier own) done item (labels_so_far done sum arity own h same) good)),
     );
   }
 

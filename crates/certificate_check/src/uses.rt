@@ -86,8 +86,18 @@ fn expand_use(
     let field = document.field;
     let gens = &document.gens;
     match item.rule {
-        Rule::Rel(_) => Ok(expand_with_arity(alloc, field, gens, document.rels.as_slice(), &[], item)?),
-        Rule::Swap { generator: _, at: _ } => Err(Fault::Cause(CheckCause::UseUnfit)),
+        Rule::Rel(_) => Ok(expand_with_arity(
+            alloc,
+            field,
+            gens,
+            document.rels.as_slice(),
+            &[],
+            item,
+        )?),
+        Rule::Swap {
+            generator: _,
+            at: _,
+        } => Err(Fault::Cause(CheckCause::UseUnfit)),
         Rule::Step(number) => {
             if number == 0 {
                 return Err(Fault::Cause(CheckCause::Ahead));

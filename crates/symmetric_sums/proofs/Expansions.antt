@@ -219,11 +219,12 @@ so_far-step p generators instance terms made new arity i own t filled l e positi
   none = λ k. absurd cc;
   some = λ n k. (
     some-longer i terms l,
-      let own_is : own ≡ n = cc in
-      let here : IsLabelled generators own (in_place instance (tree_of t.tree)) = subst (IsLabelled generators own) tree label in
-      subst (λ m. All (λ (x : Term). IsLabelled generators m (in_place instance (tree_of x.tree))) (take (i + 1) terms)) own_is
-      (All-more (λ (x : Term). IsLabelled generators own (in_place instance (tree_of x.tree))) terms i t l (labels_so_far p generators instance (take i terms) made arity own h same)
-      (subst (λ (x : Term). IsLabelled generators own (in_place instance (tree_of x.tree))) e here)));
+    let own_is : own ≡ n = cc in
+        let here : IsLabelled generators own (in_place instance (tree_of t.tree)) = subst (IsLabelled generators own) tree label in
+        subst (λ m. All (λ (x : Term). IsLabelled generators m (in_place instance (tree_of x.tree))) (take (i + 1) terms)) own_is
+        (All-more (λ (x : Term). IsLabelled generators own (in_place instance (tree_of x.tree))) terms i t l (labels_so_far p generators instance (take i terms) made arity own h same)
+        (subst (λ (x : Term). IsLabelled generators own (in_place instance (tree_of x.tree))) e here)),
+  );
 }
 
 -- ---- the answers

@@ -210,7 +210,8 @@ rule-fits p generators g at k one other r a b =
     let wide : 2 ≤ arities g = omega (arith, r.wide, r.arity_is) in
     record {
       residues = All-from_recursion (λ (x : Term). x.coef < p) (one ∷ (other ∷ [])) (a, (b, tt));
-      trees = All-from_recursion (λ (x : Term). Fits generators (tree_of x.tree)) (one ∷ (other ∷ []))
-          (subst (Fits generators) (sym (r.first ∙ ap (λ n. node g (numbered 0 n)) (sym r.arity_is))) (numbered-fits arities g wide),
-          (subst (Fits generators) (sym (r.second ∙ ap (λ n. node g (exchanged_at (at - 1) (numbered 0 n))) (sym r.arity_is))) (exchanged-fits arities g (at - 1) wide), tt));
+      trees = All-from_recursion (λ (x : Term). Fits generators (tree_of x.tree)) (one ∷ (other ∷ [])) (
+        subst (Fits generators) (sym (r.first ∙ ap (λ n. node g (numbered 0 n)) (sym r.arity_is))) (numbered-fits arities g wide),
+        (subst (Fits generators) (sym (r.second ∙ ap (λ n. node g (exchanged_at (at - 1) (numbered 0 n))) (sym r.arity_is))) (exchanged-fits arities g (at - 1) wide), tt),
+      );
     }

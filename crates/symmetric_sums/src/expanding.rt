@@ -70,8 +70,7 @@ pub fn expand(
     ensures answer { IsExpanded field table.now (rule_element field table.now rels.now steps.now instance.now.rule) instance.now result }
     ensures fits { IfOk result (FitsOver field table.now) }
 {
-    let Expanded { sum, arity: _ } =
-        expand_with_arity(alloc, field, table, rels, steps, instance)?;
+    let Expanded { sum, arity: _ } = expand_with_arity(alloc, field, table, rels, steps, instance)?;
     Ok(sum)
 }
 

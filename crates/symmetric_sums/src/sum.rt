@@ -75,11 +75,7 @@ impl Sum {
         requires arity { HaveArity arity terms }
         ensures terms { result ≡ terms }
     {
-        let theirs = if terms.is_empty() {
-            None
-        } else {
-            Some(arity)
-        };
+        let theirs = if terms.is_empty() { None } else { Some(arity) };
         Sum::of_terms(terms, theirs)
     }
 
@@ -193,7 +189,10 @@ impl Sum {
         } else {
             self.arity
         };
-        let Sum { mut terms, arity: _ } = self;
+        let Sum {
+            mut terms,
+            arity: _,
+        } = self;
         terms.append(more.terms)?;
         Ok(Sum::of_terms(terms, arity))
     }

@@ -82,10 +82,7 @@ fn rule_sign(table: &GenTable, generator: u16, at: u8) -> Option<Sign>
     if generator >= table.len() {
         return None;
     }
-    exchange_sign(
-        table.get(generator).parts.as_slice(),
-        at as usize - 1,
-    )
+    exchange_sign(table.get(generator).parts.as_slice(), at as usize - 1)
 }
 
 // The sign of the exchange of the inputs `input` and `input + 1`, counted from 0, where they are two of one part that isn't free.
@@ -117,13 +114,7 @@ fn kind_sign(kind: PartKind) -> Option<Sign>
 }
 
 // The vertex over the leaves 1 to `arity`, with the leaves `one` and `other` in each other's place.
-fn vertex(
-    alloc: Global,
-    generator: u16,
-    arity: u8,
-    one: u8,
-    other: u8,
-) -> Result<Tree, AllocError>
+fn vertex(alloc: Global, generator: u16, arity: u8, one: u8, other: u8) -> Result<Tree, AllocError>
     ensures { IfOk result (λ tree. tree_of tree ≡ node generator (row (map (λ n. leaf (made.exchanged one other n)) (range_with_len 1 arity)))) }
 {
     let mut inputs = Items::new(alloc);

@@ -50,8 +50,7 @@ loop-item-preserved c =
 pub returns-clause-used : goal.returns-clause-used
 returns-clause-used c =
     let d = c.args.document.now in
-    let all = take_all c.loop-item.item-index c.args.uses.now c.loop-item-test.false in
-    (
+    let all = take_all c.loop-item.item-index c.args.uses.now c.loop-item-test.false in (
       subst (AreGoodUses d.field d.gens d.rels (elements_of c.args.earlier.now)) all (so_far-good d.field d.gens d.rels (elements_of c.args.earlier.now) (take c.loop-item.item-index c.args.uses.now) c.loop-item.sum c.loop-item.arity c.loop-item.invariant),
       c.loop-item.invariant.sum_is ∙ ap (sum_of d.field d.gens d.rels (elements_of c.args.earlier.now)) all,
     )
