@@ -20,4 +20,6 @@ pub use sum::{Sum, SumFail};
 pub use term::Term;
 
 #[cfg(test)]
+mod instance_tests;
+#[cfg(test)]
 mod tests;
