@@ -1,4 +1,7 @@
 pub mod AnswerSteps
+pub mod BlockChecks
+pub mod BlockElements
+pub mod CheckedTexts
 pub mod Decides
 pub mod DocumentLines
 pub mod FormsRuns

@@ -25,7 +25,7 @@ all_said p P [] h = tt
 all_said p P (term ∷ terms) h =
     kept (residue p term == 0) (said p terms) (residue p term, term.tree) P (h 0 term (omega arith)) (all_said p P terms (λ k d l. h (suc k) d (omega arith)))
 
-all_labelled : (generators : List Generator) (m : ℕ) (terms : List Written) → All (λ term. IsElementTree generators m term.tree) terms → All (λ term. IsLabelled generators m term.tree) terms
+pub all_labelled : (generators : List Generator) (m : ℕ) (terms : List Written) → All (λ term. IsElementTree generators m term.tree) terms → All (λ term. IsLabelled generators m term.tree) terms
 all_labelled generators m terms h k d l = (h k d l).labelled
 
 -- ---- their arity is at most n

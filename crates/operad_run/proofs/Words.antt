@@ -21,3 +21,9 @@ is_forms ws arity bound (Some n) e h d = record {
   high = d.1;
   bound_is = h;
 }
+
+-- one word
+pub one_word : {X : Type 0} (f : X → List ℕ) (ws : List X) (a : X) → 1 ≤ length ws → length ws < 2 → a ≡ get_or ws 0 a → map f ws ≡ f a ∷ []
+one_word f [] a l h e = absurd (omega arith)
+one_word f (x ∷ []) a l h e = cc
+one_word f (x ∷ (y ∷ ws)) a l h e = absurd (omega arith)

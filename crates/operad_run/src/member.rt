@@ -1,5 +1,5 @@
 //! A run of the checker: the words and the bytes of a source in, the verdict into a sink.
-ghost use Rattle.std.specs.Prelude.{◌↔◌, IsTrue, map, string_bytes};
+ghost use Rattle.std.specs.Prelude.{◌≡◌, ◌↔◌, IsTrue, map, string_bytes};
 ghost use Rattle.operad_run.specs.CheckRuns.{IsMemberWord, IsRun};
 
 use crate::checks::check_text;
@@ -8,11 +8,17 @@ use crate::status::Status;
 use outside_io::{ReadFail, Sink, Source, read_all};
 use std::alloc::Global;
 
+fn is_same(text: &str, word: &str) -> bool
+    ensures { IsTrue result ↔ (text.now ≡ word.now) }
+{
+    text == word
+}
+
 fn is_member(words: &[String]) -> bool
     ensures { IsTrue result ↔ IsMemberWord (map string_bytes words.now) }
 {
     match words {
-        [command] => command.as_str() == "member",
+        [command] => is_same(command.as_str(), "member"),
         _ => false,
     }
 }
