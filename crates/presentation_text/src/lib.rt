@@ -14,7 +14,7 @@ mod reading;
 mod writing;
 
 pub use document::{Ask, AskKind, Document, OrderName, Tail};
-pub use documents::read_document;
+pub use documents::{documents_are_determined, read_document};
 pub use element_lines::read_element_line;
 pub use elements::{ElementRead, elements_are_read_once, read_element};
 pub use kinds::{DocFail, DocKind, ReadDocFail};
