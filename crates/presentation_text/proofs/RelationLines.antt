@@ -30,11 +30,6 @@ one_element p generators word line arity other d e table h g =
     let same = once generators table h.behind h.terms g.terms arity other h.is_element (subst (λ b. IsElement generators b g.terms other) behind g.is_element) in
     (same.1, h.element_is ∙ ap (said p) same.0 ∙ sym g.element_is)
 
--- the word stands first
-pub first_word : (p : ℕ) (generators : List Generator) (word : List ℕ) (line : List Token) (arity : Option ℕ) (e : List (ℕ × Tree ℕ)) → IsElementLine p generators word line arity e
-    → (behind : List Token) × (line ≡ Word word ∷ behind)
-first_word p generators word line arity e h = (h.behind, h.line_is)
-
 -- ---- relations
 
 pub too_narrow : (p : ℕ) (generators : List Generator) (line : List Token) (arity : Option ℕ) (d : List (ℕ × Tree ℕ)) → IsTable generators
