@@ -7,6 +7,7 @@ use Rattle.symmetric_sums.specs.Terms.{FitsOver, terms_of}
 use Rattle.symmetric_sums.specs.declared.instance.Instance.{Instance}
 use Rattle.symmetric_sums.specs.declared.term.Term.{Term}
 use Rattle.presentation_text.specs.ElementLines.{IsElementLine}
+use Rattle.presentation_text.specs.Faults.{IsFirstFault}
 use Rattle.presentation_text.specs.Opening.{token_lines}
 use Rattle.presentation_text.specs.declared.document.Document.{Document}
 use Rattle.presentation_text.specs.declared.document.Tail.{Tail}
@@ -55,23 +56,9 @@ pub data AreBlockLines (p : ℕ) (generators : List Generator) : List (List Toke
 abbrev pub AreWhole : ℕ → List Generator → List (List Token) → Type 0
 AreWhole p generators lines = (blocks : List Block) × AreBlockLines p generators lines blocks
 
--- With further lines they are those of blocks.
-abbrev pub CanGoOn : ℕ → List Generator → List (List Token) → Type 0
-CanGoOn p generators lines = (further : List (List Token)) × AreWhole p generators (lines ++ further)
-
--- The lines go wrong behind those in front: with the next one they can't go on; or no line follows, and they aren't whole.
-abbrev pub GoWrong : ℕ → List Generator → List (List Token) → List (List Token) → Type 0
-GoWrong p generators front [] = AreWhole p generators front → ⊥
-GoWrong p generators front (line ∷ others) = CanGoOn p generators (front ++ line ∷ []) → ⊥
-
--- The number, from `first` on, of the first line with which the lines can't go on, or of the line that is missing behind the last one.
-pub record IsBlockFault (p : ℕ) (generators : List Generator) (first : ℕ) (lines : List (List Token)) (number : ℕ) : Type 0 where
-  pub front : List (List Token)
-  pub others : List (List Token)
-  pub lines_are : lines ≡ front ++ others
-  pub can_go_on : CanGoOn p generators front
-  pub wrong : GoWrong p generators front others
-  pub number_is : number ≡ first + length front
+-- The number, from `first` on, of the first line with which no blocks can begin so, or of the line that is missing behind the last one.
+abbrev pub IsBlockFault : ℕ → List Generator → ℕ → List (List Token) → ℕ → Type 0
+IsBlockFault p generators = IsFirstFault (AreWhole p generators)
 
 -- ---- the tail of a text
 

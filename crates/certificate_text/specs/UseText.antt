@@ -24,26 +24,24 @@ pub record WrittenUse : Type 0 where
   pub cited : ℕ
   pub inputs : List (Tree ℕ)
 
--- '-' or nothing, and a number
-abbrev pub signed_tokens : Bool → ℕ → List Token
-signed_tokens negative number = (if negative then Byte 45 ∷ [] else []) ++ Number number ∷ []
-
 -- trees with ';' before each
 abbrev pub inputs_tokens : List Generator → List (Tree ℕ) → List Token
 inputs_tokens generators [] = []
 inputs_tokens generators (t ∷ ts) = Byte 59 ∷ (tree_tokens generators t ++ inputs_tokens generators ts)
 
--- `step` or `rel`, and a number
-abbrev pub cited_tokens : Bool → ℕ → List Token
-cited_tokens cites_step cited = Word (if cites_step then codes "step" else codes "rel") ∷ (Number cited ∷ [])
+-- ';', `step` or `rel` and a number, and the inputs
+abbrev pub behind_tokens : List Generator → Bool → ℕ → List (Tree ℕ) → List Token
+behind_tokens generators cites_step cited inputs =
+    Byte 59 ∷ (Word (if cites_step then codes "step" else codes "rel") ∷ (Number cited ∷ inputs_tokens generators inputs))
 
--- A use is `use`, a number with '-' or nothing before it, ';', the context, ';', what is cited, and ';' and a tree for each input.
+-- what stands behind the sign: a number, ';', the context, and the rest
+abbrev pub unsigned_tokens : List Generator → WrittenUse → List Token
+unsigned_tokens generators written =
+    Number written.number ∷ (Byte 59 ∷ (tree_tokens generators written.context ++ behind_tokens generators written.cites_step written.cited written.inputs))
+
+-- A use is `use`, '-' or nothing and a number, ';', the context, ';', what is cited, and ';' and a tree for each input.
 abbrev pub use_tokens : List Generator → WrittenUse → List Token
-use_tokens generators written =
-    Word (codes "use") ∷ (signed_tokens written.negative written.number
-    ++ Byte 59 ∷ (tree_tokens generators written.context
-    ++ Byte 59 ∷ (cited_tokens written.cites_step written.cited
-    ++ inputs_tokens generators written.inputs)))
+use_tokens generators written = Word (codes "use") ∷ ((if written.negative then Byte 45 ∷ [] else []) ++ unsigned_tokens generators written)
 
 -- ---- which trees may stand in it
 
@@ -73,10 +71,14 @@ pub record SaysUse (p : ℕ) (written : WrittenUse) (item : Instance) : Type 0 w
   pub rule_is : item.rule ≡ cited_rule written.cites_step written.cited
   pub inputs_are : map tree_of item.inputs ≡ written.inputs
 
+-- its trees may stand in a use
+pub record HasUseTrees (generators : List Generator) (written : WrittenUse) : Type 0 where
+  pub context : IsUseTree generators written.context
+  pub inputs : All (IsUseTree generators) written.inputs
+
 -- The line is that of a use, and the instance is what it says.
 pub record IsUseLine (p : ℕ) (generators : List Generator) (line : List Token) (item : Instance) : Type 0 where
   pub written : WrittenUse
   pub spelled : line ≡ use_tokens generators written
-  pub context : IsUseTree generators written.context
-  pub inputs : All (IsUseTree generators) written.inputs
+  pub trees : HasUseTrees generators written
   pub says : SaysUse p written item

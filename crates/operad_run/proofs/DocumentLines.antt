@@ -1,35 +1,15 @@
 -- The lines of documents, and where they go wrong.
 use Rattle.std.proofs.Common.{◌≡◌, ℕ, suc, ◌+◌, ◌<◌, ◌≤◌, ◌⊎◌, inl, inr, ⊎_elim, List, [], ◌∷◌, ◌++◌, length, refl, ap, sym, ◌∙◌, subst, append_assoc, append-nil, length-append, arith}
+use Rattle.std.proofs.lemmas.List.{append_cancel_left}
 use Rattle.labelled_trees.specs.Trees.{Tree}
 use Rattle.symmetric_trees.specs.declared.generators.Generator.{Generator}
 use Rattle.presentation_text.specs.declared.lexing.Token.{Token}
 use Rattle.presentation_text.specs.Opening.{opening, IsGeneratorLine}
+use Rattle.presentation_text.proofs.Fronts.{GoesOn, two_fronts}
 use Rattle.operad_run.specs.OneGenerator.{IsQueryLine, AreQueryLines, no_queries, one_query, AreDocumentLines, AreAsSaid, GoWrong, IsFirstFault}
 use Rattle.presentation_text.specs.OpeningLines.{StartsWithout, IsOpeningFault}
 use Rattle.operad_run.specs.Queries.{IsNoQuery, IsFirstOther}
 use Rattle.presentation_text.proofs.OneTable.{one_generator}
-
--- ---- two ways to part a list
-
--- The one front goes on to the other.
-pub record GoesOn {X : Type 0} (front back other behind : List X) : Type 0 where
-  pub middle : List X
-  pub front_is : other ≡ front ++ middle
-  pub back_is : back ≡ middle ++ behind
-
-in_front : {X : Type 0} (x : X) (front back other behind : List X) → GoesOn front back other behind → GoesOn (x ∷ front) back (x ∷ other) behind
-in_front x front back other behind g = record { middle = g.middle; front_is = ap (λ l. x ∷ l) g.front_is; back_is = g.back_is }
-
-pub two_fronts : {X : Type 0} (front back other behind : List X) → front ++ back ≡ other ++ behind → GoesOn front back other behind ⊎ GoesOn other behind front back
-two_fronts [] back other behind e = inl (record { middle = other; front_is = refl; back_is = e })
-two_fronts (x ∷ front) back [] behind e = inr (record { middle = x ∷ front; front_is = refl; back_is = sym e })
-two_fronts (x ∷ front) back (y ∷ other) behind e =
-    let first : x ≡ y = cc in
-    let further : front ++ back ≡ other ++ behind = cc in
-    ⊎_elim
-    (λ g. inl (subst (λ z. GoesOn (x ∷ front) back (z ∷ other) behind) first (in_front x front back other behind g)))
-    (λ g. inr (subst (λ z. GoesOn (z ∷ other) behind (x ∷ front) back) first (in_front x other behind front back g)))
-    (two_fronts front back other behind further)
 
 -- ---- a first part of queries
 
@@ -79,10 +59,6 @@ as_said-front n front back h = ⊎_elim
 
 -- ---- where the lines go wrong
 
-pub cancel_front : {X : Type 0} (front a b : List X) → front ++ a ≡ front ++ b → a ≡ b
-cancel_front [] a b e = e
-cancel_front (x ∷ front) a b e = let further : front ++ a ≡ front ++ b = cc in cancel_front front a b further
-
 -- the lines of a document are four or more
 pub four_or_more : (n : ℕ) (document : List (List Token)) (generator : Generator) (queries : List (List (ℕ × Tree ℕ))) → AreDocumentLines n document generator queries → 4 ≤ length document
 four_or_more n document generator queries d =
@@ -93,7 +69,7 @@ four_or_more n document generator queries d =
 missing_apart : (front : List (List Token)) (missing l : List Token) (further ls rest : List (List Token)) → StartsWithout missing (l ∷ ls)
     → opening ≡ front ++ missing ∷ further → opening ≡ front ++ l ∷ rest → ⊥
 missing_apart front missing l further ls rest w e f =
-    let same = cancel_front front (missing ∷ further) (l ∷ rest) (sym e ∙ f) in
+    let same = append_cancel_left front (missing ∷ further) (l ∷ rest) (sym e ∙ f) in
     let first : l ≡ missing = cc in
     w ls (ap (λ x. x ∷ ls) first)
 
@@ -120,7 +96,7 @@ opening_fault n document number h = record {
 
 -- the lines behind the opening
 behind_opening : (rest : List (List Token)) (line : List Token) (lines : List (List Token)) → opening ++ rest ≡ opening ++ line ∷ lines → rest ≡ line ∷ lines
-behind_opening rest line lines e = cancel_front opening rest (line ∷ lines) e
+behind_opening rest line lines e = append_cancel_left opening rest (line ∷ lines) e
 
 -- the opening alone goes on to no more lines
 opening_is_short : (l : List Token) (ls others : List (List Token)) → opening ≡ (opening ++ l ∷ ls) ++ others → ⊥

@@ -1,6 +1,7 @@
 -- What a run tells is determined by the bytes.
 use Rattle.std.proofs.Common.{◌≡◌, ℕ, List, [], ◌∷◌, ◌++◌, Option, refl, ap, ap₂, sym, ◌∙◌, subst, arith, drop}
 use Rattle.std.specs.List.{flat_map}
+use Rattle.std.proofs.lemmas.List.{append_cancel_left}
 use Rattle.labelled_trees.specs.Trees.{Tree}
 use Rattle.symmetric_trees.specs.Generators.{IsTable, parts_at}
 use Rattle.symmetric_trees.specs.declared.generators.Generator.{Generator}
@@ -15,7 +16,7 @@ use Rattle.operad_run.specs.Answers.{IsAnswer, AreAnswers, no_answers, one_answe
 use Rattle.operad_run.specs.Documents.{IsAnswered}
 use Rattle.operad_run.specs.Laws.{AnswersAreDetermined}
 use Rattle.presentation_text.proofs.OneTable.{one_generator, table_of_line}
-use Rattle.operad_run.proofs.DocumentLines.{one_fault, no_fault, cancel_front}
+use Rattle.operad_run.proofs.DocumentLines.{one_fault, no_fault}
 
 -- a line is the query of one element
 one_element : (p n : ℕ) (generators : List Generator) (one : List Token) (d e : List (ℕ × Tree ℕ)) → IsTable generators
@@ -43,7 +44,7 @@ same_answers generators _ _ _ (one_answer e a es bs h hs) (one_answer _ b _ cs g
 
 one_text : (bytes : List ℕ) (n : ℕ) (text other : List ℕ) → IsAnswered bytes n text → IsAnswered bytes n other → text ≡ other
 one_text bytes n text other h g =
-    let lines = cancel_front opening (h.document.generator_line ∷ h.document.query_lines) (g.document.generator_line ∷ g.document.query_lines) (sym h.document.lines_are ∙ g.document.lines_are) in
+    let lines = append_cancel_left opening (h.document.generator_line ∷ h.document.query_lines) (g.document.generator_line ∷ g.document.query_lines) (sym h.document.lines_are ∙ g.document.lines_are) in
     let first : h.document.generator_line ≡ g.document.generator_line = cc in
     let further : h.document.query_lines ≡ g.document.query_lines = cc in
     let generator = one_generator g.document.generator_line h.generator g.generator (subst (λ l. IsGeneratorLine l h.generator) first h.document.generator_is) g.document.generator_is in

@@ -19,7 +19,6 @@ use Rattle.presentation_text.specs.declared.lexing.Token.{Token}
 use Rattle.presentation_text.specs.declared.elements.TermRead.{TermRead}
 use Rattle.presentation_text.specs.Elements.{Written, term_tokens, mark, further_tokens, IsElementTree, residue, said}
 use Rattle.presentation_text.specs.ElementSteps.{NoStar, Further, written, TermStands, ReadsTerm, IsSumOver, HaveTrees}
-use Rattle.presentation_text.proofs.TreeTokens.{arity_in}
 use Rattle.presentation_text.proofs.ElementTerms.{no_star, one_arity}
 
 -- ---- the sum

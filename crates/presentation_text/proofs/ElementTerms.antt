@@ -14,7 +14,7 @@ use Rattle.presentation_text.specs.declared.elements.TermRead.{TermRead}
 use Rattle.presentation_text.specs.TreeText.{tree_tokens, IsReadableWithin, StandsAt, ReadsWithin}
 use Rattle.presentation_text.specs.Elements.{Written, coefficient_tokens, term_tokens, mark, IsElementTree}
 use Rattle.presentation_text.specs.ElementSteps.{CoefficientStands, IsCoefficientAt, behind, NoStar, Unsigned, First, Further, written, TermStands, ReadsTerm}
-use Rattle.presentation_text.proofs.TreeTokens.{arity_in, read_once}
+use Rattle.presentation_text.proofs.TreeTokens.{read_once}
 use Rattle.presentation_text.proofs.TreeReading.{drop-at, token_at, stands-from}
 
 -- ---- written terms

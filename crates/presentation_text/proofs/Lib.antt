@@ -10,3 +10,11 @@ pub mod ElementsOnce
 pub mod PrintedSums
 pub mod OpeningSteps
 pub mod OneTable
+pub mod Fronts
+pub mod Faults
+pub mod TextEnds
+pub mod SaidTerms
+pub mod RelationLines
+pub mod DocumentLines
+pub mod DocumentReading
+pub mod OneDocument

@@ -5,6 +5,7 @@ use Rattle.labelled_trees.specs.Trees.{Tree}
 use Rattle.symmetric_trees.specs.declared.generators.Generator.{Generator}
 use Rattle.symmetric_sums.specs.Terms.{terms_of}
 use Rattle.presentation_text.specs.ElementLines.{IsElementLine}
+use Rattle.presentation_text.specs.Faults.{IsFirstFault}
 use Rattle.presentation_text.specs.Opening.{opening, IsGeneratorLine, token_lines}
 use Rattle.presentation_text.specs.declared.document.Document.{Document}
 use Rattle.presentation_text.specs.declared.document.OrderName.TheVariants.{Path}
@@ -89,23 +90,9 @@ pub record IsReadAs (bytes : List ℕ) (document : Document) : Type 0 where
 abbrev pub AreWhole : List (List Token) → Type 0
 AreWhole lines = (generator : Generator) × (relations : List (List (ℕ × Tree ℕ))) × AreDocumentLines lines generator relations
 
--- With further lines they are those of a document.
-abbrev pub CanGoOn : List (List Token) → Type 0
-CanGoOn lines = (further : List (List Token)) × AreWhole (lines ++ further)
-
--- The lines go wrong behind those in front: with the next one they can't go on; or no line follows, and they aren't whole.
-abbrev pub GoWrong : List (List Token) → List (List Token) → Type 0
-GoWrong front [] = AreWhole front → ⊥
-GoWrong front (line ∷ others) = CanGoOn (front ++ line ∷ []) → ⊥
-
--- The number, from 1 on, of the first line with which the lines can't go on, or of the line that is missing behind the last one.
-pub record IsDocumentFault (lines : List (List Token)) (number : ℕ) : Type 0 where
-  pub front : List (List Token)
-  pub others : List (List Token)
-  pub lines_are : lines ≡ front ++ others
-  pub can_go_on : CanGoOn front
-  pub wrong : GoWrong front others
-  pub number_is : number ≡ length front + 1
+-- The number, from 1 on, of the first line with which no document can begin so, or of the line that is missing behind the last one.
+abbrev pub IsDocumentFault : List (List Token) → ℕ → Type 0
+IsDocumentFault = IsFirstFault AreWhole 1
 
 -- why a text is no document: its first fault, of which the kind is the same for all, or memory ran out
 abbrev pub IsRefused : List ℕ → ReadDocFail → Type 0

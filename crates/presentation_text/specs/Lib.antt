@@ -6,7 +6,9 @@ pub mod ElementSteps
 pub mod SumText
 pub mod Opening
 pub mod ElementLines
+pub mod Faults
 pub mod Documents
+pub mod DocumentSteps
 pub mod OpeningLines
 pub mod Stops
 pub mod Laws

@@ -35,3 +35,8 @@ pub record IsFirstLine (text line rest : List ℕ) : Type 0 where
 abbrev pub counts : List ℕ → Bool
 counts [] = false
 counts (c ∷ cs) = if is_blank c then counts cs else not (c == 35)
+
+-- The text ends with these bytes.
+pub record EndsWith (text end : List ℕ) : Type 0 where
+  pub before : List ℕ
+  pub text_is : text ≡ before ++ end

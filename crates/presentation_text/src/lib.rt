@@ -14,7 +14,7 @@ mod reading;
 mod writing;
 
 pub use document::{Ask, AskKind, Document, OrderName, Tail};
-pub use documents::read_document;
+pub use documents::{documents_are_determined, read_document};
 pub use element_lines::read_element_line;
 pub use elements::{ElementRead, elements_are_read_once, read_element};
 pub use kinds::{DocFail, DocKind, ReadDocFail};
@@ -22,7 +22,7 @@ pub use lexing::{Token, tokens, tokens_are_defined, words_are_words};
 pub use line_fail::LineFail;
 pub use lines::{counts, lines_are_defined, next_line};
 pub use opening::{is_word, read_table, skip_opening};
-pub use reading::{read_tree, trees_are_read_once};
+pub use reading::{is_mark, read_tree, trees_are_read_once};
 pub use writing::{
     print_sum, print_tree, printed_sums_are_read_back, printed_trees_are_read_back, write_number,
     write_sum, write_tree,

@@ -23,6 +23,7 @@ pub fn next_line(text: &[u8]) -> Option<(&[u8], &[u8])>
     ensures lines { IfSome result
         (λ found. spec.lines text.now ≡ found.0.now ∷ spec.lines found.1.now) }
     ensures shorter { IfSome result (λ found. length found.1.now < length text.now) }
+    ensures end { IfSome result (λ found. spec.EndsWith text.now found.1.now) }
 {
     if text.is_empty() {
         return None;

@@ -1,6 +1,7 @@
 ghost use Rattle.std.specs.Prelude.{◌≡◌, ◌↔◌, ◌≤◌, ◌++◌, ℕ, [], ◌∷◌, List, length, IfNone, IfOk, IfSome, IsTrue, MatchResult};
 ghost use Rattle.symmetric_trees.specs.declared.generators.Generator.{Generator};
 ghost use Rattle.symmetric_trees.specs.declared.generators.PartKind.{PartKind};
+ghost use Rattle.presentation_text.specs.Lines.{EndsWith};
 ghost use Rattle.presentation_text.specs.Tokens.{tokens as tokens_of};
 ghost use Rattle.presentation_text.specs.declared.lexing.Token.{Token};
 ghost use Rattle.presentation_text.specs.declared.lexing.Token.TheVariants.{Word, Number};
@@ -61,6 +62,7 @@ impl OpeningLine {
         ensures skipped { MatchResult result (λ rest. token_lines text.now ≡ opening_line self ∷ token_lines rest.now)
             (StopsAt (λ at. (at ≡ number) × StartsWithout (opening_line self) (token_lines text.now))) }
         ensures shorter { IfOk result (λ rest. length rest.now ≤ length text.now) }
+        ensures end { IfOk result (λ rest. EndsWith text.now rest.now) }
     {
         let Some((line, rest)) = next_line(text) else {
             return Err(LineFail::At { line: number });
@@ -173,6 +175,7 @@ pub fn skip_opening(alloc: Global, text: &[u8]) -> Result<&[u8], LineFail>
     ensures skipped { MatchResult result (λ rest. token_lines text.now ≡ opening ++ token_lines rest.now)
         (StopsAt (IsOpeningFault (token_lines text.now))) }
     ensures shorter { IfOk result (λ rest. length rest.now ≤ length text.now) }
+    ensures end { IfOk result (λ rest. EndsWith text.now rest.now) }
 {
     let rest = OpeningLine::Header.skip(alloc, text, 1)?;
     let rest = OpeningLine::Field.skip(alloc, rest, 2)?;

@@ -13,8 +13,8 @@ const MOST_NESTED: u8 = 8;
 
 const GREATEST_LEAF: u64 = 99;
 
-// Whether the token at the place is this single byte.
-pub(crate) fn is_mark(tokens: &[Token], at: usize, mark: u8) -> bool
+/// Whether the token at the place is this single byte.
+pub fn is_mark(tokens: &[Token], at: usize, mark: u8) -> bool
     ensures { IsTrue result ↔ (slice_get tokens.now at ≡ Some (Token.Byte mark)) }
 {
     match tokens.get(at) {

@@ -1,0 +1,4 @@
+pub mod UseTokens
+pub mod BlockLines
+pub mod BlockFaults
+pub mod BlockReading
