@@ -2,6 +2,7 @@ pub mod AnswerSteps
 pub mod BlockChecks
 pub mod BlockElements
 pub mod CheckedTexts
+pub mod CheckRuns
 pub mod Decides
 pub mod DocumentLines
 pub mod FormsRuns
@@ -10,4 +11,5 @@ pub mod OneAnswer
 pub mod QueryElements
 pub mod QueryLines
 pub mod Runs
+pub mod SameReadings
 pub mod Words
