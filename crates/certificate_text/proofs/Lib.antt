@@ -3,3 +3,4 @@ pub mod BlockLines
 pub mod BlockFaults
 pub mod BlockReading
 pub mod ReadyBlocks
+pub mod OneReading
