@@ -119,10 +119,10 @@ module _ (p : ℕ) (generators : List Generator) where
   no_use : (line : List Token) (rest : List (List Token)) → (IsAnyUseLine p generators line → ⊥) → GoesOn p generators stepping (line ∷ rest) → GoesOn p generators inside (line ∷ rest)
   no_use line rest h g = ⊎_elim (λ u. absurd (h u.0)) (λ o. o) g
 
-  step_or_use : (line : List Token) → IsStepLine p generators line → IsAnyUseLine p generators line → ⊥
+  pub step_or_use : (line : List Token) → IsStepLine p generators line → IsAnyUseLine p generators line → ⊥
   step_or_use line s u = omega (arith, step_letter p generators line s, use_letter p generators line u)
 
-  end_or_use : (line : List Token) → line ≡ end_line → IsAnyUseLine p generators line → ⊥
+  pub end_or_use : (line : List Token) → line ≡ end_line → IsAnyUseLine p generators line → ⊥
   end_or_use line e u = omega (arith, end_letter p generators line e, use_letter p generators line u)
 
   behind_steps : (line : List Token) (rest : List (List Token)) (block : Block) (blocks new : List Block) (next : Place) → FollowsSteps p generators line block blocks next new

@@ -2,3 +2,5 @@ pub mod UseTokens
 pub mod BlockLines
 pub mod BlockFaults
 pub mod BlockReading
+pub mod ReadyBlocks
+pub mod OneReading
