@@ -76,7 +76,7 @@ module _ (documents : DocumentsAreDetermined) (determined : BlocksAreDetermined)
 pub says_of : (words : List (List ℕ)) (o : Outside) (bytes : List ℕ) (status : Status) (text : List ℕ) → IsMemberWord words → Came o bytes → Tells bytes status text → Says words o status text
 says_of words o bytes Done text w came t = (w, bytes, came, t)
 says_of words o bytes Refused text w came t = (w, bytes, came, t)
-says_of words o bytes Document text w came t = (w, bytes, came, t)
+says_of words o bytes Document text w came t = (w, bytes, came, t.0, t.1, t.2)
 says_of words o bytes Usage text w came t = absurd t
 says_of words o bytes Limit text w came t = absurd t
 says_of words o bytes Budget text w came t = absurd t

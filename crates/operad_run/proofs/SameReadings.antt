@@ -6,6 +6,7 @@ use Rattle.labelled_trees.specs.Meaning.{tree_of}
 use Rattle.labelled_trees.specs.declared.Tree as program
 use Rattle.labelled_trees.proofs.ProgramTrees.{one_to_one}
 use Rattle.symmetric_trees.specs.Generators.{IsTable}
+use Rattle.symmetric_trees.specs.declared.generators.Generator.{Generator}
 use Rattle.symmetric_sums.specs.Terms.{terms_of}
 use Rattle.symmetric_sums.specs.declared.term.Term.{Term}
 use Rattle.symmetric_sums.specs.declared.instance.Instance.{Instance}
@@ -32,14 +33,17 @@ same_by f apart (x ∷ xs) (y ∷ ys) e =
     let further : map f xs ≡ map f ys = cc in
     ap₂ (λ z zs. z ∷ zs) (apart x y first) (same_by f apart xs ys further)
 
-term_apart : (x y : Term) → (x.coef, tree_of x.tree) ≡ (y.coef, tree_of y.tree) → x ≡ y
+abbrev plain_term : Term → ℕ × Tree ℕ
+plain_term x = (x.coef, tree_of x.tree)
+
+term_apart : (x y : Term) → plain_term x ≡ plain_term y → x ≡ y
 term_apart x y e =
     let coef : x.coef ≡ y.coef = ap (λ (z : ℕ × Tree ℕ). z.0) e in
     let tree : tree_of x.tree ≡ tree_of y.tree = ap (λ (z : ℕ × Tree ℕ). z.1) e in
     ap₂ (λ c t. record { coef = c; tree = t }) coef (one_to_one x.tree y.tree tree)
 
 terms_apart : (xs ys : List Term) → terms_of xs ≡ terms_of ys → xs ≡ ys
-terms_apart xs ys e = same_by (λ (x : Term). (x.coef, tree_of x.tree)) term_apart xs ys e
+terms_apart xs ys e = same_by plain_term term_apart xs ys e
 
 use_apart : (x y : Instance) → plain_use x ≡ plain_use y → x ≡ y
 use_apart x y e =
@@ -113,10 +117,13 @@ module _ (documents : DocumentsAreDetermined) (bytes : List ℕ) (document other
       (subst (λ n. IsBlockFault document.field document.gens n (tail_lines bytes other.tail) number) (same_first document.tail other.tail same.tails)
       (subst (λ ls. IsBlockFault document.field document.gens (first_line document.tail) ls number) tails f)))
 
+  abbrev HoldsOver : ℕ → List Generator → List (List Term) → Block → Type 0
+  HoldsOver p gens rels block = BlockHolds p gens rels block.want block.steps
+
   pub hold_over : (blocks : List Block) → All (Holds document) blocks → All (Holds other) blocks
-  hold_over blocks held k d l =
-      let b = held k d l in
-      subst (λ p. BlockHolds p other.gens other.rels _ _) same_field (subst (λ gens. BlockHolds document.field gens other.rels _ _) same.generators (subst (λ rels. BlockHolds document.field document.gens rels _ _) same_rels b))
+  hold_over blocks held =
+      subst (λ p. All (HoldsOver p other.gens other.rels) blocks) same_field
+      (subst (λ gens. All (HoldsOver document.field gens other.rels) blocks) same.generators (subst (λ rels. All (HoldsOver document.field document.gens rels) blocks) same_rels held))
 
 -- the blocks of a text hold whichever way it was read
 pub all_hold_over : DocumentsAreDetermined → BlocksAreDetermined → (bytes : List ℕ) (document other : Document) (blocks others : List Block) → IsTable other.gens
