@@ -31,8 +31,8 @@ module _ (documents : DocumentsAreDetermined) (determined : BlocksAreDetermined)
   never_faulty bytes document blocks number c f = ⊎_elim
       (λ early. (documents bytes).never_both number document early c.document_is)
       (λ late.
-          let over = fault_over documents bytes late.0 document late.1 c.document_is number late.2 in
-          (determined bytes document (table_of_text bytes document c.document_is)).never_both number blocks over c.blocks_are)
+      let over = fault_over documents bytes late.0 document late.1 c.document_is number late.2 in
+      (determined bytes document (table_of_text bytes document c.document_is)).never_both number blocks over c.blocks_are)
       f
 
   complete_from_ends : (status : Status) (words : List (List ℕ)) (o : Outside) → Ends (IsMemberWord words) (Says words o) status o → IsComplete status words o
@@ -49,8 +49,7 @@ module _ (documents : DocumentsAreDetermined) (determined : BlocksAreDetermined)
       let refused : IsRefused says.1 ends.0 = says.3 in
       let same = same_bytes o bytes says.1 e says.2 in
       let all_blocks = refused.front ++ refused.block ∷ refused.others in
-      let other = subst (λ b. IsCertified b refused.document all_blocks) same refused.certified in
-      (
+      let other = subst (λ b. IsCertified b refused.document all_blocks) same refused.certified in (
         λ all.
             let held = all_hold_over documents determined bytes document refused.document blocks all_blocks (table_of_text bytes refused.document other.document_is) c other all in
             absurd (refused.fails (in_the_middle (Holds refused.document) refused.front refused.others refused.block held)),
