@@ -1,5 +1,5 @@
 -- The lines of blocks, from the first to the last.
-use Rattle.std.proofs.Common.{◌≡◌, ℕ, ◌⊎◌, inl, inr, ⊎_elim, List, [], ◌∷◌, ◌++◌, codes, refl, ap, sym, ◌∙◌, subst, append_assoc, append-nil}
+use Rattle.std.proofs.Common.{◌≡◌, ℕ, ⊎_elim, List, [], ◌∷◌, ◌++◌, codes, refl, ap, sym, ◌∙◌, subst, append_assoc, append-nil}
 use Rattle.symmetric_trees.specs.declared.generators.Generator.{Generator}
 use Rattle.symmetric_sums.specs.declared.instance.Instance.{Instance}
 use Rattle.presentation_text.specs.declared.lexing.Token.{Token}
