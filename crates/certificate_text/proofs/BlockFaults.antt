@@ -9,12 +9,12 @@ use Rattle.presentation_text.specs.declared.lexing.Token.TheVariants.{Word}
 use Rattle.presentation_text.proofs.Faults.{whole_can}
 use Rattle.certificate_text.specs.UseText.{IsUseLine}
 use Rattle.certificate_text.specs.BlockText.{IsSumLine, end_line, AreUseLines, no_uses, one_use, AreStepLines, no_steps, one_step, AreBlockLines, no_blocks, one_block, AreWhole, IsBlockFault}
-use Rattle.certificate_text.specs.BlockSteps.{with_step, FollowsSteps, FollowsUses, Follows, EndsNoSteps, CantFollow, LeadTo, no_lines, one_line}
+use Rattle.certificate_text.specs.BlockSteps.{with_step, FollowsSteps, FollowsUses, Follows, EndsNoSteps, CantFollow}
 use Rattle.certificate_text.specs.declared.block.Block.{Block}
 use Rattle.certificate_text.specs.declared.block.Step.{Step}
 use Rattle.certificate_text.specs.declared.places.Place.{Place}
 use Rattle.certificate_text.specs.declared.places.Place.TheVariants.{Between, InBlock, InStep}
-use Rattle.certificate_text.proofs.BlockLines.{ends_at, EndInBlock, EndAt, step_whole, block_ended}
+use Rattle.certificate_text.proofs.BlockLines.{LeadTo, no_lines, one_line, ends_at, EndInBlock, EndAt, step_whole, block_ended}
 
 -- ---- the kinds of lines
 

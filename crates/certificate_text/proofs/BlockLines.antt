@@ -1,11 +1,11 @@
 -- The lines of blocks, from the first to the last.
-use Rattle.std.proofs.Common.{◌≡◌, ℕ, ◌⊎◌, inl, inr, ⊎_elim, List, [], ◌∷◌, ◌++◌, codes, refl, ap, sym, ◌∙◌, subst, append_assoc, append-nil}
+use Rattle.std.proofs.Common.{◌≡◌, ℕ, ⊎_elim, List, [], ◌∷◌, ◌++◌, codes, refl, ap, sym, ◌∙◌, subst, append_assoc, append-nil}
 use Rattle.symmetric_trees.specs.declared.generators.Generator.{Generator}
 use Rattle.symmetric_sums.specs.declared.instance.Instance.{Instance}
 use Rattle.presentation_text.specs.declared.lexing.Token.{Token}
 use Rattle.certificate_text.specs.UseText.{IsUseLine}
 use Rattle.certificate_text.specs.BlockText.{IsSumLine, end_line, AreUseLines, no_uses, one_use, AreStepLines, no_steps, one_step, AreBlockLines, no_blocks, one_block}
-use Rattle.certificate_text.specs.BlockSteps.{with_step, FollowsSteps, FollowsUses, Follows, LeadTo, no_lines, one_line}
+use Rattle.certificate_text.specs.BlockSteps.{with_step, FollowsSteps, FollowsUses, Follows}
 use Rattle.certificate_text.specs.declared.block.Block.{Block}
 use Rattle.certificate_text.specs.declared.block.Step.{Step}
 use Rattle.certificate_text.specs.declared.places.Place.{Place}
@@ -85,6 +85,12 @@ block_ended p generators lines blocks block b =
     (blocks-push p generators b.before blocks b.line b.step_lines block b.blocks_are b.want_is b.steps_are)
 
 -- ---- one line after another
+
+-- lines lead to a place, and to the blocks before it
+pub data LeadTo (p : ℕ) (generators : List Generator) : List (List Token) → Place → List Block → Type 0 where
+  no_lines : LeadTo p generators [] Between []
+  one_line : (lines : List (List Token)) (line : List Token) (place next : Place) (blocks new : List Block)
+      → LeadTo p generators lines place blocks → Follows p generators line place blocks next new → LeadTo p generators (lines ++ line ∷ []) next new
 
 module _ (p : ℕ) (generators : List Generator) (lines : List (List Token)) (line : List Token) (blocks new : List Block) where
   more_steps : (block : Block) (next : Place) → FollowsSteps p generators line block blocks next new → EndInBlock p generators lines blocks block → EndAt p generators (lines ++ line ∷ []) next new

@@ -5,11 +5,11 @@ use Rattle.std.specs.Result.{IfOk}
 use Rattle.symmetric_trees.specs.declared.generators.Generator.{Generator}
 use Rattle.presentation_text.specs.declared.lexing.Token.{Token}
 use Rattle.certificate_text.specs.BlockText.{AreBlockLines, IsBlockFault}
-use Rattle.certificate_text.specs.BlockSteps.{Follows, FollowsBlocks, CantFollow, LeadTo, no_lines, one_line}
+use Rattle.certificate_text.specs.BlockSteps.{Follows, FollowsBlocks, CantFollow}
 use Rattle.certificate_text.specs.declared.block.Block.{Block}
 use Rattle.certificate_text.specs.declared.places.Place.{Place}
 use Rattle.certificate_text.specs.declared.places.Place.TheVariants.{Between, InBlock, InStep}
-use Rattle.certificate_text.proofs.BlockLines.{ends_at}
+use Rattle.certificate_text.proofs.BlockLines.{LeadTo, no_lines, one_line, ends_at}
 use Rattle.certificate_text.proofs.BlockFaults.{GoesOn, stage, line_fault, end_fault}
 
 -- the lines up to some place lead there, and these are left

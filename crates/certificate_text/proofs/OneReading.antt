@@ -10,20 +10,19 @@ use Rattle.symmetric_sums.specs.Terms.{terms_of}
 use Rattle.symmetric_sums.specs.declared.instance.Instance.{Instance}
 use Rattle.symmetric_sums.specs.declared.term.Term.{Term}
 use Rattle.presentation_text.specs.TreeText.{tree_tokens}
-use Rattle.presentation_text.specs.declared.document.Document.{Document}
 use Rattle.presentation_text.specs.declared.lexing.Token.{Token}
-use Rattle.presentation_text.specs.declared.lexing.Token.TheVariants.{Word, Number, Byte}
+use Rattle.presentation_text.specs.declared.lexing.Token.TheVariants.{Number, Byte}
 use Rattle.presentation_text.proofs.Faults.{one_fault, no_fault}
 use Rattle.presentation_text.proofs.RelationLines.{one_element}
 use Rattle.presentation_text.proofs.TreeTokens.{read_once}
-use Rattle.certificate_text.specs.UseText.{WrittenUse, inputs_tokens, behind_tokens, unsigned_tokens, use_tokens, IsUseTree, HasUseTrees, signed_residue, cited_rule, SaysUse, IsUseLine}
+use Rattle.certificate_text.specs.UseText.{WrittenUse, inputs_tokens, behind_tokens, use_tokens, IsUseTree, HasUseTrees, signed_residue, cited_rule, SaysUse, IsUseLine}
 use Rattle.certificate_text.specs.UseSteps.{cited_word}
 use Rattle.certificate_text.specs.BlockText.{IsSumLine, end_line, AreUseLines, no_uses, one_use, AreStepLines, no_steps, one_step, AreBlockLines, no_blocks, one_block, AreWhole, tail_lines, first_line}
-use Rattle.certificate_text.specs.Laws.{PlainUse, plain_use, PlainStep, plain_step, PlainBlock, plain_block, BlocksAreDetermined}
+use Rattle.certificate_text.specs.Laws.{PlainUse, plain_use, plain_step, plain_block, BlocksAreDetermined}
 use Rattle.certificate_text.specs.declared.block.Block.{Block}
 use Rattle.certificate_text.specs.declared.block.Step.{Step}
 use Rattle.certificate_text.proofs.BlockFaults.{step_or_use, end_or_use, step_letter, end_letter}
-use Rattle.certificate_text.proofs.UseTokens.{GoOn, go_on}
+use Rattle.certificate_text.proofs.UseTokens.{go_on}
 
 -- ---- a line of a use
 
@@ -70,8 +69,8 @@ module _ (generators : List Generator) (table : IsTable generators) where
       let sign = one_sign w.negative v.negative w.number v.number after behind signed in
       let trees : tree_tokens generators w.context ++ behind_tokens generators w.cites_step w.cited w.inputs ≡ tree_tokens generators v.context ++ behind_tokens generators v.cites_step v.cited v.inputs = let same = sign.2 in cc in
       let one =
-          read_once generators table w.context v.context (behind_tokens generators w.cites_step w.cited w.inputs) (behind_tokens generators v.cites_step v.cited v.inputs)
-          h.context.readable.fits g.context.readable.fits trees in
+      read_once generators table w.context v.context (behind_tokens generators w.cites_step w.cited w.inputs) (behind_tokens generators v.cites_step v.cited v.inputs)
+      h.context.readable.fits g.context.readable.fits trees in
       let rest = one.1 in
       let words : cited_word w.cites_step ≡ cited_word v.cites_step = cc in
       let cited : w.cited ≡ v.cited = cc in

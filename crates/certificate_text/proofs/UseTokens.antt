@@ -1,9 +1,8 @@
 -- Reading a use: what stands at a place, and what doesn't.
-use Rattle.std.proofs.Common.{◌≡◌, ◌≢◌, ℕ, ◌+◌, ◌-◌, ◌<◌, ◌≤◌, Bool, true, false, List, [], ◌∷◌, ◌++◌, length, map, get_or, drop, slice_get, codes, Option, Some, None, refl, ap, sym, ◌∙◌, subst, arith, append_assoc, append-nil, length-drop}
-use Rattle.std.specs.Prelude.{if◌then◌else◌}
+use Rattle.std.proofs.Common.{◌≡◌, ◌≢◌, ℕ, ◌+◌, ◌<◌, ◌≤◌, Bool, List, [], ◌∷◌, ◌++◌, length, map, drop, slice_get, Some, None, refl, ap, sym, ◌∙◌, subst, arith, append_assoc, append-nil, length-drop}
 use Rattle.std.specs.List.{All}
-use Rattle.std.proofs.lemmas.List.{drop_all, map-append}
-use Rattle.std.proofs.lemmas.List.Elements.{All-nil, All-push, All-head, All-tail}
+use Rattle.std.proofs.lemmas.List.{drop_all}
+use Rattle.std.proofs.lemmas.List.Elements.{All-push, All-head, All-tail}
 use Rattle.std.proofs.lemmas.Option.{slice_get_within}
 use Rattle.labelled_trees.specs.Trees.{Tree}
 use Rattle.labelled_trees.specs.Leaves.{leaf_count}
@@ -19,8 +18,8 @@ use Rattle.presentation_text.specs.declared.lexing.Token.{Token}
 use Rattle.presentation_text.specs.declared.lexing.Token.TheVariants.{Word, Number, Byte}
 use Rattle.presentation_text.proofs.TreeReading.{drop-at, token_at, stands-from}
 use Rattle.presentation_text.proofs.TreeTokens.{read_once}
-use Rattle.certificate_text.specs.UseText.{WrittenUse, inputs_tokens, behind_tokens, unsigned_tokens, IsUseTree, HasUseTrees, cited_rule, signed_residue, SaysUse, IsUseLine}
-use Rattle.certificate_text.specs.UseSteps.{ReadsUseTree, ReadsNumber, ReadsCited, cited_word, ReadsRule, ReadsInputs, ReadsBehind, IsUnsigned, ReadsUnsigned, ReadsUse}
+use Rattle.certificate_text.specs.UseText.{WrittenUse, inputs_tokens, behind_tokens, unsigned_tokens, IsUseTree, signed_residue}
+use Rattle.certificate_text.specs.UseSteps.{ReadsUseTree, ReadsNumber, ReadsCited, cited_word, ReadsInputs, ReadsBehind, IsUnsigned, ReadsUnsigned}
 
 -- ---- two tokens at a place
 
@@ -161,8 +160,8 @@ module _ (p : ℕ) (generators : List Generator) (table : IsTable generators) (n
       → ReadsBehind generators (drop end tokens) None → ReadsUnsigned p generators negative (drop at tokens) None
   unsigned-no_behind n t end r u none w h e =
       let one =
-          read_once generators table (tree_of t) w.context (drop end tokens) (behind_tokens generators w.cites_step w.cited w.inputs) u.1.readable.fits h.context.readable.fits
-          (sym u.0.spelled ∙ behind_number n r w e) in
+      read_once generators table (tree_of t) w.context (drop end tokens) (behind_tokens generators w.cites_step w.cited w.inputs) u.1.readable.fits h.context.readable.fits
+      (sym u.0.spelled ∙ behind_number n r w e) in
       none w.cites_step w.cited w.inputs h.inputs one.1
 
   pub unsigned-found : (n end : ℕ) (item : Instance) → ReadsNumber tokens at (Some n) → ReadsUseTree generators tokens (at + 2) (Some (item.context, end))

@@ -1,5 +1,5 @@
 -- The steps of reading blocks, line by line.
-use Rattle.std.specs.Prelude.{ℕ, ◌≡◌, ◌⊎◌, List, [], ◌∷◌, ◌++◌, codes, Option, Some, None}
+use Rattle.std.specs.Prelude.{ℕ, ◌≡◌, ◌⊎◌, List, [], ◌∷◌, ◌++◌, codes}
 use Rattle.symmetric_trees.specs.declared.generators.Generator.{Generator}
 use Rattle.symmetric_sums.specs.declared.instance.Instance.{Instance}
 use Rattle.symmetric_sums.specs.declared.term.Term.{Term}
@@ -57,9 +57,3 @@ abbrev pub CantFollow : ℕ → List Generator → List Token → Place → Type
 CantFollow p generators line Between = (sum : List Term) → IsSumLine p generators (codes "want") line sum → ⊥
 CantFollow p generators line (InBlock block) = EndsNoSteps p generators line
 CantFollow p generators line (InStep block step) = ((item : Instance) → IsUseLine p generators line item → ⊥) × EndsNoSteps p generators line
-
--- lines lead to a place, and to the blocks before it
-pub data LeadTo (p : ℕ) (generators : List Generator) : List (List Token) → Place → List Block → Type 0 where
-  no_lines : LeadTo p generators [] Between []
-  one_line : (lines : List (List Token)) (line : List Token) (place next : Place) (blocks new : List Block)
-      → LeadTo p generators lines place blocks → Follows p generators line place blocks next new → LeadTo p generators (lines ++ line ∷ []) next new

@@ -1,5 +1,5 @@
 -- What holds of the tails of texts and their blocks.
-use Rattle.std.specs.Prelude.{ℕ, ◌≡◌, List, [], ◌∷◌, map}
+use Rattle.std.specs.Prelude.{ℕ, ◌≡◌, List, map}
 use Rattle.labelled_trees.specs.Trees.{Tree}
 use Rattle.labelled_trees.specs.Meaning.{tree_of}
 use Rattle.symmetric_trees.specs.Generators.{IsTable}

@@ -11,3 +11,6 @@ mod uses;
 pub use block::{Block, Step};
 pub use cert_fail::{CertFail, ReadCertFail};
 pub use reading::{blocks_are_determined, read_blocks};
+
+#[cfg(test)]
+mod tests;

@@ -72,7 +72,13 @@ pub fn read_blocks(
     };
     // `len` tells that the generators have different names.
     let _generators = document.gens.len();
-    match blocks_of(alloc, document.field, &document.gens, &bytes[tail.from..], tail.line) {
+    match blocks_of(
+        alloc,
+        document.field,
+        &document.gens,
+        &bytes[tail.from..],
+        tail.line,
+    ) {
         Ok(blocks) => Ok(blocks),
         Err(LineFail::At { line }) => Err(ReadCertFail::At(CertFail {
             line,

@@ -28,8 +28,8 @@ one_document bytes document other h g =
     let generator = one_generator mine.line g.generator h.generator (subst (λ l. IsGeneratorLine l g.generator) first theirs.generator_is) mine.generator_is in
     let relations = subst (λ x. AreRelationLines 101 (x ∷ []) theirs.relation_lines theirs.relations) generator theirs.relations_are in
     let same =
-        same_parts 101 (h.generator ∷ []) mine.relation_lines theirs.relation_lines mine.tail theirs.tail mine.relations theirs.relations (table_of_line mine.line h.generator mine.generator_is)
-        mine.relations_are relations mine.begins theirs.begins further in
+    same_parts 101 (h.generator ∷ []) mine.relation_lines theirs.relation_lines mine.tail theirs.tail mine.relations theirs.relations (table_of_line mine.line h.generator mine.generator_is)
+    mine.relations_are relations mine.begins theirs.begins further in
     let fronts = h.lines.presentation.lines_are ∙ ap₂ (λ l ls. opening ++ l ∷ ls) (sym first) same.lines ∙ sym g.lines.presentation.lines_are in
     record {
       generators = h.generators_are ∙ ap (λ x. x ∷ []) (sym generator) ∙ sym g.generators_are;

@@ -140,3 +140,104 @@ fn arity_counts_zero_terms(rt: HostRuntime) -> Result<(), Fail> {
     assert_eq!(rt; element.arity, None);
     Ok(())
 }
+
+const LIE: &[u8] =
+    b"operad 1\nfield 101\norder path\ngen l 2 alt\nrel l(l(1,2),3) + l(l(2,3),1) + l(l(3,1),2)\n";
+
+const MOST_BYTES: usize = 16_777_216;
+
+// The document that a text is, if it is one.
+fn document_of(alloc: Global, text: &[u8]) -> Option<Document> {
+    if text.len() > MOST_BYTES {
+        return None;
+    }
+    read_document(alloc, text).ok()
+}
+
+// The line at which a text is refused, if it is for a line that isn't built.
+fn refused_line(alloc: Global, text: &[u8]) -> Option<u32> {
+    if text.len() > MOST_BYTES {
+        return None;
+    }
+    match read_document(alloc, text) {
+        Err(
+            ReadDocFail::At(
+                DocFail {
+                    line,
+                    kind: DocKind::NotBuilt,
+                },
+            ),
+        ) => Some(line),
+        _ => None,
+    }
+}
+
+#[test]
+fn a_document_without_a_tail_is_read(rt: HostRuntime) -> Result<(), Fail> {
+    let alloc = rt.alloc();
+    let document = document_of(alloc, LIE).ok_or("no document")?;
+    assert_eq!(rt; document.version, 1);
+    assert_eq!(rt; document.field.prime(), 101);
+    assert_eq!(rt; document.order, OrderName::Path);
+    assert_eq!(rt; document.weights.as_slice(), [0].as_slice());
+    assert_eq!(rt; document.gens.find("l"), Some(0));
+    assert!(rt; document.asks.is_empty());
+    assert_eq!(rt; document.tail, None);
+    let [relation] = document.rels.as_slice() else {
+        return Err("not one relation")?;
+    };
+    assert_eq!(rt; relation.terms().len(), 3);
+    assert_eq!(rt; relation.arity(), Some(3));
+    Ok(())
+}
+
+#[test]
+fn a_tail_begins_with_want(rt: HostRuntime) -> Result<(), Fail> {
+    let alloc = rt.alloc();
+    let mut text = LIE.to_vec(alloc)?;
+    text.extend_from_slice(b"rel 0\n want 3\nend end\n\n")?;
+    let document = document_of(alloc, &text).ok_or("no document")?;
+    assert_eq!(rt; document.rels.len(), 2);
+    let tail = document.tail.ok_or("no tail")?;
+    assert_eq!(rt;
+        tail,
+        Tail {
+            line: 7,
+            from: LIE.len() + 6
+        }
+    );
+    Ok(())
+}
+
+#[test]
+fn the_first_line_of_no_document_is_named(rt: HostRuntime) -> Result<(), Fail> {
+    let alloc = rt.alloc();
+    let rows: &[(&[u8], u32)] = &[
+        (b"", 1),
+        (b"operad 1\nfield 101", 3),
+        (b"operad 1\nfield 101\norder leafpath\nrel 0\n", 3),
+        (b"operad 1\nfield 101\norder path\n", 4),
+        (b"operad 1\nfield 101\norder path\nrel 0\n", 4),
+        (b"operad 1\nfield 101\norder path\ngen l 2 alt\nrel 1\n", 5),
+        (
+            b"operad 1\nfield 101\norder path\ngen l 2 alt\nrel 0*1\nwant 0\nend\n",
+            5,
+        ),
+        (
+            b"operad 1\nfield 101\norder path\ngen l 2 alt\nrel l(1,2)\nrel l(1,3)\nwant 0\n",
+            6,
+        ),
+        (
+            b"operad 1\nfield 101\norder path\ngen l 2 alt\nrel l(1,2)\nquery l(1,2)\n",
+            6,
+        ),
+        (
+            b"operad 1\nfield 101\norder path\ngen l 2 alt\n\nwant 0\n",
+            5,
+        ),
+    ];
+    for (text, line) in rows {
+        assert_eq!(rt; refused_line(alloc, text), Some(*line));
+    }
+    Ok(())
+}

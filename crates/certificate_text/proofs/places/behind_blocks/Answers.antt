@@ -1,4 +1,4 @@
-use Rattle.std.proofs.Common.{◌≡◌, ℕ, List, codes, Option, subst}
+use Rattle.std.proofs.Common.{ℕ, List, codes, Option, subst}
 use Rattle.std.specs.Option.{IfNone}
 use Rattle.labelled_trees.specs.Trees.{Tree}
 use Rattle.symmetric_sums.specs.Terms.{terms_of}

@@ -1,4 +1,4 @@
-use Rattle.std.proofs.Common.{◌≡◌, inl, refl, subst}
+use Rattle.std.proofs.Common.{inl, refl, subst}
 use Rattle.certificate_text.specs.UseSteps.{ReadsUse}
 use Rattle.certificate_text.proofs.places.behind_uses.Goals as goal
 

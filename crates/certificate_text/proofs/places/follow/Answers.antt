@@ -1,4 +1,4 @@
-use Rattle.std.proofs.Common.{◌≡◌, ◌∙◌, refl, sym}
+use Rattle.std.proofs.Common.{◌≡◌, ◌∙◌, sym}
 use Rattle.presentation_text.specs.Tokens.{tokens}
 use Rattle.certificate_text.specs.declared.places.Place.TheVariants.{Between, InStep}
 use Rattle.certificate_text.proofs.BlockReading.{answered, between_answers}

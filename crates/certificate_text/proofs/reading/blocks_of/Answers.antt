@@ -1,4 +1,4 @@
-use Rattle.std.proofs.Common.{◌≡◌, ap, map, refl, subst}
+use Rattle.std.proofs.Common.{ap, map, refl, subst}
 use Rattle.presentation_text.specs.Opening.{token_lines}
 use Rattle.presentation_text.specs.Tokens.{tokens}
 use Rattle.certificate_text.proofs.BlockReading.{none_read, one_more, other_line, line_missing, whole, not_between, Answers}

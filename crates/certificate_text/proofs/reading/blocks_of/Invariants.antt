@@ -1,6 +1,5 @@
-use Rattle.std.proofs.Common.{◌≡◌, ◌+◌, ◌++◌, List, length}
+use Rattle.std.proofs.Common.{length}
 use Rattle.presentation_text.specs.Opening.{token_lines}
-use Rattle.presentation_text.specs.declared.lexing.Token.{Token}
 use Rattle.certificate_text.proofs.BlockReading.{ReadUpTo}
 use Rattle.certificate_text.proofs.reading.blocks_of.Given as goal
 

@@ -1,7 +1,7 @@
 use Rattle.std.proofs.Common.{◌≡◌, ◌≢◌, ◌+◌, ◌<◌, Some, arith, drop, length, rules, slice_get, subst}
 use Rattle.std.proofs.lemmas.Option.{slice_get_within}
 use Rattle.presentation_text.specs.declared.lexing.Token.TheVariants.{Byte}
-use Rattle.certificate_text.specs.UseSteps.{ReadsCited, ReadsInputs}
+use Rattle.certificate_text.specs.UseSteps.{ReadsInputs}
 use Rattle.certificate_text.proofs.UseTokens.{behind-no_mark, behind-no_rule, behind-no_inputs, behind-found}
 use Rattle.certificate_text.proofs.uses.read_behind.Goals as goal
 

@@ -1,4 +1,4 @@
-use Rattle.std.proofs.Common.{◌≡◌, ◌<◌, arith, subst}
+use Rattle.std.proofs.Common.{◌<◌, arith, subst}
 use Rattle.labelled_trees.specs.Leaves.{leaf_count}
 use Rattle.labelled_trees.specs.Meaning.{tree_of}
 use Rattle.presentation_text.specs.TreeText.{ReadsWithin}
