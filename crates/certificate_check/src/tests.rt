@@ -1,7 +1,8 @@
 ghost use Rattle.std.specs.Prelude.{IsTrue};
 ghost use Rattle.std.specs.List.{All};
 ghost use Rattle.symmetric_sums.specs.Terms.{FitsOver};
-ghost use Rattle.certificate_check.specs.Blocks.{AreReady, IsReady};
+ghost use Rattle.certificate_check.specs.Blocks.{AreReady};
+ghost use Rattle.certificate_text.specs.BlockText.{IsReadyStep};
 
 use crate::{CheckAnswer, CheckCause, check_block};
 use certificate_text::{Block, Step};
@@ -120,7 +121,7 @@ fn all_fit(document: &Document, sums: &[Sum]) -> bool
 }
 
 fn is_ready(document: &Document, step: &Step) -> bool
-    ensures { IsTrue result → IsReady document.now.field document.now.gens step.now }
+    ensures { IsTrue result → IsReadyStep document.now.field document.now.gens step.now }
 {
     for item in step.uses.as_slice() {
         if item.coef >= document.field.prime() {
@@ -153,16 +154,25 @@ fn answer(alloc: Global, document: &Document, block: &Block) -> Result<CheckAnsw
     Ok(check_block(alloc, document, block)?)
 }
 
-// The answer for the block of one step whose element is wanted, the Jacobi relation, with these uses.
+// The answer for the block of one step, with these uses.
+fn answer_with(
+    alloc: Global,
+    document: &Document,
+    element: Sum,
+    want: Sum,
+    uses: Items<Instance>,
+) -> Result<CheckAnswer, Fail> {
+    let mut steps = Items::new(alloc);
+    steps.push(Step { element, uses })?;
+    answer(alloc, document, &Block { want, steps })
+}
+
+// The same where the element and the wanted one are the Jacobi relation.
 fn answer_for(alloc: Global, uses: Items<Instance>) -> Result<CheckAnswer, Fail> {
     let document = lie(alloc)?;
-    let mut steps = Items::new(alloc);
-    steps.push(Step {
-        element: spelled_jacobi(alloc, &document)?,
-        uses,
-    })?;
+    let element = spelled_jacobi(alloc, &document)?;
     let want = spelled_jacobi(alloc, &document)?;
-    answer(alloc, &document, &Block { want, steps })
+    answer_with(alloc, &document, element, want, uses)
 }
 
 fn refused(cause: CheckCause) -> CheckAnswer {
@@ -226,14 +236,78 @@ fn compares_wanted(rt: HostRuntime) -> Result<(), Fail> {
         steps: Items::new(alloc),
     };
     assert_eq!(rt; answer(alloc, &document, &nothing)?, CheckAnswer::Accepted);
-    let something = Block {
-        want: spelled_jacobi(alloc, &document)?,
-        steps: Items::new(alloc),
-    };
     let unwanted = CheckAnswer::Refused {
         step: 0,
         cause: CheckCause::NotWanted,
     };
+    let something = Block {
+        want: spelled_jacobi(alloc, &document)?,
+        steps: Items::new(alloc),
+    };
     assert_eq!(rt; answer(alloc, &document, &something)?, unwanted);
+    Ok(())
+}
+
+#[test]
+fn compares_wanted_with_last_step(rt: HostRuntime) -> Result<(), Fail> {
+    let alloc = rt.alloc();
+    let document = lie(alloc)?;
+    let mut want = Sum::new(alloc);
+    let inner = bracket(alloc, Tree::Leaf(2), Tree::Leaf(3))?;
+    add(
+        alloc,
+        &document,
+        &mut want,
+        1,
+        bracket(alloc, Tree::Leaf(1), inner)?,
+    )?;
+    let mut uses = Items::new(alloc);
+    uses.push(item(alloc, 1, Tree::Leaf(0), Rule::Rel(1), &[1, 2, 3])?)?;
+    let element = spelled_jacobi(alloc, &document)?;
+    let found = answer_with(alloc, &document, element, want, uses)?;
+    assert_eq!(rt; found, refused(CheckCause::NotWanted));
+    Ok(())
+}
+
+#[test]
+fn cancels_in_twelve_leaves(rt: HostRuntime) -> Result<(), Fail> {
+    let alloc = rt.alloc();
+    let document = lie(alloc)?;
+    let mut uses = Items::new(alloc);
+    for coef in [1, 100] {
+        let mut context = Tree::Leaf(0);
+        for leaf in 4..13 {
+            context = bracket(alloc, context, Tree::Leaf(leaf))?;
+        }
+        uses.push(item(alloc, coef, context, Rule::Rel(1), &[1, 2, 3])?)?;
+    }
+    let found = answer_with(alloc, &document, Sum::new(alloc), Sum::new(alloc), uses)?;
+    assert_eq!(rt; found, CheckAnswer::Accepted);
+    Ok(())
+}
+
+#[test]
+fn names_first_bad_use(rt: HostRuntime) -> Result<(), Fail> {
+    let alloc = rt.alloc();
+    for (rules, cause) in [
+        (
+            [Rule::Rel(1), Rule::Rel(2), Rule::Step(1)],
+            CheckCause::UseUnfit,
+        ),
+        (
+            [Rule::Rel(1), Rule::Step(1), Rule::Rel(2)],
+            CheckCause::Ahead,
+        ),
+        (
+            [Rule::Rel(1), Rule::Rel(1), Rule::Rel(1)],
+            CheckCause::Differs,
+        ),
+    ] {
+        let mut uses = Items::new(alloc);
+        for rule in &rules {
+            uses.push(item(alloc, 2, Tree::Leaf(0), *rule, &[1, 2, 3])?)?;
+        }
+        assert_eq!(rt; answer_for(alloc, uses)?, refused(cause), "{rules:?}");
+    }
     Ok(())
 }
