@@ -1,0 +1,8 @@
+//! Shuffle trees over labels: their type, frames and insertion, words and keys, all trees of an arity and their number.
+#![tactic(auto)]
+
+mod checks;
+mod stree;
+
+pub use labelled_trees::Tree as Shape;
+pub use stree::STree;
