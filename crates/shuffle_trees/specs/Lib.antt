@@ -1,5 +1,6 @@
 pub mod Checks
 pub mod Codes
 pub mod ValidTrees
+pub mod Walks
 pub mod ValidFrames
 pub mod LabelLists

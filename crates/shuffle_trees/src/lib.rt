@@ -2,7 +2,9 @@
 #![tactic(auto)]
 
 mod checks;
+mod keys;
 mod stree;
 
+pub use keys::{Key, leaf_row, words};
 pub use labelled_trees::Tree as Shape;
-pub use stree::STree;
+pub use stree::{STree, vertex_count};

@@ -1,8 +1,10 @@
-ghost use Rattle.std.specs.Prelude.{◌≡◌, IfOk, IfSome, IfNone};
+ghost use Rattle.std.specs.Prelude.{◌≡◌, ◌↔◌, ◌<◌, ◌^◌, IfOk, IfSome, IfNone, IsTrue};
+ghost use Rattle.labelled_trees.specs.Trees.{vertices};
 ghost use Rattle.labelled_trees.specs.Meaning.{tree_of};
 ghost use Rattle.shuffle_trees.specs.ValidTrees.{IsValid};
 
 use crate::Shape;
+use crate::checks::{count_once, least_leaf};
 use std::alloc::{AllocError, Global};
 use std::marker::Model;
 
@@ -29,7 +31,59 @@ impl Model for STree {
     ghost invariant = { λ tree. IsValid (tree_of tree.shape) };
 }
 
+// Whether a plain tree is a shuffle tree.
+fn is_valid(shape: &Shape) -> bool
+    ensures { IsTrue result ↔ IsValid (tree_of shape.now) }
+{
+    let mut times = [0; 256];
+    if !count_once(&mut times, shape) {
+        return false;
+    }
+    if times[0] != 0 {
+        return false;
+    }
+    least_leaf(shape, 0).is_some()
+}
+
+// How many vertices a tree has.
+fn count_vertices(tree: &Shape) -> u32
+    requires { vertices (tree_of tree.now) < 2 ^ 32 }
+    ensures { result ≡ vertices (tree_of tree.now) }
+{
+    match tree {
+        Shape::Leaf(_) => 0,
+        Shape::Node(_, inputs) => {
+            let mut count = 1;
+            for input in inputs.as_slice() {
+                count += count_vertices(input);
+            }
+            count
+        }
+    }
+}
+
+/// How many vertices the tree has. They are numbered from 1 in preorder.
+pub fn vertex_count(tree: &STree) -> u32
+    ensures count { result ≡ vertices tree.now }
+    ensures few { result < 255 }
+{
+    count_vertices(tree.shape())
+}
+
 impl STree {
+    /// The shuffle tree of a plain tree. It takes no memory. `None` exactly where a leaf number is 0 or stands twice,
+    /// a vertex has fewer than two inputs, or the inputs of a vertex don't stand in ascending order of their least leaf numbers.
+    pub fn of(shape: Shape) -> Option<STree>
+        ensures tree { IfSome result (λ tree. tree ≡ tree_of shape) }
+        ensures none { IfNone result (IsValid (tree_of shape) → ⊥) }
+    {
+        if is_valid(&shape) {
+            Some(STree { shape })
+        } else {
+            None
+        }
+    }
+
     /// The plain tree.
     pub fn shape(&self) -> &Shape
         ensures shape { tree_of result.now ≡ self.now }
