@@ -1,6 +1,7 @@
 -- Walks through a tree.
 use Rattle.std.specs.Prelude.{ℕ, ◌≡◌, Bool, true, false, List, [], ◌∷◌, ◌++◌}
 use Rattle.labelled_trees.specs.Trees.{Tree, Row, leaf, node, none, more}
+use Rattle.shuffle_insertions.specs.Keys.{words_below}
 
 -- the labels of the vertices in preorder
 abbrev mutual
@@ -16,3 +17,7 @@ abbrev mutual
 abbrev pub IsWalked : Bool → List ℕ → List ℕ → List (List ℕ) → Type 0
 IsWalked true before after words = (word : List ℕ) × (others : List (List ℕ)) × (words ≡ word ∷ others) × (after ≡ before ++ word)
 IsWalked false before after words = (words ≡ []) × (after ≡ before)
+
+-- the words of the leaves, in ascending order of their numbers, which are below 256
+unfoldable pub words : Tree ℕ → List (List ℕ)
+words t = words_below 256 t

@@ -1,9 +1,9 @@
 ghost use Rattle.std.specs.Prelude.{◌≡◌, ◌≤◌, ◌++◌, IfOk, OnOk};
 ghost use Rattle.labelled_trees.specs.Meaning.{tree_of};
 ghost use Rattle.labelled_trees.specs.Trees.{leaves};
-ghost use Rattle.labelled_trees.specs.Leaves.{AllLeaves};
-ghost use Rattle.shuffle_insertions.specs.Keys.{words_at, words_below};
-ghost use Rattle.shuffle_trees.specs.Walks.{IsWalked, vertex_labels};
+ghost use Rattle.labelled_trees.specs.Leaves.{AllLeaves, occurs};
+ghost use Rattle.shuffle_insertions.specs.Keys.{words_at};
+ghost use Rattle.shuffle_trees.specs.Walks as spec;
 
 use crate::{STree, Shape};
 use sqlite_items::Items;
@@ -26,7 +26,7 @@ fn push_leaves(tree: &Shape, row: &mut Items<u8>) -> Result<(), AllocError>
 
 // Puts the labels of the vertices in preorder behind the others.
 fn push_labels(tree: &Shape, labels: &mut Items<u16>) -> Result<(), AllocError>
-    ensures labels { OnOk result (labels.new ≡ labels.old ++ vertex_labels (tree_of tree.now)) }
+    ensures labels { OnOk result (labels.new ≡ labels.old ++ spec.vertex_labels (tree_of tree.now)) }
 {
     match tree {
         Shape::Leaf(_) => Ok(()),
@@ -43,7 +43,7 @@ fn push_labels(tree: &Shape, labels: &mut Items<u16>) -> Result<(), AllocError>
 // Puts the labels from the root to the leaf with this number behind the word. False where there is no such leaf;
 // the word is as before then.
 fn walk(tree: &Shape, number: u8, word: &mut Items<u16>) -> Result<bool, AllocError>
-    ensures walked { IfOk result (λ found. IsWalked found word.old word.new (words_at number (tree_of tree.now))) }
+    ensures walked { IfOk result (λ found. spec.IsWalked found word.old word.new (words_at number (tree_of tree.now))) }
 {
     match tree {
         Shape::Leaf(leaf) => Ok(*leaf == number),
@@ -60,6 +60,13 @@ fn walk(tree: &Shape, number: u8, word: &mut Items<u16>) -> Result<bool, AllocEr
     }
 }
 
+fn greater(one: u8, other: u8) -> u8
+    ensures one { one ≤ result }
+    ensures other { other ≤ result }
+{
+    if one < other { other } else { one }
+}
+
 // A number that no leaf is above.
 fn greatest(tree: &Shape) -> u8
     ensures { AllLeaves (tree_of tree.now) (λ i. i ≤ result) }
@@ -69,25 +76,39 @@ fn greatest(tree: &Shape) -> u8
         Shape::Node(_, inputs) => {
             let mut most = 0;
             for input in inputs.as_slice() {
-                most = most.max(greatest(input));
+                most = greater(most, greatest(input));
             }
             most
         }
     }
 }
 
+// Puts the word of the leaf with this number behind the others, if there is such a leaf.
+fn push_word(
+    alloc: Global,
+    tree: &Shape,
+    number: u8,
+    words: &mut Items<Items<u16>>,
+) -> Result<(), AllocError>
+    requires { occurs number (tree_of tree.now) ≤ 1 }
+    ensures word { OnOk result (words.new ≡ words.old ++ words_at number (tree_of tree.now)) }
+{
+    let mut word = Items::new(alloc);
+    if walk(tree, number, &mut word)? {
+        words.push(word)?;
+    }
+    Ok(())
+}
+
 /// The word of each leaf, in ascending order of leaf numbers: the labels from the root down to the leaf.
 /// `AllocError` comes for want of memory alone.
 pub fn words(alloc: Global, tree: &STree) -> Result<Items<Items<u16>>, AllocError>
-    ensures words { IfOk result (λ words. words ≡ words_below 256 tree.now) }
+    ensures words { IfOk result (λ words. words ≡ spec.words tree.now) }
 {
     let shape = tree.shape();
     let mut words = Items::new(alloc);
-    for number in 1..=greatest(shape) {
-        let mut word = Items::new(alloc);
-        if walk(shape, number, &mut word)? {
-            words.push(word)?;
-        }
+    for below in 0..greatest(shape) {
+        push_word(alloc, shape, below + 1, &mut words)?;
     }
     Ok(words)
 }
@@ -112,9 +133,9 @@ pub struct Key {
 impl Key {
     /// The key of a tree. `AllocError` comes for want of memory alone.
     pub fn of(alloc: Global, tree: &STree) -> Result<Key, AllocError>
-        ensures words { IfOk result (λ key. key.words ≡ words_below 256 tree.now) }
+        ensures words { IfOk result (λ key. key.words ≡ spec.words tree.now) }
         ensures row { IfOk result (λ key. key.row ≡ leaves tree.now) }
-        ensures vertices { IfOk result (λ key. key.vertices ≡ vertex_labels tree.now) }
+        ensures vertices { IfOk result (λ key. key.vertices ≡ spec.vertex_labels tree.now) }
     {
         let mut vertices = Items::new(alloc);
         push_labels(tree.shape(), &mut vertices)?;

@@ -2,6 +2,7 @@
 #![tactic(auto)]
 
 mod checks;
+mod frame;
 mod keys;
 mod stree;
 

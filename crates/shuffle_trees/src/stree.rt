@@ -1,5 +1,6 @@
 ghost use Rattle.std.specs.Prelude.{◌≡◌, ◌↔◌, ◌<◌, ◌^◌, IfOk, IfSome, IfNone, IsTrue};
 ghost use Rattle.labelled_trees.specs.Trees.{vertices};
+ghost use Rattle.shuffle_insertions.specs.ShuffleTrees.{least};
 ghost use Rattle.labelled_trees.specs.Meaning.{tree_of};
 ghost use Rattle.shuffle_trees.specs.ValidTrees.{IsValid};
 
@@ -62,6 +63,19 @@ fn count_vertices(tree: &Shape) -> u32
     }
 }
 
+// The number of the first leaf; 0 where a vertex on the way has no inputs.
+fn first_leaf(tree: &Shape) -> u8
+    ensures { result ≡ least (tree_of tree.now) }
+{
+    match tree {
+        Shape::Leaf(number) => *number,
+        Shape::Node(_, inputs) => match inputs.as_slice() {
+            [first, ..] => first_leaf(first),
+            [] => 0,
+        },
+    }
+}
+
 /// How many vertices the tree has. They are numbered from 1 in preorder.
 pub fn vertex_count(tree: &STree) -> u32
     ensures count { result ≡ vertices tree.now }
@@ -90,6 +104,14 @@ impl STree {
         ensures valid { IsValid self.now }
     {
         &self.shape
+    }
+
+    // The number of the first leaf, which is the least.
+    pub(crate) fn least(&self) -> u8
+        ensures least { result ≡ least self.now }
+        ensures valid { IsValid self.now }
+    {
+        first_leaf(self.shape())
     }
 
     /// An equal tree. `AllocError` comes for want of memory alone.
