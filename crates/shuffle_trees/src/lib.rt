@@ -3,9 +3,12 @@
 
 mod checks;
 mod frame;
+mod insertion;
 mod keys;
 mod stree;
 
+pub use frame::Frame;
+pub use insertion::insert;
 pub use keys::{Key, leaf_row, words};
 pub use labelled_trees::Tree as Shape;
 pub use stree::{STree, vertex_count};

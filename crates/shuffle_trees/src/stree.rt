@@ -106,6 +106,14 @@ impl STree {
         &self.shape
     }
 
+    // The shuffle tree of a plain tree that is one.
+    pub(crate) fn from_valid(shape: Shape) -> STree
+        requires { IsValid (tree_of shape) }
+        ensures { result ≡ tree_of shape }
+    {
+        STree { shape }
+    }
+
     // The number of the first leaf, which is the least.
     pub(crate) fn least(&self) -> u8
         ensures least { result ≡ least self.now }
