@@ -4,8 +4,9 @@ use Rattle.std.specs.List.{AllByRecursion}
 use Rattle.std.proofs.lemmas.List.{length-map, nil_from_length}
 use Rattle.std.proofs.lemmas.List.Elements.{All-from_recursion}
 use mathlib.Core.Path.{ap₂}
-use Rattle.labelled_trees.specs.Trees.{Tree, Row, node, graft, graft_row, row, width}
+use Rattle.labelled_trees.specs.Trees.{Tree, Row, node, more, graft, graft_row, row, width}
 use Rattle.labelled_trees.specs.Insertions.{put, at_zero}
+use Rattle.labelled_trees.specs.Leaves.{AllLeaves, AllRow}
 use Rattle.labelled_trees.specs.Meaning.{tree_of}
 use Rattle.labelled_trees.specs.declared.Tree as program
 use Rattle.labelled_trees.specs.declared.Tree.TheVariants.{Node}
@@ -20,12 +21,19 @@ use Rattle.shuffle_trees.specs.ValidTrees.{IsWide, AreWide}
 abbrev pub with_hole : Tree ℕ → List program.Tree → List (Tree ℕ)
 with_hole x ts = map (λ t. put (tree_of t) x) ts
 
-graft_row-row : (ts : List program.Tree) (x : Tree ℕ) → graft_row (row (map tree_of ts)) (at_zero x) ≡ row (with_hole x ts)
-graft_row-row [] x = refl
-graft_row-row (t ∷ ts) x = ap (λ r. Rattle.labelled_trees.specs.Trees.more (put (tree_of t) x) r) (graft_row-row ts x)
+pub graft_row-row : (ts : List program.Tree) (s : ℕ → Tree ℕ) → graft_row (row (map tree_of ts)) s ≡ row (map (λ t. graft (tree_of t) s) ts)
+graft_row-row [] s = refl
+graft_row-row (t ∷ ts) s = ap (λ r. more (graft (tree_of t) s) r) (graft_row-row ts s)
+
+pub graft-node : (g : ℕ) (ts : List program.Tree) (s : ℕ → Tree ℕ) → graft (tree_of (Node g ts)) s ≡ node g (row (map (λ t. graft (tree_of t) s) ts))
+graft-node g ts s = ap (λ u. graft u s) (tree_of-node g ts) ∙ ap (node g) (graft_row-row ts s)
 
 pub put-node : (g : ℕ) (ts : List program.Tree) (x : Tree ℕ) → put (tree_of (Node g ts)) x ≡ node g (row (with_hole x ts))
-put-node g ts x = ap (λ u. put u x) (tree_of-node g ts) ∙ ap (node g) (graft_row-row ts x)
+put-node g ts x = graft-node g ts (at_zero x)
+
+-- a vertex over the grafts of the inputs
+pub node-graft : (g : ℕ) (ts made : List program.Tree) (s : ℕ → Tree ℕ) → map tree_of made ≡ map (λ t. graft (tree_of t) s) ts → tree_of (Node g made) ≡ graft (tree_of (Node g ts)) s
+node-graft g ts made s e = tree_of-node g made ∙ ap (λ us. node g (row us)) e ∙ sym (graft-node g ts s)
 
 -- ---- width
 
@@ -107,3 +115,14 @@ pub first_least : (ts : List program.Tree) (i : ℕ) (t : program.Tree) (x : Tre
 first_least [] i t x first found now lt e is before start later = absurd (omega arith)
 first_least (u ∷ ts) zero t x first found now lt e is before start later = start refl ∙ is ∙ ap (λ v. least (put (tree_of v) x)) e
 first_least (u ∷ ts) (suc i) t x first found now lt e is before start later = later (omega arith) ∙ before (omega arith)
+
+-- ---- facts of leaves
+
+inputs_all : (ts : List program.Tree) (P : ℕ → Type 0) → AllRow (row (map tree_of ts)) P → AllByRecursion (λ t. AllLeaves (tree_of t) P) ts
+inputs_all [] P h = tt
+inputs_all (t ∷ ts) P h = (h.0, inputs_all ts P h.1)
+
+-- what holds at the leaves of a vertex holds at those of an input
+pub input_all : (g : ℕ) (ts : List program.Tree) (i : ℕ) (t : program.Tree) (P : ℕ → Type 0) → i < length ts → t ≡ get_or ts i t → AllLeaves (tree_of (Node g ts)) P → AllLeaves (tree_of t) P
+input_all g ts i t P lt e h =
+    subst (λ u. AllLeaves (tree_of u) P) (sym e) (All-from_recursion (λ u. AllLeaves (tree_of u) P) ts (inputs_all ts P (subst (λ u. AllLeaves u P) (tree_of-node g ts) h)) i t lt)

@@ -18,7 +18,7 @@ fn with_inputs(alloc: Global, tree: &Shape, inputs: &[STree]) -> Result<Shape, A
     match tree {
         Shape::Leaf(number) => {
             let input = &inputs[*number as usize - 1];
-            input.shape().copy(alloc)
+            Ok(input.shape().copy(alloc)?)
         }
         Shape::Node(label, children) => {
             let mut made = Items::new(alloc);
