@@ -1,3 +1,4 @@
+pub mod Capped
 pub mod Checks
 pub mod Codes
 pub mod ValidTrees

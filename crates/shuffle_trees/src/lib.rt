@@ -2,13 +2,17 @@
 #![tactic(auto)]
 
 mod checks;
+mod counting;
 mod frame;
 mod insertion;
 mod keys;
+mod labels;
 mod stree;
 
+pub use counting::count_trees;
 pub use frame::Frame;
 pub use insertion::insert;
 pub use keys::{Key, leaf_row, words};
+pub use labels::Labels;
 pub use labelled_trees::Tree as Shape;
 pub use stree::{STree, vertex_count};
