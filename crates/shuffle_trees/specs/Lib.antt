@@ -3,5 +3,6 @@ pub mod Checks
 pub mod Codes
 pub mod ValidTrees
 pub mod Walks
+pub mod Rows
 pub mod ValidFrames
 pub mod LabelLists

@@ -7,6 +7,7 @@ mod frame;
 mod insertion;
 mod keys;
 mod labels;
+mod listing;
 mod stree;
 
 pub use counting::count_trees;
@@ -15,4 +16,5 @@ pub use insertion::insert;
 pub use keys::{Key, leaf_row, words};
 pub use labels::Labels;
 pub use labelled_trees::Tree as Shape;
+pub use listing::all_trees;
 pub use stree::{STree, vertex_count};

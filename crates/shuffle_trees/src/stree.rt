@@ -1,6 +1,7 @@
-ghost use Rattle.std.specs.Prelude.{◌≡◌, ◌↔◌, ◌<◌, ◌^◌, IfOk, IfSome, IfNone, IsTrue};
+ghost use Rattle.std.specs.Prelude.{ℕ, ◌≤◌, ◌≡◌, ◌↔◌, ◌<◌, ◌^◌, IfOk, IfSome, IfNone, IsTrue};
 ghost use Rattle.labelled_trees.specs.Trees.{vertices};
-ghost use Rattle.shuffle_insertions.specs.ShuffleTrees.{least};
+ghost use Rattle.labelled_trees.specs.Leaves.{AllLeaves, leaf_count};
+ghost use Rattle.shuffle_insertions.specs.ShuffleTrees.{least, IsShuffle};
 ghost use Rattle.labelled_trees.specs.Meaning.{tree_of};
 ghost use Rattle.shuffle_trees.specs.ValidTrees.{IsValid};
 
@@ -63,6 +64,40 @@ fn count_vertices(tree: &Shape) -> u32
     }
 }
 
+// How many leaves a tree has.
+fn count_leaves(tree: &Shape) -> u8
+    requires { leaf_count (tree_of tree.now) < 256 }
+    ensures { result ≡ leaf_count (tree_of tree.now) }
+{
+    match tree {
+        Shape::Leaf(_) => 1,
+        Shape::Node(_, inputs) => {
+            let mut count = 0;
+            for input in inputs.as_slice() {
+                count += count_leaves(input);
+            }
+            count
+        }
+    }
+}
+
+// Whether no leaf number is above `most`.
+fn are_within(tree: &Shape, most: u8) -> bool
+    ensures { IsTrue result ↔ AllLeaves (tree_of tree.now) (λ i. i ≤ most) }
+{
+    match tree {
+        Shape::Leaf(number) => *number <= most,
+        Shape::Node(_, inputs) => {
+            for input in inputs.as_slice() {
+                if !are_within(input, most) {
+                    return false;
+                }
+            }
+            true
+        }
+    }
+}
+
 // The number of the first leaf; 0 where a vertex on the way has no inputs.
 fn first_leaf(tree: &Shape) -> u8
     ensures { result ≡ least (tree_of tree.now) }
@@ -104,6 +139,20 @@ impl STree {
         ensures valid { IsValid self.now }
     {
         &self.shape
+    }
+
+    /// The arity of the tree: the number `n` where its leaves are 1 to `n`, each once. It takes no memory.
+    /// `None` exactly where the leaves are other numbers.
+    pub fn arity(&self) -> Option<u8>
+        ensures shuffle { IfSome result (λ n. IsShuffle n self.now) }
+        ensures none { IfNone result ((n : ℕ) → IsShuffle n self.now → ⊥) }
+    {
+        let leaves = count_leaves(self.shape());
+        if are_within(self.shape(), leaves) {
+            Some(leaves)
+        } else {
+            None
+        }
     }
 
     // The shuffle tree of a plain tree that is one.
