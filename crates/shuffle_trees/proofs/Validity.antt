@@ -44,12 +44,15 @@ pub valid_by : (times : List ℕ) (t : Tree ℕ) (found : Option ℕ) → Added 
     → IfSome found (λ l. IsOrdered t (put t (leaf 0)) l) → IfNone found (IsUnordered t (put t (leaf 0)))
     → (IsTrue (is_some found) → IsValid t) × (IsValid t → IsTrue (is_some found))
 valid_by times t None a z s n = (λ e. absurd cc, λ v. absurd (n v.wide (subst IsRising (sym (put_zero t)) v.rising)))
-valid_by times t (Some l) a z s n = (λ e. record {
-  wide = s.wide;
-  rising = subst IsRising (put_zero t) s.rising;
-  once = λ i. (counted times t a i).0;
-  only = λ i o. let w = (counted times t a i).1 o in (positive i o w.1, w.0);
-}, λ v. refl)
+valid_by times t (Some l) a z s n = (
+  λ e. record {
+    wide = s.wide;
+    rising = subst IsRising (put_zero t) s.rising;
+    once = λ i. (counted times t a i).0;
+    only = λ i o. let w = (counted times t a i).1 o in (positive i o w.1, w.0);
+  },
+  λ v. refl,
+)
   where
     positive : (i : ℕ) → 0 < occurs i t → slice_index times i ≡ occurs i t → 0 < i
     positive zero o e = absurd (omega (arith, z, o, e))

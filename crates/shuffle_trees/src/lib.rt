@@ -14,7 +14,10 @@ pub use counting::count_trees;
 pub use frame::Frame;
 pub use insertion::insert;
 pub use keys::{Key, leaf_row, words};
-pub use labels::Labels;
 pub use labelled_trees::Tree as Shape;
+pub use labels::Labels;
 pub use listing::all_trees;
 pub use stree::{STree, vertex_count};
+
+#[cfg(test)]
+mod tests;

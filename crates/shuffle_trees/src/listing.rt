@@ -151,7 +151,15 @@ fn list_rows(
         first,
         later: Items::new(alloc),
     };
-    split_rows(alloc, labels, levels, inputs - 1, others, &mut split, &mut made)?;
+    split_rows(
+        alloc,
+        labels,
+        levels,
+        inputs - 1,
+        others,
+        &mut split,
+        &mut made,
+    )?;
     Ok(made)
 }
 
