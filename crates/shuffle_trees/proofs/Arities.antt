@@ -1,6 +1,5 @@
 -- The arities of labels.
-use Rattle.std.proofs.Common.{◌≡◌, ℕ, ◌<◌, ◌≤◌, List, length, arith}
-use Rattle.std.specs.List.{All}
+use Rattle.std.proofs.Common.{ℕ, ◌<◌, ◌≤◌, List, length}
 use Rattle.std.proofs.lemmas.List.{get_or_past}
 use Rattle.shuffle_insertions.specs.Labels.{AreLabels}
 use Rattle.shuffle_trees.specs.LabelLists.{arity_in, AreFew}

@@ -5,7 +5,7 @@ use Rattle.std.proofs.lemmas.List.{get_or-replicate, get_or_past}
 use Rattle.std.proofs.lemmas.List.Sums.{sum_by-cons, get_or-le-sum_by}
 use native.Mathlib.Decide.{ℕ_discrete, dec_lt}
 use Rattle.labelled_trees.specs.Trees.{Tree, Row, leaf, node, none, more, row, width, vertices, vertices_row}
-use Rattle.labelled_trees.specs.Leaves.{AllLeaves, sum_leaves, occurs, leaf_count, leaf_count_row}
+use Rattle.labelled_trees.specs.Leaves.{AllLeaves, occurs, leaf_count, leaf_count_row}
 use Rattle.labelled_trees.specs.Meaning.{tree_of}
 use Rattle.labelled_trees.specs.declared.Tree as program
 use Rattle.labelled_trees.specs.declared.Tree.TheVariants.{Node}

@@ -1,19 +1,19 @@
 -- The inputs of a frame, and when a context and inputs make a frame.
 use Rattle.std.specs.Prelude.{slice_index, Option, Some, None, IfSome, IfNone, IsTrue, is_some}
-use Rattle.std.proofs.Common.{◌≡◌, ℕ, zero, suc, ◌+◌, ◌<◌, ◌≤◌, List, [], ◌∷◌, length, take, drop, get_or, replicate, refl, ap, sym, ◌∙◌, subst, arith}
+use Rattle.std.proofs.Common.{◌≡◌, ℕ, zero, suc, ◌+◌, ◌<◌, ◌≤◌, List, [], ◌∷◌, length, take, drop, get_or, replicate, refl, ap, sym, subst, arith}
 use Rattle.std.specs.List.{AllByRecursion}
 use native.Mathlib.Decide.{dec_lt}
 use Rattle.labelled_trees.specs.Trees.{Tree, leaf, row}
-use Rattle.labelled_trees.specs.Leaves.{AllLeaves, occurs, occurs_row}
-use Rattle.labelled_trees.specs.Insertions.{put, IsContext}
+use Rattle.labelled_trees.specs.Leaves.{occurs, occurs_row}
+use Rattle.labelled_trees.specs.Insertions.{put}
 use Rattle.shuffle_insertions.specs.ShuffleTrees.{least, least_row, IsRising, IsRisingRow}
 use Rattle.shuffle_insertions.specs.Frames.{Frame, IsFrame}
-use Rattle.shuffle_trees.specs.ValidTrees.{IsWide, AreWide, IsValid}
+use Rattle.shuffle_trees.specs.ValidTrees.{AreWide, IsValid}
 use Rattle.shuffle_trees.specs.ValidFrames.{IsValidFrame, frame_from}
 use Rattle.shuffle_trees.specs.Checks.{Added, IsTwice, IsOrdered, IsUnordered, AddedInputs, AreTwice}
 use Rattle.shuffle_trees.proofs.Counts.{no_times}
 use Rattle.shuffle_trees.proofs.Validity.{counted}
-use Rattle.shuffle_trees.proofs.Vertices.{RisesFrom, row_of_rises, rises_of_row}
+use Rattle.shuffle_trees.proofs.Vertices.{RisesFrom, row_of_rises}
 use Rattle.shuffle_trees.proofs.Walking.{left_from, none_left}
 
 -- ---- rising inputs

@@ -1,12 +1,11 @@
 -- Insertion into a valid frame gives a valid tree.
 use Rattle.std.proofs.Common.{◌≡◌, ℕ, zero, suc, ◌+◌, ◌*◌, ◌<◌, ◌≤◌, List, [], ◌∷◌, length, get_or, refl, ap, sym, ◌∙◌, subst, arith}
-use mathlib.Core.Path.{ap₂}
-use native.Mathlib.Decide.{ℕ_discrete, dec_lt}
-use Rattle.labelled_trees.specs.Trees.{Tree, Row, leaf, node, none, more, row, graft, graft_row, width}
+use native.Mathlib.Decide.{ℕ_discrete}
+use Rattle.labelled_trees.specs.Trees.{Tree, Row, leaf, node, none, more, row, graft, graft_row}
 use Rattle.labelled_trees.specs.Leaves.{AllLeaves, AllRow, sum_leaves, sum_row, occurs, occurs_row, one_if}
 use Rattle.labelled_trees.specs.RangeSums.{range_sum}
 use Rattle.labelled_trees.specs.Contexts.{Ctx, RowCtx, hole, inside, here, past, fill, fill_row}
-use Rattle.labelled_trees.specs.Insertions.{IsContext, put, at_zero, item, listed}
+use Rattle.labelled_trees.specs.Insertions.{put, at_zero, item, listed}
 use Rattle.labelled_trees.proofs.Fitting.{width-graft}
 use Rattle.labelled_trees.proofs.GraftLeaves.{sum_leaves-graft}
 use Rattle.labelled_trees.proofs.Insertions.{put-fill}
@@ -14,7 +13,6 @@ use Rattle.labelled_trees.proofs.Leaves.{AllLeaves-each, at_leaf, by_leaf, one_i
 use Rattle.labelled_trees.proofs.RangeSums.{by_counts}
 use Rattle.shuffle_insertions.specs.ShuffleTrees.{least, least_row, IsRising, IsShuffle}
 use Rattle.shuffle_insertions.specs.Frames.{Frame, insert}
-use Rattle.shuffle_insertions.specs.Slots.{Slot, fill_slot, PartsRise}
 use Rattle.shuffle_insertions.proofs.Frames.{frame_of, SlotOf, slot_of}
 use Rattle.shuffle_insertions.proofs.Insertions.{least-graft, rising-graft}
 use Rattle.shuffle_insertions.proofs.Rising.{rising-fill, least-le, least-occurs}

@@ -6,14 +6,13 @@ use mathlib.Core.Path.{ap₂}
 use Rattle.std.specs.List.{AllByRecursion}
 use Rattle.std.proofs.lemmas.List.{map-append, nil_from_length, take_all}
 use Rattle.std.proofs.lemmas.Bool.{eqb-true}
-use Rattle.labelled_trees.specs.Trees.{Tree, Row, leaf, node, none, more, row, width}
+use Rattle.labelled_trees.specs.Trees.{Tree, Row, leaf, node, none, more}
 use Rattle.labelled_trees.specs.Labelled.{Fits, FitsRow}
 use Rattle.labelled_trees.specs.Meaning.{tree_of}
 use Rattle.labelled_trees.specs.declared.Tree as program
-use Rattle.labelled_trees.specs.declared.Tree.TheVariants.{Node}
 use Rattle.labelled_trees.proofs.ProgramTrees.{tree_of-node}
 use Rattle.modular_sums.specs.Lists.{Mem}
-use Rattle.shuffle_insertions.specs.ShuffleTrees.{IsShuffle, IsShuffleTree}
+use Rattle.shuffle_insertions.specs.ShuffleTrees.{IsShuffleTree}
 use Rattle.shuffle_insertions.specs.Listing.{joined_below, joined_splits, each_with_each, rows, lone, shuffles}
 use Rattle.shuffle_insertions.proofs.Insertions.{once_of}
 use Rattle.shuffle_insertions.proofs.Splits.{Split, done, left, right, split_length}

@@ -1,15 +1,15 @@
 -- What the checks show together.
-use Rattle.std.proofs.Common.{◌≡◌, ℕ, zero, suc, ◌+◌, ◌<◌, ◌≤◌, List, replicate, refl, ap, sym, ◌∙◌, subst, arith}
+use Rattle.std.proofs.Common.{◌≡◌, ℕ, zero, suc, ◌<◌, ◌≤◌, List, replicate, refl, sym, ◌∙◌, subst, arith}
 use Rattle.std.specs.Prelude.{slice_index, Option, Some, None, IfSome, IfNone, IsTrue, is_some}
 use native.Mathlib.Decide.{dec_lt}
-use Rattle.labelled_trees.specs.Trees.{Tree, leaf, graft}
-use Rattle.labelled_trees.specs.Leaves.{AllLeaves, occurs}
+use Rattle.labelled_trees.specs.Trees.{Tree, leaf}
+use Rattle.labelled_trees.specs.Leaves.{occurs}
 use Rattle.labelled_trees.specs.Insertions.{put, at_zero}
 use Rattle.labelled_trees.proofs.Leaves.{at_leaf, AllLeaves-each}
 use Rattle.labelled_trees.proofs.Grafts.{graft_leaf}
 use Rattle.labelled_trees.proofs.GraftLeaves.{graft_ext}
 use Rattle.shuffle_insertions.specs.ShuffleTrees.{IsRising}
-use Rattle.shuffle_trees.specs.ValidTrees.{IsWide, IsValid}
+use Rattle.shuffle_trees.specs.ValidTrees.{IsValid}
 use Rattle.shuffle_trees.specs.Checks.{Added, IsTwice, IsOrdered, IsUnordered}
 use Rattle.shuffle_trees.proofs.Counts.{no_times}
 

@@ -3,8 +3,7 @@ use Rattle.std.proofs.Common.{◌≡◌, ℕ, zero, suc, ◌+◌, ◌<◌, ◌�
 use Rattle.std.specs.List.{AllByRecursion}
 use Rattle.std.proofs.lemmas.List.{length-map, nil_from_length}
 use Rattle.std.proofs.lemmas.List.Elements.{All-from_recursion}
-use mathlib.Core.Path.{ap₂}
-use Rattle.labelled_trees.specs.Trees.{Tree, Row, node, more, graft, graft_row, row, width}
+use Rattle.labelled_trees.specs.Trees.{Tree, node, more, graft, graft_row, row, width}
 use Rattle.labelled_trees.specs.Insertions.{put, at_zero}
 use Rattle.labelled_trees.specs.Leaves.{AllLeaves, AllRow}
 use Rattle.labelled_trees.specs.Meaning.{tree_of}
@@ -12,7 +11,7 @@ use Rattle.labelled_trees.specs.declared.Tree as program
 use Rattle.labelled_trees.specs.declared.Tree.TheVariants.{Node}
 use Rattle.labelled_trees.proofs.ProgramTrees.{tree_of-node}
 use Rattle.labelled_trees.proofs.Rows.{width-row}
-use Rattle.shuffle_insertions.specs.ShuffleTrees.{least, least_row, IsRising, IsRisingRow, HasInput}
+use Rattle.shuffle_insertions.specs.ShuffleTrees.{least, least_row, IsRising, IsRisingRow}
 use Rattle.shuffle_trees.specs.ValidTrees.{IsWide, AreWide}
 
 -- ---- the inputs of a vertex as trees

@@ -1,19 +1,18 @@
 -- Walks through the inputs of a vertex.
-use Rattle.std.specs.Prelude.{List, [], ◌∷◌, ◌++◌, Bool, true, false, Option, Some, None, MatchOption}
-use Rattle.std.proofs.Common.{◌≡◌, ℕ, zero, suc, ◌+◌, ◌-◌, ◌<◌, ◌≤◌, length, map, take, drop, get_or, refl, ap, sym, ◌∙◌, subst, arith, drop-cons, length-drop, append_assoc, length-append}
+use Rattle.std.specs.Prelude.{List, [], ◌∷◌, ◌++◌, true, Option, Some, None, MatchOption}
+use Rattle.std.proofs.Common.{◌≡◌, ℕ, zero, suc, ◌+◌, ◌-◌, ◌<◌, ◌≤◌, length, map, take, drop, get_or, ap, sym, ◌∙◌, subst, arith, drop-cons, length-drop, append_assoc, length-append}
 use mathlib.Core.List.{append-nil}
 use mathlib.Core.Path.{ap₂}
 use Rattle.std.specs.List.{AllByRecursion}
 use Rattle.std.proofs.lemmas.List.{nil_from_length}
-use native.Mathlib.Decide.{ℕ_discrete, dec_lt}
-use Rattle.labelled_trees.specs.Trees.{Tree, leaf, node, row, leaves, leaves_row}
+use Rattle.labelled_trees.specs.Trees.{Tree, row, leaves, leaves_row}
 use Rattle.labelled_trees.specs.Leaves.{AllLeaves, occurs}
 use Rattle.labelled_trees.specs.Meaning.{tree_of}
 use Rattle.labelled_trees.specs.declared.Tree as program
-use Rattle.labelled_trees.specs.declared.Tree.TheVariants.{Leaf, Node}
-use Rattle.labelled_trees.proofs.ProgramTrees.{tree_of-leaf, tree_of-node}
+use Rattle.labelled_trees.specs.declared.Tree.TheVariants.{Node}
+use Rattle.labelled_trees.proofs.ProgramTrees.{tree_of-node}
 use Rattle.labelled_trees.proofs.Leaves.{AllLeaves-imp, at_leaf}
-use Rattle.shuffle_insertions.specs.Keys.{only_if, words_at, words_at_row, words_below}
+use Rattle.shuffle_insertions.specs.Keys.{words_at, words_at_row, words_below}
 use Rattle.shuffle_insertions.proofs.Keys.{length-words_at, split_same}
 use Rattle.shuffle_trees.specs.ValidTrees.{IsValid}
 use Rattle.shuffle_trees.specs.Walks.{vertex_labels, vertex_labels_row, IsWalked, words}

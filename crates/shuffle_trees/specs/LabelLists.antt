@@ -1,6 +1,6 @@
 -- Lists of labels.
 use Rattle.std.specs.Prelude.{ℕ, ◌≤◌, List, [], ◌∷◌, ◌++◌, length, replicate, slice_index}
-use Rattle.std.specs.List.{All, sum_by}
+use Rattle.std.specs.List.{All}
 
 -- for each pair of an arity and a number, as many labels of that arity
 abbrev pub labels_of : List (ℕ × ℕ) → List ℕ

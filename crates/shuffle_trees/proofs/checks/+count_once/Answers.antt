@@ -3,14 +3,12 @@ use Rattle.std.proofs.lemmas.List.{take_all}
 use Rattle.std.proofs.lemmas.List.Sums.{sum_by_more_le}
 use Rattle.std.specs.Prelude.{slice_index}
 use Rattle.std.specs.List.{sum_by, AllByRecursion}
-use native.Mathlib.Decide.{ℕ_discrete, dec_lt}
+use native.Mathlib.Decide.{ℕ_discrete}
 use Rattle.labelled_trees.specs.Meaning.{tree_of}
 use Rattle.labelled_trees.specs.Leaves.{AllLeaves, occurs, one_if}
 use Rattle.labelled_trees.specs.declared.Tree as program
 use Rattle.labelled_trees.specs.declared.Tree.TheVariants.{Node}
-use Rattle.labelled_trees.proofs.Leaves.{at_leaf}
 use Rattle.labelled_trees.proofs.ProgramTrees.{sum_leaves-node, all_leaves-node}
-use Rattle.shuffle_trees.specs.Checks.{Added, IsTwice}
 use Rattle.shuffle_trees.proofs.checks.+count_once.Goals as goal
 
 -- what an input brings beside the inputs before it is within what the vertex brings

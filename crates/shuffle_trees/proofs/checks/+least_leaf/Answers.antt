@@ -1,6 +1,5 @@
-use Rattle.std.proofs.Common.{◌≡◌, ◌∙◌, ℕ, suc, ◌+◌, ◌<◌, ◌≤◌, List, length, get_or, sym, ap, subst, take, drop, arith, refl}
+use Rattle.std.proofs.Common.{◌≡◌, ◌∙◌, ℕ, suc, ◌+◌, ◌≤◌, List, length, sym, ap, subst, take, drop, arith, refl}
 use Rattle.std.proofs.lemmas.List.{take_all}
-use Rattle.std.proofs.lemmas.List.Elements.{All-from_recursion}
 use Rattle.std.specs.List.{AllByRecursion}
 use Rattle.labelled_trees.specs.Trees.{leaf, row}
 use Rattle.labelled_trees.specs.Insertions.{put}
@@ -9,7 +8,7 @@ use Rattle.labelled_trees.specs.declared.Tree as program
 use Rattle.labelled_trees.specs.declared.Tree.TheVariants.{Node}
 use Rattle.shuffle_insertions.specs.ShuffleTrees.{least, least_row, IsRising}
 use Rattle.shuffle_trees.specs.ValidTrees.{IsWide}
-use Rattle.shuffle_trees.specs.Checks.{IsOrdered, IsUnordered}
+use Rattle.shuffle_trees.specs.Checks.{IsUnordered}
 use Rattle.shuffle_trees.proofs.Vertices.{with_hole, RisesFrom, wide-node, wide-inputs, rising-node, rising-inputs, least-node, next_input, input_wide, first_least, wide_more, no_more}
 use Rattle.shuffle_trees.proofs.checks.+least_leaf.Goals as goal
 

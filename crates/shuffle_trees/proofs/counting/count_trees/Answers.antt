@@ -1,5 +1,4 @@
-use Rattle.std.proofs.Common.{◌≡◌, ◌∙◌, ℕ, ◌<◌, length, arith}
-use Rattle.std.specs.Prelude.{slice_index}
+use Rattle.std.proofs.Common.{◌∙◌, length, arith}
 use Rattle.shuffle_insertions.specs.Counting.{trees}
 use Rattle.shuffle_trees.specs.LabelLists.{arity_in}
 use Rattle.shuffle_trees.specs.Capped.{capped}

@@ -1,4 +1,4 @@
-use Rattle.std.proofs.Common.{◌≡◌, ◌∙◌, ℕ, suc, ◌+◌, ap, arith}
+use Rattle.std.proofs.Common.{◌≡◌, ◌∙◌, suc, ◌+◌, ap, arith}
 use Rattle.std.specs.Prelude.{slice_index}
 use Rattle.labelled_trees.specs.RangeSums.{range_sum}
 use Rattle.shuffle_insertions.specs.Counting.{row_count}

@@ -1,4 +1,4 @@
-use Rattle.std.proofs.Common.{◌≡◌, ◌∙◌, arith, refl, sym}
+use Rattle.std.proofs.Common.{◌∙◌, arith, refl}
 use Rattle.labelled_trees.specs.Meaning.{tree_of}
 use Rattle.shuffle_trees.proofs.Counts.{no_times}
 use Rattle.shuffle_trees.proofs.Inputs.{frame_by, twice_no_frame, holes_no_frame, repeated_no_frame, first_row}

@@ -1,10 +1,10 @@
-use Rattle.std.proofs.Common.{◌≡◌, ◌∙◌, ℕ, suc, ◌+◌, ◌-◌, ◌<◌, ◌≤◌, length, map, take, ap, sym, subst, arith, rules}
+use Rattle.std.proofs.Common.{◌≡◌, ◌∙◌, suc, ◌-◌, ◌<◌, ◌≤◌, length, map, take, ap, sym, subst, arith, rules}
 use Rattle.std.proofs.lemmas.List.{take_all}
-use Rattle.labelled_trees.specs.Trees.{Tree, leaf, graft}
+use Rattle.labelled_trees.specs.Trees.{leaf, graft}
 use Rattle.labelled_trees.specs.Leaves.{AllLeaves}
 use Rattle.labelled_trees.specs.Insertions.{item}
 use Rattle.labelled_trees.specs.Meaning.{tree_of}
-use Rattle.labelled_trees.specs.declared.Tree.TheVariants.{Leaf, Node}
+use Rattle.labelled_trees.specs.declared.Tree.TheVariants.{Node}
 use Rattle.labelled_trees.specs.declared.Tree.TheViews.{the_lemmas}
 use Rattle.labelled_trees.proofs.ProgramTrees.{tree_of-leaf}
 use Rattle.shuffle_trees.proofs.InsertedTrees.{item_at}

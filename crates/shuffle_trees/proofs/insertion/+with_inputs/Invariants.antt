@@ -1,7 +1,7 @@
 use Rattle.std.proofs.Common.{◌≡◌, map, take}
 use Rattle.labelled_trees.specs.Meaning.{tree_of}
 use Rattle.labelled_trees.specs.Trees.{graft}
-use Rattle.labelled_trees.specs.Insertions.{put, item}
+use Rattle.labelled_trees.specs.Insertions.{item}
 use Rattle.shuffle_trees.proofs.insertion.+with_inputs.Given as goal
 
 abbrev pub decreases-with_inputs : goal.decreases-with_inputs

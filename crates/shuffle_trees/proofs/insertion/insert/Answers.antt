@@ -1,4 +1,4 @@
-use Rattle.std.proofs.Common.{◌≡◌, ◌∙◌, ◌<◌, ◌≤◌, List, ℕ, length, ap, sym, subst}
+use Rattle.std.proofs.Common.{◌≡◌, ◌∙◌, ◌<◌, ◌≤◌, List, ℕ, length, sym, subst}
 use mathlib.Core.Path.{ap₂}
 use Rattle.labelled_trees.specs.Trees.{Tree, graft}
 use Rattle.labelled_trees.specs.Leaves.{AllLeaves}

@@ -1,10 +1,10 @@
-use Rattle.std.specs.Prelude.{◌≡◌, true, false, ◌∷◌, [], ◌++◌, List}
-use Rattle.std.proofs.Common.{sym, ◌∙◌, ap, subst, ℕ, refl}
+use Rattle.std.specs.Prelude.{◌≡◌, true}
+use Rattle.std.proofs.Common.{sym, ◌∙◌, ap, subst}
 use Rattle.labelled_trees.specs.Meaning.{tree_of}
 use Rattle.labelled_trees.specs.declared.Tree.TheVariants.{Node}
 use Rattle.shuffle_insertions.specs.Keys.{words_at}
 use Rattle.shuffle_trees.specs.Walks.{IsWalked}
-use Rattle.shuffle_trees.proofs.Walking.{words_in, walked_down, walked_through, word_back}
+use Rattle.shuffle_trees.proofs.Walking.{walked_down, walked_through, word_back}
 use Rattle.shuffle_trees.proofs.keys.+walk.Goals as goal
 
 pub returns-then-branch : goal.returns-then-branch

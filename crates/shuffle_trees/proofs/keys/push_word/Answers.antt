@@ -1,5 +1,5 @@
-use Rattle.std.specs.Prelude.{◌≡◌, true, [], ◌++◌}
-use Rattle.std.proofs.Common.{subst, refl}
+use Rattle.std.specs.Prelude.{true}
+use Rattle.std.proofs.Common.{subst}
 use Rattle.labelled_trees.specs.Meaning.{tree_of}
 use Rattle.shuffle_insertions.specs.Keys.{words_at}
 use Rattle.shuffle_trees.specs.Walks.{IsWalked}

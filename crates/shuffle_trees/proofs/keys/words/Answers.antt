@@ -1,10 +1,10 @@
 use Rattle.std.specs.Prelude.{◌≡◌, ◌++◌}
-use Rattle.std.proofs.Common.{sym, ◌∙◌, ap, subst, suc, ◌+◌, ◌≤◌, arith, refl}
+use Rattle.std.proofs.Common.{sym, ◌∙◌, ap, subst, suc, ◌+◌, arith}
 use Rattle.labelled_trees.specs.Meaning.{tree_of}
 use Rattle.shuffle_insertions.specs.Keys.{words_at, words_below}
 use Rattle.shuffle_trees.specs.Walks.{words}
 use Rattle.shuffle_trees.specs.ValidTrees.{IsValid}
-use Rattle.shuffle_trees.proofs.Walking.{words_start, words_next, words_end}
+use Rattle.shuffle_trees.proofs.Walking.{words_start, words_end}
 use Rattle.shuffle_trees.proofs.keys.words.Goals as goal
 
 pub loop-below-init : goal.loop-below-init

@@ -1,11 +1,9 @@
 use Rattle.std.specs.Prelude.{◌≡◌, ◌∷◌, [], ◌++◌, map}
-use Rattle.std.proofs.Common.{◌∙◌, ℕ, suc, ◌+◌, ◌-◌, ◌<◌, ◌≤◌, List, length, get_or, take, drop, ap, ap₂, sym, subst, arith, refl}
-use Rattle.std.proofs.lemmas.List.{nil_from_length}
-use Rattle.labelled_trees.specs.Trees.{node}
+use Rattle.std.proofs.Common.{◌∙◌, suc, ◌-◌, length, get_or, take, drop, ap, sym, subst, arith}
 use Rattle.labelled_trees.specs.Meaning.{tree_of}
-use Rattle.shuffle_insertions.specs.Listing.{lone, rows, shuffles}
-use Rattle.shuffle_trees.specs.LabelLists.{arity_in, AreFew}
-use Rattle.shuffle_trees.specs.Rows.{row_of, each_row, RowsBySplits}
+use Rattle.shuffle_insertions.specs.Listing.{rows, shuffles}
+use Rattle.shuffle_trees.specs.LabelLists.{arity_in}
+use Rattle.shuffle_trees.specs.Rows.{row_of, RowsBySplits}
 use Rattle.shuffle_trees.proofs.Arities.{arities_fit}
 use Rattle.shuffle_trees.specs.declared.listing.Split.{Split}
 use Rattle.shuffle_trees.proofs.ListedTrees.{on_ok, no_items, at_end, first_and_rest, few_rows, lone_alone, split_end, split_none, split_next, label_next}

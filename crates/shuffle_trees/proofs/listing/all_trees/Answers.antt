@@ -1,5 +1,5 @@
 use Rattle.std.specs.Prelude.{◌≡◌, map, length}
-use Rattle.std.proofs.Common.{◌∙◌, ◌<◌, ap, sym, subst, arith}
+use Rattle.std.proofs.Common.{◌∙◌, ap, sym, subst, arith}
 use Rattle.std.specs.List.{AllByRecursion}
 use Rattle.labelled_trees.specs.Meaning.{tree_of}
 use Rattle.shuffle_insertions.specs.Listing.{all_trees, shuffles, IsListing}

@@ -1,4 +1,4 @@
-use Rattle.std.proofs.Common.{◌≡◌, map, ap, sym, ◌∙◌, subst}
+use Rattle.std.proofs.Common.{map, subst}
 use Rattle.std.specs.List.{AllByRecursion}
 use Rattle.labelled_trees.specs.Meaning.{tree_of}
 use Rattle.shuffle_trees.specs.ValidTrees.{IsValid}

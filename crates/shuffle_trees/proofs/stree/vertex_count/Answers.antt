@@ -1,5 +1,4 @@
-use Rattle.std.proofs.Common.{◌≡◌, ap, arith, subst, ◌<◌}
-use Rattle.labelled_trees.specs.Meaning.{tree_of}
+use Rattle.std.proofs.Common.{ap, arith}
 use Rattle.labelled_trees.specs.Trees.{vertices}
 use Rattle.shuffle_trees.proofs.Counts.{few_vertices}
 use Rattle.shuffle_trees.proofs.stree.vertex_count.Goals as goal

@@ -1,9 +1,8 @@
-use Rattle.std.proofs.Common.{◌≡◌, ◌≤◌, ◌<◌, ◌∙◌, ℕ, true, false, ap, sym, subst, arith, refl}
+use Rattle.std.proofs.Common.{◌≡◌, ◌≤◌, ◌∙◌, ℕ, true, false, ap, sym, subst, arith, refl}
 use Rattle.labelled_trees.specs.Meaning.{tree_of}
 use Rattle.labelled_trees.specs.Trees.{Tree}
 use Rattle.labelled_trees.specs.Leaves.{AllLeaves, leaf_count}
 use Rattle.shuffle_insertions.specs.ShuffleTrees.{IsShuffle}
-use Rattle.shuffle_trees.specs.ValidTrees.{IsValid}
 use Rattle.shuffle_trees.proofs.Counts.{few_leaves, shuffle_by_count, within_of_shuffle}
 use Rattle.shuffle_trees.proofs.stree.STree.arity.Goals as goal
 
