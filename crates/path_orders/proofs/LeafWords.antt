@@ -1,6 +1,6 @@
 -- The word of a leaf that stands once.
 use Rattle.std.specs.Prelude.{List, [], ◌∷◌, ◌++◌, map}
-use Rattle.std.proofs.Common.{◌≡◌, ℕ, zero, suc, ◌+◌, ◌<◌, ◌≤◌, length, take, drop, get_or, refl, ap, sym, ◌∙◌, subst, arith}
+use Rattle.std.proofs.Common.{◌≡◌, ℕ, suc, ◌+◌, ◌<◌, ◌≤◌, length, take, drop, get_or, refl, ap, sym, ◌∙◌, arith}
 use mathlib.Core.Path.{ap₂}
 use Rattle.std.specs.List.{sum_by}
 use Rattle.std.specs.declared.cmp.Ordering.{Ordering}
@@ -9,9 +9,9 @@ use Rattle.std.specs.Ordering.{nat_cmp, ordering_then, MatchOrdering}
 use Rattle.std.specs.Cmp.Lexicographic.{slice_cmp}
 use Rattle.std.proofs.lemmas.Cmp.{ranked}
 use Rattle.std.proofs.lemmas.List.{take_all, nil_from_length}
-use Rattle.std.proofs.lemmas.List.Sums.{get_or-le-sum_by, sum_by_more}
-use native.Mathlib.Decide.{ℕ_discrete, dec_lt}
-use Rattle.labelled_trees.specs.Trees.{Tree, leaf, row}
+use Rattle.std.proofs.lemmas.List.Sums.{get_or-le-sum_by}
+use native.Mathlib.Decide.{ℕ_discrete}
+use Rattle.labelled_trees.specs.Trees.{Tree}
 use Rattle.labelled_trees.specs.Leaves.{occurs, one_if}
 use Rattle.labelled_trees.specs.Meaning.{tree_of}
 use Rattle.labelled_trees.specs.declared.Tree as program
@@ -20,7 +20,7 @@ use Rattle.labelled_trees.proofs.ProgramTrees.{tree_of-leaf, sum_leaves-node}
 use Rattle.shuffle_insertions.specs.Keys.{only_if, words_at}
 use Rattle.shuffle_insertions.proofs.Keys.{length-words_at}
 use Rattle.shuffle_trees.proofs.Walking.{words_in, words-node, left_from, none_left, walked_past}
-use Rattle.path_orders.specs.WordSteps.{WordsCompared, SameWord, NoWord}
+use Rattle.path_orders.specs.WordSteps.{WordsCompared, SameWord}
 
 -- ---- where a number stands
 

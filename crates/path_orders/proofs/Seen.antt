@@ -1,13 +1,10 @@
 -- Keys of trees, as the orders see them.
-use Rattle.std.proofs.Common.{◌≡◌, ℕ, suc, ◌<◌, ◌≤◌, List, length, refl, ap, sym, ◌∙◌, subst, arith}
+use Rattle.std.proofs.Common.{◌≡◌, suc, ◌≤◌, length, sym, subst, arith}
 use mathlib.Core.Path.{ap₂}
-use Rattle.labelled_trees.specs.Trees.{Tree, leaves}
+use Rattle.labelled_trees.specs.Trees.{leaves}
 use Rattle.labelled_trees.specs.Leaves.{AllLeaves}
-use Rattle.labelled_trees.proofs.Leaves.{by_leaf}
-use Rattle.shuffle_insertions.specs.ShuffleTrees.{IsShuffle}
-use Rattle.shuffle_insertions.specs.Keys.{Key, key, words_below}
-use Rattle.shuffle_trees.specs.ValidTrees.{IsValid}
-use Rattle.shuffle_trees.specs.Walks.{words, vertex_labels}
+use Rattle.shuffle_insertions.specs.Keys.{words_below}
+use Rattle.shuffle_trees.specs.Walks.{words}
 use Rattle.shuffle_trees.proofs.Counts.{few_leaves, within_of_shuffle}
 use Rattle.shuffle_trees.proofs.Walking.{words_end}
 use Rattle.path_orders.specs.Laws.{KeysAreSeen}

@@ -3,10 +3,9 @@ use Rattle.std.specs.Prelude.{Bool, true, false, List, [], ◌∷◌, ◌++◌}
 use Rattle.std.proofs.Common.{◌≡◌, ◌≢◌, ℕ, zero, suc, ◌+◌, ◌<◌, ◌≤◌, length, drop, refl, ap, sym, ◌∙◌, subst, arith, length-drop, append_assoc}
 use mathlib.Core.List.{append-nil}
 use mathlib.Core.Path.{ap₂}
-use native.Mathlib.Decide.{dec_lt}
 use Rattle.std.specs.declared.cmp.Ordering.{Ordering}
 use Rattle.std.specs.declared.cmp.Ordering.TheVariants.{Less, Equal, Greater}
-use Rattle.std.specs.Ordering.{nat_cmp, ordering_then}
+use Rattle.std.specs.Ordering.{ordering_then}
 use Rattle.std.specs.Cmp.{IsTotalOrder}
 use Rattle.std.specs.Cmp.Lexicographic.{slice_cmp}
 use Rattle.std.proofs.lemmas.List.{nil_from_length}
@@ -17,7 +16,7 @@ use Rattle.shuffle_insertions.specs.Keys.{words_at, words_below}
 use Rattle.shuffle_insertions.proofs.Comparing.{word_total, short_total, word_same, short_same, itself, slice_cmp-append}
 use Rattle.shuffle_insertions.proofs.Keys.{length-words_at}
 use Rattle.shuffle_trees.proofs.Counts.{count_of_shuffle}
-use Rattle.path_orders.specs.Comparing.{words_by, key_words}
+use Rattle.path_orders.specs.Comparing.{words_by}
 
 words_total : (short : Bool) → IsTotalOrder (words_by short)
 words_total true = short_total

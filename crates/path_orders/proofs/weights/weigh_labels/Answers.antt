@@ -1,6 +1,4 @@
-use Rattle.std.proofs.Common.{◌≡◌, ◌+◌, ◌<◌, ◌*◌, ℕ, length, arith, rules}
-use Rattle.std.specs.Prelude.{slice_index}
-use Rattle.std.specs.List.{sum_by}
+use Rattle.std.proofs.Common.{◌+◌, ◌<◌, ℕ, arith, rules}
 use Rattle.std.proofs.lemmas.List.Sums.{sum_by_more_le}
 use Rattle.path_orders.specs.SeenKeys.{weight_in}
 use Rattle.path_orders.proofs.WeightSums.{sum_bound}

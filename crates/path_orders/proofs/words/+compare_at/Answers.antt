@@ -1,12 +1,11 @@
-use Rattle.std.proofs.Common.{◌≡◌, ◌<◌, ◌∙◌, ap, sym, subst, List, ℕ, refl}
+use Rattle.std.proofs.Common.{◌≡◌, ◌∙◌, ap, sym, ℕ, refl}
 use Rattle.std.specs.Prelude.{true, false}
-use mathlib.Core.Path.{ap₂}
 use Rattle.labelled_trees.specs.Meaning.{tree_of}
 use Rattle.labelled_trees.specs.declared.Tree as program
 use Rattle.labelled_trees.specs.declared.Tree.TheVariants.{Node}
 use Rattle.std.specs.declared.cmp.Ordering.{Ordering}
 use Rattle.shuffle_insertions.specs.Keys.{words_at}
-use Rattle.path_orders.specs.WordSteps.{WordsCompared, SameWord}
+use Rattle.path_orders.specs.WordSteps.{WordsCompared}
 use Rattle.path_orders.proofs.LeafWords.{same_word, passed, two_vertices, leaf_vertex, vertex_leaf, no_words_left}
 use Rattle.path_orders.proofs.words.+compare_at.Goals as goal
 

@@ -1,4 +1,4 @@
-use Rattle.std.proofs.Common.{◌≡◌, ◌∙◌, arith}
+use Rattle.std.proofs.Common.{◌∙◌, arith}
 use Rattle.path_orders.specs.Comparing.{words_by}
 use Rattle.path_orders.proofs.WordLists.{ended_less}
 use Rattle.path_orders.proofs.words.compare_lists.Goals as goal

@@ -1,4 +1,4 @@
-use Rattle.std.proofs.Common.{◌≡◌, ◌<◌, refl}
+use Rattle.std.proofs.Common.{◌≡◌, refl}
 use Rattle.std.specs.Prelude.{true, false}
 use Rattle.path_orders.proofs.LeafWords.{same_word, passed}
 use Rattle.path_orders.proofs.words.holder.Goals as goal

@@ -1,4 +1,4 @@
-use Rattle.std.proofs.Common.{◌<◌, ap, arith}
+use Rattle.std.proofs.Common.{ap, arith}
 use Rattle.labelled_trees.specs.Trees.{vertices}
 use Rattle.shuffle_trees.proofs.Counts.{few_vertices}
 use Rattle.path_orders.proofs.orders.WeightPathTreeOrder.compare.Goals as goal
