@@ -10,7 +10,9 @@ use Rattle.shuffle_insertions.specs.Keys.{words_at, words_at_row}
 
 -- where each list has one word, these are the comparisons of their lengths and of their letters
 abbrev pub WordsCompared : List (List ℕ) → List (List ℕ) → Ordering → Ordering → Type 0
-WordsCompared vs ws lengths letters = (v w : List ℕ) → vs ≡ v ∷ [] → ws ≡ w ∷ [] → (lengths ≡ nat_cmp (length v) (length w)) × (letters ≡ slice_cmp nat_cmp v w)
+WordsCompared vs ws lengths letters =
+    (v w : List ℕ) → vs ≡ v ∷ [] → ws ≡ w ∷ []
+    → (lengths ≡ nat_cmp (length v) (length w)) × (letters ≡ slice_cmp nat_cmp v w)
 
 -- where the leaf has one word among the inputs, it is its word in this input
 abbrev pub SameWord : ℕ → List program.Tree → program.Tree → Type 0

@@ -15,7 +15,8 @@ use std::cmp::Ordering;
 
 // The comparison of two words from those of their lengths and of their letters.
 fn joined(lengths: Ordering, letters: Ordering, short: bool) -> Ordering
-    ensures { (v : List ℕ) (w : List ℕ) → lengths ≡ nat_cmp (length v) (length w) → letters ≡ slice_cmp nat_cmp v w → result ≡ words_by short v w }
+    ensures { (v : List ℕ) (w : List ℕ) → lengths ≡ nat_cmp (length v) (length w) → letters ≡ slice_cmp nat_cmp v w
+        → result ≡ words_by short v w }
 {
     if short {
         lengths.reverse().then(letters)

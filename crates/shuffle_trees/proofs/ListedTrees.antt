@@ -14,7 +14,7 @@ use Rattle.labelled_trees.proofs.ProgramTrees.{tree_of-node}
 use Rattle.modular_sums.specs.Lists.{Mem}
 use Rattle.shuffle_insertions.specs.ShuffleTrees.{IsShuffleTree}
 use Rattle.shuffle_insertions.specs.Listing.{joined_below, joined_splits, each_with_each, rows, lone, shuffles}
-use Rattle.shuffle_insertions.proofs.Insertions.{once_of}
+use Rattle.shuffle_insertions.proofs.LabelSums.{once_of}
 use Rattle.shuffle_insertions.proofs.Splits.{Split, done, left, right, split_length}
 use Rattle.shuffle_trees.specs.Rows.{row_of, rows_from, each_row, vertices_over, RowsBySplits}
 use Rattle.shuffle_trees.specs.ValidTrees.{IsWide, AreWide, IsValid}

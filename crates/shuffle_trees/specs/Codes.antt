@@ -35,4 +35,5 @@ abbrev pub tree_code : Coded (Tree ℕ)
 tree_code = code_by program.Tree stored.the_row.coded written tree_of written_is
 
 abbrev pub frame_code : Coded Frame
-frame_code = code_by (Tree ℕ × List (Tree ℕ)) (coded× tree_code (coded_list tree_code)) (λ f. (f.hole, f.inputs)) (λ p. record { hole = p.0; inputs = p.1 }) (λ _. refl)
+frame_code = code_by (Tree ℕ × List (Tree ℕ)) (coded× tree_code (coded_list tree_code))
+    (λ f. (f.hole, f.inputs)) (λ p. record { hole = p.0; inputs = p.1 }) (λ _. refl)

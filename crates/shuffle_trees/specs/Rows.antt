@@ -23,8 +23,9 @@ each_row (t ∷ ts) rs = rows_from t rs ++ each_row ts rs
 abbrev pub vertices_over : ℕ → List (List program.Tree) → List program.Tree
 vertices_over label rs = map (λ r. Node label r) rs
 
--- behind the rows that were there, the rows of one tree over some numbers and some inputs over the others, for each way to divide the numbers,
--- where the first has some numbers already and the others some
-abbrev pub RowsBySplits : (List ℕ → List (Tree ℕ)) → ℕ → List ℕ → List ℕ → List ℕ → List (List program.Tree) → List (List program.Tree) → Type 0
+-- behind the rows that were there, the rows of one tree over some numbers and some inputs over the others,
+-- for each way to divide the numbers, where the first has some numbers already and the others some
+abbrev pub RowsBySplits : (List ℕ → List (Tree ℕ)) → ℕ → List ℕ → List ℕ → List ℕ
+    → List (List program.Tree) → List (List program.Tree) → Type 0
 RowsBySplits trees k numbers first later before after =
     map row_of after ≡ map row_of before ++ joined_splits numbers (λ b c. each_with_each (trees (first ++ b)) (rows trees k (later ++ c)))

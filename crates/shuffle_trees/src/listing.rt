@@ -174,7 +174,8 @@ fn split_rows(
     split: &mut Split,
     made: &mut Vec<Items<Shape>>,
 ) -> Result<(), AllocError>
-    ensures rows { OnOk result (RowsBySplits (spec.shuffles (length labels.now) (arity_in labels.now) levels) inputs numbers.now split.old.first split.old.later made.old.items made.new.items) }
+    ensures rows { OnOk result (RowsBySplits (spec.shuffles (length labels.now) (arity_in labels.now) levels) inputs numbers.now
+        split.old.first split.old.later made.old.items made.new.items) }
     ensures split { OnOk result (split.new ≡ split.old) }
 {
     let [number, others @ ..] = numbers else {
