@@ -22,6 +22,7 @@ abbrev mutual
   written_row none = []
   written_row (more t r) = written t ∷ written_row r
 
+-- it stands for that tree
 mutual
   pub written_is : (t : Tree ℕ) → tree_of (written t) ≡ t
   written_is (leaf i) = tree_of-leaf i
@@ -31,9 +32,11 @@ mutual
   written_row_is none = refl
   written_row_is (more t r) = ap₂ more (written_is t) (written_row_is r)
 
+-- a tree is stored as the program's tree
 abbrev pub tree_code : Coded (Tree ℕ)
 tree_code = code_by program.Tree stored.the_row.coded written tree_of written_is
 
+-- a frame is stored as its hole and its inputs
 abbrev pub frame_code : Coded Frame
 frame_code = code_by (Tree ℕ × List (Tree ℕ)) (coded× tree_code (coded_list tree_code))
     (λ f. (f.hole, f.inputs)) (λ p. record { hole = p.0; inputs = p.1 }) (λ _. refl)
