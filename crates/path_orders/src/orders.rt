@@ -6,7 +6,7 @@ ghost use Rattle.shuffle_insertions.specs.ShuffleTrees.{IsShuffle};
 ghost use Rattle.shuffle_insertions.specs.Keys as spec;
 ghost use Rattle.shuffle_insertions.specs.Orders.{IsTreeOrder};
 ghost use Rattle.path_orders.specs.Comparing.{AreComparable, key_words, words_by};
-ghost use Rattle.path_orders.specs.SeenKeys.{key_seen};
+ghost use Rattle.path_orders.specs.SeenKeys.{key_seen, weights_of};
 ghost use Rattle.path_orders.specs.Laws.{KeysAreSeen};
 ghost use Rattle.std.specs.declared.cmp.Ordering as standard;
 
@@ -36,7 +36,7 @@ pub trait TreeOrder {
     ghost is_order: { (order : Self) (arity : ℕ → ℕ) → IsTreeOrder arity (λ x y. by_keys (spec.key (weights order) x) (spec.key (weights order) y)) };
 }
 
-/// Law: the key of a shuffle tree, as `Key::of` makes it, is seen as the key of the definitions.
+/// Law: the key of a shuffle tree whose leaves are 1 to `n`, as `Key::of` makes it, is seen as the key of the definitions.
 pub fn keys_are_seen()
     ensures law { KeysAreSeen }
 {}
@@ -152,7 +152,7 @@ pub struct WeightPath {
 impl WeightPath {
     /// The order with these weights of the labels, from label 0 on.
     pub fn new(weights: Items<u32>) -> WeightPath
-        ensures weights { result.weights ≡ weights }
+        ensures weights { weights_of result ≡ weights }
     {
         WeightPath { weights }
     }
@@ -161,9 +161,9 @@ impl WeightPath {
 impl TreeOrder for WeightPath {
     ghost use Rattle.shuffle_insertions.specs.Keys as spec;
     ghost use Rattle.shuffle_insertions.proofs.Laws.{orders};
-    ghost use Rattle.path_orders.specs.SeenKeys.{weight_in};
+    ghost use Rattle.path_orders.specs.SeenKeys.{weight_in, weights_of};
 
-    ghost weights = { λ order. weight_in order.weights };
+    ghost weights = { λ order. weight_in (weights_of order) };
 
     ghost by_keys = { spec.weightpath };
 
@@ -179,5 +179,5 @@ impl TreeOrder for WeightPath {
         heavier.then(compare_lists(a.words(), b.words(), false).then(a.row().cmp(b.row())))
     }
 
-    ghost is_order = { λ order arity. (orders arity (weight_in order.weights)).3 };
+    ghost is_order = { λ order arity. (orders arity (weight_in (weights_of order))).3 };
 }

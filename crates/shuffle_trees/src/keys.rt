@@ -3,6 +3,7 @@ ghost use Rattle.labelled_trees.specs.Meaning.{tree_of};
 ghost use Rattle.labelled_trees.specs.Trees.{leaves};
 ghost use Rattle.labelled_trees.specs.Leaves.{AllLeaves, occurs};
 ghost use Rattle.shuffle_insertions.specs.Keys.{words_at};
+ghost use Rattle.shuffle_trees.specs.KeyParts.{words_in, row_in, labels_in};
 ghost use Rattle.shuffle_trees.specs.Walks as spec;
 
 use crate::{STree, Shape};
@@ -133,9 +134,9 @@ pub struct Key {
 impl Key {
     /// The key of a tree. `AllocError` comes for want of memory alone.
     pub fn of(alloc: Global, tree: &STree) -> Result<Key, AllocError>
-        ensures words { IfOk result (λ key. key.words ≡ spec.words tree.now) }
-        ensures row { IfOk result (λ key. key.row ≡ leaves tree.now) }
-        ensures vertices { IfOk result (λ key. key.vertices ≡ spec.vertex_labels tree.now) }
+        ensures words { IfOk result (λ key. words_in key ≡ spec.words tree.now) }
+        ensures row { IfOk result (λ key. row_in key ≡ leaves tree.now) }
+        ensures vertices { IfOk result (λ key. labels_in key ≡ spec.vertex_labels tree.now) }
     {
         let mut vertices = Items::new(alloc);
         push_labels(tree.shape(), &mut vertices)?;
@@ -148,21 +149,21 @@ impl Key {
 
     /// The words of the leaves, in ascending order of leaf numbers. It takes no memory.
     pub fn words(&self) -> &[Items<u16>]
-        ensures words { result.now ≡ self.now.words }
+        ensures words { result.now ≡ words_in self.now }
     {
         self.words.as_slice()
     }
 
     /// The leaf numbers from left to right. It takes no memory.
     pub fn row(&self) -> &[u8]
-        ensures row { result.now ≡ self.now.row }
+        ensures row { result.now ≡ row_in self.now }
     {
         self.row.as_slice()
     }
 
     /// The labels of the vertices in preorder. It takes no memory.
     pub fn vertices(&self) -> &[u16]
-        ensures vertices { result.now ≡ self.now.vertices }
+        ensures vertices { result.now ≡ labels_in self.now }
     {
         self.vertices.as_slice()
     }
