@@ -1,0 +1,4 @@
+pub mod LeafWords
+pub mod Seen
+pub mod WeightSums
+pub mod WordLists

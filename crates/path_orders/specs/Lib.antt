@@ -1,0 +1,4 @@
+pub mod Comparing
+pub mod Laws
+pub mod SeenKeys
+pub mod WordSteps

@@ -1,0 +1,6 @@
+-- Numbers that are counted up to a greatest one.
+use Rattle.std.specs.Prelude.{ℕ, ◌-◌, ◌^◌, min}
+
+-- the number, or 2^64 - 1 where it is greater
+abbrev pub capped : ℕ → ℕ
+capped n = min n (2 ^ 64 - 1)
