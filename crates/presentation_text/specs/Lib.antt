@@ -11,4 +11,12 @@ pub mod Documents
 pub mod DocumentSteps
 pub mod OpeningLines
 pub mod Stops
+pub mod Readings
+pub mod TreeForms
+pub mod ElementForms
+pub mod Accepted
+pub mod LineForms
+pub mod DraftForms
+pub mod DocumentForms
+pub mod Presentations
 pub mod Laws

@@ -1,3 +1,8 @@
+ghost use Rattle.std.specs.Prelude.{◌≡◌};
+ghost use Rattle.presentation_text.specs.declared.kinds.PartFail.TheVariants as part;
+
+use std::alloc::AllocError;
+
 /// Why a line of a document, or of a certificate behind it, is refused.
 #[derive(Clone, Copy, Debug, PartialEq, Eq)]
 pub enum DocKind {
@@ -61,4 +66,20 @@ pub struct DocFail {
 pub enum ReadDocFail {
     At(DocFail),
     NoMemory,
+}
+
+/// Why a part of a line isn't read.
+#[derive(Clone, Copy, Debug, PartialEq, Eq)]
+pub enum PartFail {
+    /// The token that is refused, counted from 0, where the end of the line counts as the token behind the last; and why.
+    At { token: usize, kind: DocKind },
+    NoMemory,
+}
+
+impl From<AllocError> for PartFail {
+    ghost from_gives = { λ _ fail. fail ≡ part.NoMemory };
+
+    fn from(_fail: AllocError) -> PartFail {
+        PartFail::NoMemory
+    }
 }

@@ -1,0 +1,63 @@
+-- Which tokens reading accepts: exactly those of the grammar, within the limits.
+use Rattle.std.specs.Prelude.{ℕ, ◌≡◌, ◌≢◌, ◌≤◌, ◌↔◌, false, List, [], ◌∷◌, ◌++◌, Option, Some, Ok}
+use Rattle.std.specs.List.{All}
+use Rattle.labelled_trees.specs.Trees.{Tree}
+use Rattle.labelled_trees.specs.Leaves.{AllLeaves, leaf_count}
+use Rattle.labelled_trees.specs.Labelled.{IsNumbered}
+use Rattle.symmetric_trees.specs.Generators.{IsTable}
+use Rattle.symmetric_trees.specs.Trees.{Fits}
+use Rattle.symmetric_trees.specs.declared.generators.Generator.{Generator}
+use Rattle.presentation_text.specs.declared.lexing.Token.{Token}
+use Rattle.presentation_text.specs.declared.lexing.Token.TheVariants.{Byte}
+use Rattle.presentation_text.specs.declared.trees.Demands.{Demands}
+use Rattle.presentation_text.specs.Elements.{Written, element_tokens, IsElementTree}
+use Rattle.presentation_text.specs.ElementForms.{element_in}
+use Rattle.presentation_text.specs.TreeForms.{demands_of, whole_tree_in}
+use Rattle.presentation_text.specs.TreeText.{nested, tree_tokens}
+
+-- ---- trees
+
+-- A tree as it is demanded: over the table, with at most 8 generators one inside the other, at most 9 leaves and leaf numbers of at
+-- most 99; unless they are free, its leaves carry 1 to some number, each once; and its arity is as is asked.
+pub record IsDemanded (generators : List Generator) (demands : Demands) (t : Tree ℕ) : Type 0 where
+  pub fits : Fits generators t
+  pub shallow : nested t ≤ 8
+  pub narrow : leaf_count t ≤ 9
+  pub small : AllLeaves t (λ n. n ≤ 99)
+  pub numbered : demands.loose ≡ false → IsNumbered (leaf_count t) t
+  pub least : demands.least ≤ leaf_count t
+  pub arity : (n : ℕ) → demands.arity ≡ Some n → leaf_count t ≡ n
+
+-- Reading accepts a tree exactly where the tokens begin with those of the tree, which is as demanded.
+abbrev pub TreesAreAccepted : Type 0
+TreesAreAccepted = (generators : List Generator) → IsTable generators → (demands : Demands) (ts rest : List Token) (t : Tree ℕ)
+    → (whole_tree_in generators demands ts ≡ Ok (t, rest)) ↔ ((ts ≡ tree_tokens generators t ++ rest) × IsDemanded generators demands t)
+
+-- ---- elements
+
+-- the tokens don't begin with this single byte
+abbrev pub NotMarked : ℕ → List Token → Type 0
+NotMarked c [] = Unit {0}
+NotMarked c (token ∷ rest) = token ≢ Byte c
+
+-- An element goes on as long as it can: behind 0 no '*' stands, and behind a term neither '+' nor '-'.
+abbrev pub EndsBefore : List Written → List Token → Type 0
+EndsBefore [] rest = NotMarked 42 rest
+EndsBefore (term ∷ terms) rest = NotMarked 43 rest × NotMarked 45 rest
+
+-- the trees have one arity, which is as is asked
+pub record HaveDemandedArity (generators : List Generator) (least : ℕ) (arity : Option ℕ) (terms : List Written) : Type 0 where
+  pub n : ℕ
+  pub trees : All (λ term. IsElementTree generators n term.tree) terms
+  pub least_is : least ≤ n
+  pub arity_is : (m : ℕ) → arity ≡ Some m → n ≡ m
+
+abbrev pub AreDemanded : List Generator → ℕ → Option ℕ → List Written → Type 0
+AreDemanded generators least arity [] = Unit {0}
+AreDemanded generators least arity (term ∷ terms) = HaveDemandedArity generators least arity (term ∷ terms)
+
+-- Reading accepts an element exactly where the tokens begin with those of the element, whose trees have one arity as demanded, and go on with no further term.
+abbrev pub ElementsAreAccepted : Type 0
+ElementsAreAccepted = (generators : List Generator) → IsTable generators → (least : ℕ) (arity : Option ℕ) (ts rest : List Token) (terms : List Written)
+    → (element_in generators (demands_of least arity) ts ≡ Ok (terms, rest))
+    ↔ ((ts ≡ element_tokens generators terms ++ rest) × AreDemanded generators least arity terms × EndsBefore terms rest)

@@ -1,0 +1,110 @@
+-- Reading the lines of a document one after the other.
+use Rattle.std.specs.Prelude.{ℕ, suc, ◌≡◌, ◌+◌, Bool, false, not, ◌&&◌, ◌||◌, ◌==◌, if◌then◌else◌, List, [], ◌∷◌, length, map, codes, Option, Some, None, Result, Ok, Err}
+use Rattle.std.specs.Option.{is_some}
+use Rattle.presentation_text.specs.declared.kinds.DocKind.{DocKind}
+use Rattle.presentation_text.specs.declared.kinds.DocKind.TheVariants.{Header, Directive, Missing}
+use Rattle.presentation_text.specs.declared.lexing.Token.{Token}
+use Rattle.presentation_text.specs.declared.lexing.Token.TheVariants.{Word, Number, Long, Byte, Bad}
+use Rattle.presentation_text.specs.Lines.{counts, lines}
+use Rattle.presentation_text.specs.LineForms.{Told, told_by_header, is, section_of, word_fault, rest_of_line}
+use Rattle.presentation_text.specs.Readings.{Fault}
+use Rattle.presentation_text.specs.Tokens.{tokens}
+
+-- the line that is refused, and the kind
+abbrev pub LineFault : Type 0
+LineFault = ℕ × DocKind
+
+-- What the lines of a presentation say, and the number of the tail's first line, if there is a tail.
+pub record Whole : Type 0 where
+  pub told : Told
+  pub tail : Option ℕ
+
+-- ---- one line
+
+-- the presentation goes on, or the tail begins
+pub data Behind : Type 0 where
+  goes_on : Told → Behind
+  tail_begins : Behind
+
+abbrev pub refused_at : ℕ → Result Told Fault → Result Behind LineFault
+refused_at number (Ok told) = Ok (goes_on told)
+refused_at number (Err fault) = Err (number, fault.1)
+
+abbrev pub unless_word : ℕ → Option DocKind → Result Behind LineFault → Result Behind LineFault
+unless_word number None behind = behind
+unless_word number (Some kind) behind = Err (number, kind)
+
+-- a line that begins with a word: what stands against the word comes first
+unfoldable pub word_line : Told → ℕ → List ℕ → List Token → Result Behind LineFault
+word_line told number w rest =
+    unless_word number (word_fault told w) (if section_of told.version w == 7 then Ok tail_begins else refused_at number (rest_of_line told number w rest))
+
+abbrev pub begun_line : Told → ℕ → Token → List Token → Result Behind LineFault
+begun_line told number (Word w) rest = word_line told number w rest
+begun_line told number token rest = Err (number, Directive)
+
+-- a line that counts, by its number and its tokens
+abbrev pub counted_line : Told → ℕ → List Token → Result Behind LineFault
+counted_line told number [] = Err (number, Directive)
+counted_line told number (token ∷ rest) = begun_line told number token rest
+
+-- ---- all lines
+
+-- at the end of the text a field and an order must stand
+abbrev pub at_end : Told → ℕ → Result Whole LineFault
+at_end told number = if is_some told.field && is_some told.order then Ok (record { told = told; tail = None }) else Err (number, Missing)
+
+abbrev pub on_from : ℕ → (Told → Result Whole LineFault) → Told → Behind → Result Whole LineFault
+on_from number on before (goes_on told) = on told
+on_from number on before tail_begins = Ok (record { told = before; tail = Some number })
+
+abbrev pub unless_refused : (Behind → Result Whole LineFault) → Result Behind LineFault → Result Whole LineFault
+unless_refused on (Ok behind) = on behind
+unless_refused on (Err fault) = Err fault
+
+-- the lines behind those that say this, whose numbers go from `number` on; lines that don't count are passed over
+unfoldable pub lines_from : Told → ℕ → List (List ℕ) → Result Whole LineFault
+lines_from told number [] = at_end told number
+lines_from told number (line ∷ others) =
+    if counts line
+    then unless_refused (on_from number (λ now. lines_from now (suc number) others) told) (counted_line told number (tokens line))
+    else lines_from told (suc number) others
+
+-- ---- the header
+
+abbrev pub version_token : Token → Option ℕ
+version_token (Number n) = if n == 1 || n == 2 then Some n else None
+version_token token = None
+
+abbrev pub if_last : List Token → Option ℕ → Option ℕ
+if_last [] version = version
+if_last (token ∷ rest) version = None
+
+abbrev pub version_behind : List Token → Option ℕ
+version_behind [] = None
+version_behind (token ∷ rest) = if_last rest (version_token token)
+
+abbrev pub version_begun : Token → List Token → Option ℕ
+version_begun (Word w) rest = if is w (codes "operad") then version_behind rest else None
+version_begun token rest = None
+
+-- the version of a header: exactly the two tokens of `operad 1` or `operad 2`
+abbrev pub version_of : List Token → Option ℕ
+version_of [] = None
+version_of (token ∷ rest) = version_begun token rest
+
+abbrev pub behind_header : ℕ → (ℕ → Result Whole LineFault) → Option ℕ → Result Whole LineFault
+behind_header number on None = Err (number, Header)
+behind_header number on (Some version) = on version
+
+-- all lines of a document, whose numbers go from `number` on: the first one that counts is the header
+unfoldable pub document_from : ℕ → List (List ℕ) → Result Whole LineFault
+document_from number [] = Err (number, Header)
+document_from number (line ∷ others) =
+    if counts line
+    then behind_header number (λ version. lines_from (told_by_header version) (suc number) others) (version_of (tokens line))
+    else document_from (suc number) others
+
+-- what a text says, or its first fault
+abbrev pub read_text : List ℕ → Result Whole LineFault
+read_text bytes = document_from 1 (lines bytes)

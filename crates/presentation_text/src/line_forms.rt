@@ -1,0 +1,349 @@
+ghost use Rattle.std.specs.Prelude.{◌≡◌, ◌≤◌, ◌<◌, ◌+◌, ℕ, IfOk, IsTrue, Some, drop, length, MatchResult, Ok};
+ghost use Rattle.std.specs.Option.{is_some};
+ghost use Rattle.presentation_text.specs.DraftForms.{AskFits, GivesAsk, GivesDraft, IsSound, asked_kind, told_of};
+ghost use Rattle.presentation_text.specs.LineForms as spec;
+ghost use Rattle.presentation_text.specs.Readings.{StopsAs};
+ghost use Rattle.presentation_text.specs.declared.kinds.PartFail.TheVariants.{NoMemory};
+
+use crate::document::{Ask, AskKind, OrderName};
+use crate::draft::Draft;
+use crate::kinds::{DocKind, PartFail};
+use crate::lexing::Token;
+use crate::parts::{end_at, mark_at, number_at, word_at};
+use crate::terms::element_at;
+use prime_field::Field;
+use sqlite_items::Items;
+use std::alloc::Global;
+use symmetric_trees::{GenFail, GenTable, Generator, Name, Part, PartKind};
+
+const LONGEST_NAME: usize = 16;
+
+const MOST_RELATIONS: usize = 1000;
+
+const MOST_GENERATORS: u16 = 12;
+
+const GREATEST_WEIGHT: u64 = 1_000_000;
+
+fn fail<T>(token: usize, kind: DocKind) -> Result<T, PartFail> {
+    Err(PartFail::At { token, kind })
+}
+
+// ---- the field and the order
+
+// The rest of a line `field P`.
+pub(crate) fn field_line(draft: Draft, tokens: &[Token]) -> Result<Draft, PartFail>
+    requires word { 1 ≤ length tokens.now }
+    requires sound { IsSound draft }
+    ensures { GivesDraft tokens.now (spec.field_line (told_of draft) (drop 1 tokens.now)) result }
+{
+    let number = number_at(tokens, 1)?;
+    let Some(field) = Field::of(number) else {
+        return fail(1, DocKind::FieldUnknown);
+    };
+    end_at(tokens, 2)?;
+    let mut draft = draft;
+    draft.field = Some(field);
+    draft.section = 2;
+    Ok(draft)
+}
+
+fn order_named(version: u8, name: &str) -> Option<OrderName>
+    ensures { result ≡ spec.order_named version name.now }
+{
+    match name {
+        "path" => Some(OrderName::Path),
+        "pathshort" => Some(OrderName::PathShort),
+        "leafpath" => Some(OrderName::LeafPath),
+        "weightpath" if version == 2 => Some(OrderName::WeightPath),
+        _ => None,
+    }
+}
+
+// The rest of a line `order NAME`.
+pub(crate) fn order_line(draft: Draft, tokens: &[Token]) -> Result<Draft, PartFail>
+    requires word { 1 ≤ length tokens.now }
+    requires sound { IsSound draft }
+    ensures { GivesDraft tokens.now (spec.order_line (told_of draft) (drop 1 tokens.now)) result }
+{
+    let name = word_at(tokens, 1)?;
+    let Some(order) = order_named(draft.version, name.as_str()) else {
+        return fail(1, DocKind::OrderUnknown);
+    };
+    end_at(tokens, 2)?;
+    let mut draft = draft;
+    draft.order = Some(order);
+    draft.section = 3;
+    Ok(draft)
+}
+
+// ---- generators and weights
+
+fn symmetry_named(word: &str) -> Option<PartKind>
+    ensures { result ≡ spec.symmetry_named word.now }
+{
+    match word {
+        "sym" => Some(PartKind::Sym),
+        "alt" => Some(PartKind::Alt),
+        "reg" => Some(PartKind::Free),
+        _ => None,
+    }
+}
+
+fn part_named(word: &str) -> Option<PartKind>
+    ensures { result ≡ spec.part_named word.now }
+{
+    match word {
+        "sym" => Some(PartKind::Sym),
+        "alt" => Some(PartKind::Alt),
+        "free" => Some(PartKind::Free),
+        _ => None,
+    }
+}
+
+// The one part that a symmetry of version 1 is.
+fn symmetry_at(
+    alloc: Global,
+    arity: u8,
+    tokens: &[Token],
+    at: usize,
+) -> Result<Items<Part>, PartFail>
+    requires within { at ≤ length tokens.now }
+    ensures { MatchResult result (λ parts. spec.symmetry_in arity (drop at tokens.now) ≡ Ok parts)
+        (StopsAs tokens.now (spec.symmetry_in arity (drop at tokens.now))) }
+{
+    let word = word_at(tokens, at)?;
+    let Some(kind) = symmetry_named(word.as_str()) else {
+        return fail(at, DocKind::Syntax);
+    };
+    end_at(tokens, at + 1)?;
+    let mut parts = Items::new(alloc);
+    parts.push(Part { kind, size: arity })?;
+    Ok(parts)
+}
+
+// A part, of two tokens; the sizes before it add up to `sum`.
+fn part_at(arity: u8, sum: u8, tokens: &[Token], at: usize) -> Result<Part, PartFail>
+    requires within { at ≤ length tokens.now }
+    requires small { sum ≤ arity }
+    ensures read { MatchResult result (λ part. spec.part_in arity sum (drop at tokens.now) ≡ Ok (part, drop (at + 2) tokens.now))
+        (StopsAs tokens.now (spec.part_in arity sum (drop at tokens.now))) }
+    ensures small { IfOk result (λ part. sum + part.size ≤ arity) }
+    ensures within { IfOk result (λ part. at + 2 ≤ length tokens.now) }
+{
+    let word = word_at(tokens, at)?;
+    let Some(kind) = part_named(word.as_str()) else {
+        return fail(at, DocKind::Syntax);
+    };
+    let size = number_at(tokens, at + 1)?;
+    if size == 0 || size > u64::from(arity - sum) {
+        return fail(at + 1, DocKind::PartsOut);
+    }
+    Ok(Part {
+        kind,
+        size: size as u8,
+    })
+}
+
+// The parts of version 2, one at least, to the end of the line.
+fn parts_at(alloc: Global, arity: u8, tokens: &[Token], at: usize) -> Result<Items<Part>, PartFail>
+    requires within { at ≤ length tokens.now }
+    ensures { MatchResult result (λ parts. spec.all_parts_in arity (drop at tokens.now) ≡ Ok parts)
+        (StopsAs tokens.now (spec.all_parts_in arity (drop at tokens.now))) }
+{
+    let mut parts = Items::new(alloc);
+    let mut sum = 0;
+    let mut next = at;
+    loop {
+        let part = part_at(arity, sum, tokens, next)?;
+        sum += part.size;
+        next += 2;
+        parts.push(part)?;
+        if next == tokens.len() {
+            break;
+        }
+    }
+    if sum < arity {
+        return fail(next, DocKind::PartsOut);
+    }
+    Ok(parts)
+}
+
+// The name and the arity of a `gen` line.
+fn named_arity<'a>(table: &GenTable, tokens: &'a [Token]) -> Result<(&'a Name, u8), PartFail>
+    requires word { 1 ≤ length tokens.now }
+{
+    if table.len() >= MOST_GENERATORS {
+        return fail(0, DocKind::TooManyGens);
+    }
+    let name = word_at(tokens, 1)?;
+    if name.as_str().len() > LONGEST_NAME {
+        return fail(1, DocKind::NameBad);
+    }
+    if table.find(name.as_str()).is_some() {
+        return fail(1, DocKind::NameTaken);
+    }
+    let arity = number_at(tokens, 2)?;
+    if arity < 2 || arity > 6 {
+        return fail(2, DocKind::ArityOut);
+    }
+    Ok((name, arity as u8))
+}
+
+// The rest of a line `gen NAME ARITY SYMMETRY`, or in version 2 `gen NAME ARITY PART` with any number of further parts.
+pub(crate) fn gen_line(alloc: Global, draft: Draft, tokens: &[Token]) -> Result<Draft, PartFail>
+    requires word { 1 ≤ length tokens.now }
+    requires sound { IsSound draft }
+    ensures { GivesDraft tokens.now (spec.gen_line (told_of draft) (drop 1 tokens.now)) result }
+{
+    let (name, arity) = named_arity(&draft.gens, tokens)?;
+    let parts = if draft.version == 2 {
+        parts_at(alloc, arity, tokens, 3)?
+    } else {
+        symmetry_at(alloc, arity, tokens, 3)?
+    };
+    let generator = Generator {
+        name: name.copy(alloc)?,
+        arity,
+        parts,
+    };
+    let mut draft = draft;
+    match draft.gens.add(alloc, generator) {
+        Ok(()) => {}
+        Err(GenFail::NoMemory) => return Err(PartFail::NoMemory),
+        Err(_) => unreachable!(),
+    }
+    draft.weights.push(None)?;
+    draft.section = 4;
+    Ok(draft)
+}
+
+// The rest of a line `weight NAME W`.
+pub(crate) fn weight_line(draft: Draft, tokens: &[Token]) -> Result<Draft, PartFail>
+    requires word { 1 ≤ length tokens.now }
+    requires sound { IsSound draft }
+    ensures { GivesDraft tokens.now (spec.weight_line (told_of draft) (drop 1 tokens.now)) result }
+{
+    let name = word_at(tokens, 1)?;
+    let Some(generator) = draft.gens.find(name.as_str()) else {
+        return fail(1, DocKind::NameUnknown);
+    };
+    let index = generator as usize;
+    if draft.weights.as_slice()[index].is_some() {
+        return fail(1, DocKind::WeightTaken);
+    }
+    let weight = number_at(tokens, 2)?;
+    if weight > GREATEST_WEIGHT {
+        return fail(2, DocKind::WeightOut);
+    }
+    end_at(tokens, 3)?;
+    let mut draft = draft;
+    draft.weights.set(index, Some(weight as u32));
+    draft.section = 4;
+    Ok(draft)
+}
+
+// ---- relations and questions
+
+// The rest of a line `rel ELEMENT`.
+pub(crate) fn rel_line(alloc: Global, draft: Draft, tokens: &[Token]) -> Result<Draft, PartFail>
+    requires word { 1 ≤ length tokens.now }
+    requires sound { IsSound draft }
+    requires field { IsTrue (is_some draft.field) }
+    ensures { GivesDraft tokens.now (spec.rel_line (told_of draft) (drop 1 tokens.now)) result }
+{
+    if draft.rels.len() >= MOST_RELATIONS {
+        return fail(0, DocKind::TooManyRelations);
+    }
+    let Some(field) = draft.field else {
+        unreachable!();
+    };
+    let element = element_at(alloc, field, &draft.gens, tokens, 1, 2, None)?;
+    end_at(tokens, element.next)?;
+    let mut draft = draft;
+    draft.rels.push(element.sum)?;
+    draft.section = 5;
+    Ok(draft)
+}
+
+// The question of a line `query ELEMENT`.
+fn query_at(
+    alloc: Global,
+    field: Field,
+    table: &GenTable,
+    tokens: &[Token],
+) -> Result<AskKind, PartFail>
+    requires word { 1 ≤ length tokens.now }
+    ensures { GivesAsk field table.now tokens.now (spec.query_in field table.now (drop 1 tokens.now)) result }
+{
+    let element = element_at(alloc, field, table, tokens, 1, 1, None)?;
+    end_at(tokens, element.next)?;
+    Ok(AskKind::Query(element.sum))
+}
+
+// The question of a line `same ELEMENT = ELEMENT`.
+fn same_at(
+    alloc: Global,
+    field: Field,
+    table: &GenTable,
+    tokens: &[Token],
+) -> Result<AskKind, PartFail>
+    requires word { 1 ≤ length tokens.now }
+    ensures { GivesAsk field table.now tokens.now (spec.same_in field table.now (drop 1 tokens.now)) result }
+{
+    let left = element_at(alloc, field, table, tokens, 1, 1, None)?;
+    let next = mark_at(tokens, left.next, b'=')?;
+    let right = element_at(alloc, field, table, tokens, next, 1, left.arity)?;
+    end_at(tokens, right.next)?;
+    Ok(AskKind::Same(left.sum, right.sum))
+}
+
+// A question joins the others.
+fn with_ask(draft: Draft, number: u32, kind: AskKind) -> Result<Draft, PartFail>
+    requires sound { IsSound draft }
+    requires fits { AskFits (spec.prime_of draft.field) draft.gens kind }
+    ensures { MatchResult result (λ new. (told_of new ≡ spec.with_ask (told_of draft) number (asked_kind kind)) × IsSound new)
+        (λ fail. fail ≡ NoMemory) }
+{
+    let mut draft = draft;
+    draft.asks.push(Ask { line: number, kind })?;
+    draft.section = 6;
+    Ok(draft)
+}
+
+// The rest of a line `query ELEMENT`.
+pub(crate) fn query_line(
+    alloc: Global,
+    draft: Draft,
+    number: u32,
+    tokens: &[Token],
+) -> Result<Draft, PartFail>
+    requires word { 1 ≤ length tokens.now }
+    requires sound { IsSound draft }
+    requires field { IsTrue (is_some draft.field) }
+    ensures { GivesDraft tokens.now (spec.query_line (told_of draft) number (drop 1 tokens.now)) result }
+{
+    let Some(field) = draft.field else {
+        unreachable!();
+    };
+    let kind = query_at(alloc, field, &draft.gens, tokens)?;
+    with_ask(draft, number, kind)
+}
+
+// The rest of a line `same ELEMENT = ELEMENT`.
+pub(crate) fn same_line(
+    alloc: Global,
+    draft: Draft,
+    number: u32,
+    tokens: &[Token],
+) -> Result<Draft, PartFail>
+    requires word { 1 ≤ length tokens.now }
+    requires sound { IsSound draft }
+    requires field { IsTrue (is_some draft.field) }
+    ensures { GivesDraft tokens.now (spec.same_line (told_of draft) number (drop 1 tokens.now)) result }
+{
+    let Some(field) = draft.field else {
+        unreachable!();
+    };
+    let kind = same_at(alloc, field, &draft.gens, tokens)?;
+    with_ask(draft, number, kind)
+}

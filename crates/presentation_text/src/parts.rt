@@ -1,0 +1,81 @@
+ghost use Rattle.std.specs.Prelude.{◌≡◌, ◌≤◌, ◌<◌, ◌+◌, ◌∷◌, [], ℕ, List, MatchOption, MatchResult, drop, length, Ok};
+ghost use Rattle.presentation_text.specs.Readings as spec;
+ghost use Rattle.presentation_text.specs.declared.lexing.Token.{Token};
+
+use crate::kinds::{DocKind, PartFail};
+use crate::lexing::Token;
+use symmetric_trees::Name;
+
+// The token at a place, or none at the end of the line.
+pub(crate) fn token_at(tokens: &[Token], at: usize) -> Option<&Token>
+    requires within { at ≤ length tokens.now }
+    ensures { MatchOption result (drop at tokens.now ≡ [])
+        (λ token. (drop at tokens.now ≡ token.now ∷ drop (at + 1) tokens.now) × (at < length tokens.now)) }
+{
+    tokens.get(at)
+}
+
+// The token at a place can't stand there.
+pub(crate) fn misfit(tokens: &[Token], at: usize) -> PartFail
+    requires within { at ≤ length tokens.now }
+    ensures { result ≡ PartFail.At at (spec.misplaced_in (drop at tokens.now)) }
+{
+    let kind = match token_at(tokens, at) {
+        Some(Token::Long) => DocKind::NumberLong,
+        _ => DocKind::Syntax,
+    };
+    PartFail::At { token: at, kind }
+}
+
+// The place behind this single byte.
+pub(crate) fn mark_at(tokens: &[Token], at: usize, mark: u8) -> Result<usize, PartFail>
+    requires within { at ≤ length tokens.now }
+    ensures { spec.GivesBehind tokens.now (spec.mark_in mark (drop at tokens.now)) result }
+{
+    match token_at(tokens, at) {
+        Some(Token::Byte(byte)) => {
+            if *byte == mark {
+                Ok(at + 1)
+            } else {
+                Err(misfit(tokens, at))
+            }
+        }
+        _ => Err(misfit(tokens, at)),
+    }
+}
+
+// The end of the line.
+pub(crate) fn end_at(tokens: &[Token], at: usize) -> Result<(), PartFail>
+    requires within { at ≤ length tokens.now }
+    ensures { MatchResult result (λ _. spec.end_in (drop at tokens.now) ≡ Ok tt)
+        (spec.StopsAs tokens.now (spec.end_in (drop at tokens.now))) }
+{
+    match token_at(tokens, at) {
+        None => Ok(()),
+        Some(_) => Err(misfit(tokens, at)),
+    }
+}
+
+// A number, with one token.
+pub(crate) fn number_at(tokens: &[Token], at: usize) -> Result<u64, PartFail>
+    requires within { at ≤ length tokens.now }
+    ensures { MatchResult result (λ number. (spec.number_in (drop at tokens.now) ≡ Ok (number, drop (at + 1) tokens.now)) × (at < length tokens.now))
+        (spec.StopsAs tokens.now (spec.number_in (drop at tokens.now))) }
+{
+    match token_at(tokens, at) {
+        Some(Token::Number(number)) => Ok(*number),
+        _ => Err(misfit(tokens, at)),
+    }
+}
+
+// A word, with one token.
+pub(crate) fn word_at(tokens: &[Token], at: usize) -> Result<&Name, PartFail>
+    requires within { at ≤ length tokens.now }
+    ensures { MatchResult result (λ word. (spec.word_in (drop at tokens.now) ≡ Ok (word.now, drop (at + 1) tokens.now)) × (at < length tokens.now))
+        (spec.StopsAs tokens.now (spec.word_in (drop at tokens.now))) }
+{
+    match token_at(tokens, at) {
+        Some(Token::Word(word)) => Ok(word),
+        _ => Err(misfit(tokens, at)),
+    }
+}

@@ -1,0 +1,200 @@
+ghost use Rattle.std.specs.Prelude.{◌≡◌, ◌≤◌, ◌<◌, ◌++◌, ◌∷◌, ℕ, [], IfOk, IsTrue, drop, length, Option};
+ghost use Rattle.std.specs.List.{All};
+ghost use Rattle.labelled_trees.specs.Meaning.{tree_of};
+ghost use Rattle.symmetric_trees.specs.Trees.{Fits};
+ghost use Rattle.symmetric_sums.specs.Terms.{FitsOver, terms_of};
+ghost use Rattle.presentation_text.specs.ElementForms as spec;
+ghost use Rattle.presentation_text.specs.TreeForms.{demands_of};
+
+use crate::kinds::PartFail;
+use crate::lexing::Token;
+use crate::parts::token_at;
+use crate::trees::{Demands, TreeRead, demanded_tree_at};
+use prime_field::Field;
+use std::alloc::{AllocError, Global};
+use symmetric_sums::{Sum, SumFail};
+use symmetric_trees::GenTable;
+
+/// An element that was read.
+#[derive(Drop)]
+pub struct ElementAt {
+    /// Its terms in their order, without those of residue 0.
+    pub sum: Sum,
+    /// The arity of its first tree, also where the terms have residue 0; `None` where no tree is written.
+    pub arity: Option<u8>,
+    /// The place behind it among the tokens.
+    pub next: usize,
+}
+
+// A term that was read.
+#[derive(Drop)]
+struct TermRead {
+    negative: bool,
+    coefficient: Option<u64>,
+    tree: TreeRead,
+}
+
+// Whether this single byte stands at the place.
+fn has_mark(tokens: &[Token], at: usize, mark: u8) -> bool
+    requires within { at ≤ length tokens.now }
+    ensures { result ≡ spec.begins_with mark (drop at tokens.now) }
+{
+    match token_at(tokens, at) {
+        Some(Token::Byte(byte)) => *byte == mark,
+        _ => false,
+    }
+}
+
+// Whether the number 0 stands at the place, not followed by '*'.
+fn is_nothing(tokens: &[Token], at: usize) -> bool
+    requires within { at ≤ length tokens.now }
+    ensures { result ≡ spec.is_nothing (drop at tokens.now) }
+{
+    match token_at(tokens, at) {
+        Some(Token::Number(number)) => *number == 0 && !has_mark(tokens, at + 1, b'*'),
+        _ => false,
+    }
+}
+
+// The number before '*' at the place.
+fn coefficient_at(tokens: &[Token], at: usize) -> Option<u64>
+    requires within { at ≤ length tokens.now }
+    ensures { result ≡ spec.coefficient (drop at tokens.now) }
+{
+    match token_at(tokens, at) {
+        Some(Token::Number(number)) => {
+            if has_mark(tokens, at + 1, b'*') {
+                Some(*number)
+            } else {
+                None
+            }
+        }
+        _ => None,
+    }
+}
+
+// The sign before a further term: whether it is '-'.
+fn sign_at(tokens: &[Token], at: usize) -> Option<bool>
+    requires within { at ≤ length tokens.now }
+    ensures { result ≡ spec.sign (drop at tokens.now) }
+{
+    match token_at(tokens, at) {
+        Some(Token::Byte(b'+')) => Some(false),
+        Some(Token::Byte(b'-')) => Some(true),
+        _ => None,
+    }
+}
+
+// A term at a place, of which the sign is known.
+fn term_at(
+    alloc: Global,
+    table: &GenTable,
+    demands: Demands,
+    tokens: &[Token],
+    at: usize,
+    negative: bool,
+) -> Result<TermRead, PartFail>
+    requires within { at ≤ length tokens.now }
+{
+    let coefficient = coefficient_at(tokens, at);
+    let begin = if coefficient.is_some() { at + 2 } else { at };
+    let tree = demanded_tree_at(alloc, table, demands, tokens, begin)?;
+    Ok(TermRead {
+        negative,
+        coefficient,
+        tree,
+    })
+}
+
+fn residue(field: Field, term: &TermRead) -> u32 {
+    let coef = match term.coefficient {
+        Some(number) => field.of_number(number),
+        None => field.of_number(1),
+    };
+    if term.negative { field.neg(coef) } else { coef }
+}
+
+// Puts a term behind a sum of its arity.
+fn add(
+    alloc: Global,
+    field: Field,
+    table: &GenTable,
+    term: TermRead,
+    sum: &mut Sum,
+) -> Result<(), AllocError> {
+    let coef = residue(field, &term);
+    match sum.add_term(alloc, field, table, coef, term.tree.tree) {
+        Ok(()) => Ok(()),
+        Err(SumFail::NoMemory) => Err(AllocError),
+        Err(SumFail::ArityDiffers) => unreachable!(),
+    }
+}
+
+// The further terms behind the first ones of a sum, and the place behind them.
+fn further_at(
+    alloc: Global,
+    field: Field,
+    table: &GenTable,
+    demands: Demands,
+    tokens: &[Token],
+    at: usize,
+    sum: Sum,
+) -> Result<(Sum, usize), PartFail> {
+    let mut sum = sum;
+    let mut next = at;
+    while let Some(negative) = sign_at(tokens, next) {
+        let term = term_at(alloc, table, demands, tokens, next + 1, negative)?;
+        next = term.tree.end;
+        add(alloc, field, table, term, &mut sum)?;
+    }
+    Ok((sum, next))
+}
+
+/// The element that stands at a place among the tokens of a line: the number 0 alone, not followed by '*'; or '-' or
+/// nothing, a term, and any number of further terms with '+' or '-' before each. A term is `number *`, which may be left
+/// out, and a tree of an element. Each tree has at least `least` leaves (from 1 on), and the arity that is given, if one is;
+/// else that of the first tree.
+///
+/// `At` names the first token that is refused, and the kind, as for a tree; an element ends before the first token that can't go on
+/// with it. `NoMemory` comes for want of memory alone. The sum fits the field and the table.
+pub fn element_at(
+    alloc: Global,
+    field: Field,
+    table: &GenTable,
+    tokens: &[Token],
+    at: usize,
+    least: u8,
+    arity: Option<u8>,
+) -> Result<ElementAt, PartFail>
+    requires within { at ≤ length tokens.now }
+    ensures read { spec.GivesElement field tokens.now (spec.element_in table.now (demands_of least arity) (drop at tokens.now)) result }
+    ensures fits { IfOk result (λ found. FitsOver field table.now found.sum) }
+    ensures further { IfOk result (λ found. at < found.next) }
+{
+    let mut sum = Sum::new(alloc);
+    if is_nothing(tokens, at) {
+        return Ok(ElementAt {
+            sum,
+            arity: None,
+            next: at + 1,
+        });
+    }
+    let negative = has_mark(tokens, at, b'-');
+    let begin = if negative { at + 1 } else { at };
+    let demands = Demands {
+        loose: false,
+        least,
+        arity,
+    };
+    let first = term_at(alloc, table, demands, tokens, begin, negative)?;
+    let arity = Some(first.tree.leaves);
+    let end = first.tree.end;
+    add(alloc, field, table, first, &mut sum)?;
+    let demands = Demands {
+        loose: false,
+        least,
+        arity,
+    };
+    let (sum, next) = further_at(alloc, field, table, demands, tokens, end, sum)?;
+    Ok(ElementAt { sum, arity, next })
+}

@@ -1,0 +1,254 @@
+ghost use Rattle.std.specs.Prelude.{◌≡◌, ◌≤◌, ◌<◌, ◌+◌, ◌↔◌, IfOk, IsTrue, Some, drop, length, slice_get};
+ghost use Rattle.labelled_trees.specs.Leaves.{leaf_count};
+ghost use Rattle.labelled_trees.specs.Meaning.{tree_of};
+ghost use Rattle.symmetric_trees.specs.Generators.{IsTable};
+ghost use Rattle.symmetric_trees.specs.Trees.{Fits};
+ghost use Rattle.presentation_text.specs.Readings.{mark_in, GivesBehind};
+ghost use Rattle.presentation_text.specs.TreeForms as spec;
+
+use crate::kinds::{DocKind, PartFail};
+use crate::lexing::Token;
+use crate::parts::{mark_at, misfit, token_at};
+use labelled_trees::Tree;
+use sqlite_items::Items;
+use std::alloc::Global;
+use symmetric_trees::{GenTable, Name, arity_of};
+
+// What is asked of a tree beside its form.
+#[derive(Clone, Copy, Debug, PartialEq, Eq)]
+pub struct Demands {
+    /// Whether its leaf numbers are free up to 99; else the leaves carry 1 to some number, each once.
+    pub loose: bool,
+    /// How many leaves it has at least.
+    pub least: u8,
+    /// How many leaves it has, if that is known.
+    pub arity: Option<u8>,
+}
+
+// A tree that was read.
+#[derive(Drop)]
+pub struct TreeRead {
+    pub tree: Tree,
+    pub leaves: u8,
+    /// The place behind it.
+    pub end: usize,
+}
+
+// How many generators may stand one inside the other.
+const MOST_NESTED: u8 = 8;
+
+// How many leaves a tree may have.
+const MOST_LEAVES: u8 = 9;
+
+const GREATEST_LEAF: u64 = 99;
+
+fn fail<T>(token: usize, kind: DocKind) -> Result<T, PartFail> {
+    Err(PartFail::At { token, kind })
+}
+
+// Whether this single byte stands at the place.
+fn has_mark(tokens: &[Token], at: usize, mark: u8) -> bool
+    requires within { at ≤ length tokens.now }
+{
+    match token_at(tokens, at) {
+        Some(Token::Byte(byte)) => *byte == mark,
+        _ => false,
+    }
+}
+
+// The place behind '(' before the first input, or behind ',' before a further one.
+fn before_input(tokens: &[Token], at: usize, first: bool) -> Result<usize, PartFail>
+    requires within { at ≤ length tokens.now }
+    ensures { GivesBehind tokens.now (spec.before_in first (drop at tokens.now)) result }
+{
+    if first {
+        return mark_at(tokens, at, b'(');
+    }
+    if has_mark(tokens, at, b')') {
+        return fail(at, DocKind::InputCount);
+    }
+    mark_at(tokens, at, b',')
+}
+
+// The place behind the ')' of a vertex.
+fn behind_inputs(tokens: &[Token], at: usize) -> Result<usize, PartFail>
+    requires within { at ≤ length tokens.now }
+    ensures { GivesBehind tokens.now (spec.close_in (drop at tokens.now)) result }
+{
+    if has_mark(tokens, at, b',') {
+        return fail(at, DocKind::InputCount);
+    }
+    mark_at(tokens, at, b')')
+}
+
+fn leaf(at: usize, number: u64, seen: u8) -> Result<TreeRead, PartFail> {
+    if seen >= MOST_LEAVES {
+        return fail(at, DocKind::TooWide);
+    }
+    if number > GREATEST_LEAF {
+        return fail(at, DocKind::Labels);
+    }
+    Ok(TreeRead {
+        tree: Tree::Leaf(number as u8),
+        leaves: 1,
+        end: at + 1,
+    })
+}
+
+// A tree at a place, of which `depth` generators may still stand one inside the other; so many leaves of the whole tree stand before.
+#[cycle(read)]
+fn tree_within(
+    alloc: Global,
+    table: &GenTable,
+    tokens: &[Token],
+    at: usize,
+    depth: u8,
+    seen: u8,
+) -> Result<TreeRead, PartFail>
+    requires within { at ≤ length tokens.now }
+    requires narrow { seen ≤ 9 }
+    ensures read { spec.GivesTree tokens.now (spec.tree_in table.now depth seen (drop at tokens.now)) result }
+    ensures narrow { IfOk result (λ found. seen + found.leaves ≤ 9) }
+    ensures fits { IfOk result (λ found. Fits table.now (tree_of found.tree)) }
+    ensures further { IfOk result (λ found. at < found.end) }
+{
+    match token_at(tokens, at) {
+        Some(Token::Number(number)) => leaf(at, *number, seen),
+        Some(Token::Word(name)) => match table.find(name.as_str()) {
+            Some(generator) => {
+                if depth == 0 {
+                    return fail(at, DocKind::TooDeep);
+                }
+                vertex_within(alloc, table, tokens, at + 1, generator, depth - 1, seen)
+            }
+            None => fail(at, DocKind::NameUnknown),
+        },
+        _ => Err(misfit(tokens, at)),
+    }
+}
+
+// An input, where no ')' may stand.
+#[cycle(read)]
+fn input_within(
+    alloc: Global,
+    table: &GenTable,
+    tokens: &[Token],
+    at: usize,
+    depth: u8,
+    seen: u8,
+) -> Result<TreeRead, PartFail>
+    requires within { at ≤ length tokens.now }
+    requires narrow { seen ≤ 9 }
+    ensures read { spec.GivesTree tokens.now (spec.input_in (spec.tree_in table.now depth) seen (drop at tokens.now)) result }
+    ensures narrow { IfOk result (λ found. seen + found.leaves ≤ 9) }
+    ensures fits { IfOk result (λ found. Fits table.now (tree_of found.tree)) }
+    ensures further { IfOk result (λ found. at < found.end) }
+{
+    if has_mark(tokens, at, b')') {
+        return fail(at, DocKind::InputCount);
+    }
+    tree_within(alloc, table, tokens, at, depth, seen)
+}
+
+// The vertex of a generator whose name stands before the place.
+#[cycle(read)]
+fn vertex_within(
+    alloc: Global,
+    table: &GenTable,
+    tokens: &[Token],
+    at: usize,
+    generator: u16,
+    depth: u8,
+    seen: u8,
+) -> Result<TreeRead, PartFail>
+    requires within { at ≤ length tokens.now }
+    requires narrow { seen ≤ 9 }
+    requires held { generator < length table.now }
+    ensures read { spec.GivesTree tokens.now (spec.node_in table.now (Some (spec.tree_in table.now depth)) seen (Some generator) (drop at tokens.now)) result }
+    ensures narrow { IfOk result (λ found. seen + found.leaves ≤ 9) }
+    ensures fits { IfOk result (λ found. Fits table.now (tree_of found.tree)) }
+    ensures further { IfOk result (λ found. at < found.end) }
+{
+    let mut inputs = Items::new(alloc);
+    let mut next = at;
+    let mut leaves = 0;
+    for index in 0..table.get(generator).arity {
+        next = before_input(tokens, next, index == 0)?;
+        let input = input_within(alloc, table, tokens, next, depth, seen + leaves)?;
+        inputs.push(input.tree)?;
+        leaves += input.leaves;
+        next = input.end;
+    }
+    let end = behind_inputs(tokens, next)?;
+    Ok(TreeRead {
+        tree: Tree::Node(generator, inputs),
+        leaves,
+        end,
+    })
+}
+
+// What stands against a whole tree at its last token.
+fn against(table: &GenTable, demands: Demands, found: &TreeRead) -> Option<DocKind> {
+    if !demands.loose && arity_of(&found.tree, table).is_none() {
+        return Some(DocKind::Labels);
+    }
+    if found.leaves < demands.least {
+        return Some(DocKind::ArityOut);
+    }
+    match demands.arity {
+        Some(arity) if arity != found.leaves => Some(DocKind::MixedArity),
+        _ => None,
+    }
+}
+
+// The tree at a place, of which so much is asked.
+pub(crate) fn demanded_tree_at(
+    alloc: Global,
+    table: &GenTable,
+    demands: Demands,
+    tokens: &[Token],
+    at: usize,
+) -> Result<TreeRead, PartFail>
+    requires within { at ≤ length tokens.now }
+    ensures read { spec.GivesTree tokens.now (spec.whole_tree_in table.now demands (drop at tokens.now)) result }
+    ensures narrow { IfOk result (λ found. found.leaves ≤ 9) }
+    ensures fits { IfOk result (λ found. Fits table.now (tree_of found.tree)) }
+    ensures further { IfOk result (λ found. at < found.end) }
+{
+    let found = tree_within(alloc, table, tokens, at, MOST_NESTED, 0)?;
+    if let Some(kind) = against(table, demands, &found) {
+        return fail(found.end - 1, kind);
+    }
+    Ok(found)
+}
+
+/// The tree that stands at a place among the tokens of a line, and the place behind it. It is a number (a leaf), or a
+/// generator's name, '(', as many trees as its arity with ',' between them, and ')'. Where `loose` is true, its leaf
+/// numbers are free up to 99; else its leaves carry 1 to some number, each once.
+///
+/// `At` names the first token that is refused; the end of the line counts as the token behind the last. Its kind is the first
+/// of these that holds there: `NumberLong` for a number of more than 18 digits; `NameUnknown` for a word where a tree
+/// begins that no generator has; `TooDeep` for a generator's name with 8 generators above it; `TooWide` for the tenth leaf;
+/// `InputCount` for a ',' after as many inputs as the arity, or a ')' after fewer; `Labels` for a leaf number above 99, or,
+/// unless leaf numbers are free, at the last token of a tree whose leaves aren't 1 to n, each once; `Syntax` for any other
+/// token that can't stand there. `NoMemory` comes for want of memory alone.
+pub fn tree_at(
+    alloc: Global,
+    table: &GenTable,
+    tokens: &[Token],
+    at: usize,
+    loose: bool,
+) -> Result<(Tree, usize), PartFail>
+    requires within { at ≤ length tokens.now }
+    ensures read { spec.GivesTreeAt tokens.now (spec.whole_tree_in table.now (spec.any_arity loose) (drop at tokens.now)) result }
+    ensures fits { IfOk result (λ found. Fits table.now (tree_of found.0)) }
+    ensures further { IfOk result (λ found. at < found.1) }
+{
+    let demands = Demands {
+        loose,
+        least: 1,
+        arity: None,
+    };
+    let found = demanded_tree_at(alloc, table, demands, tokens, at)?;
+    Ok((found.tree, found.end))
+}
