@@ -1,6 +1,0 @@
-pub mod UseTokens
-pub mod BlockLines
-pub mod BlockFaults
-pub mod BlockReading
-pub mod ReadyBlocks
-pub mod OneReading

@@ -1,5 +1,5 @@
+pub mod Plain
 pub mod UseText
-pub mod UseSteps
-pub mod BlockText
-pub mod BlockSteps
-pub mod Laws
+pub mod BlockForms
+pub mod PlaceForms
+pub mod Tails

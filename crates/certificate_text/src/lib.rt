@@ -3,14 +3,13 @@
 
 mod block;
 mod cert_fail;
-mod leaves;
 mod places;
 mod reading;
 mod uses;
 
 pub use block::{Block, Step};
 pub use cert_fail::{CertFail, ReadCertFail};
-pub use reading::{blocks_are_determined, read_blocks};
+pub use reading::read_blocks;
 
 #[cfg(test)]
 mod tests;

@@ -1,19 +1,19 @@
-ghost use Rattle.std.specs.Prelude.{◌≡◌, ◌↔◌, List, IfOk, IsTrue, MatchOption};
-ghost use Rattle.symmetric_trees.specs.Generators.{IsTable};
-ghost use Rattle.presentation_text.specs.Tokens.{tokens as tokens_of};
-ghost use Rattle.certificate_text.specs.declared.block.Block.{Block};
-ghost use Rattle.certificate_text.specs.BlockText.{end_line};
-ghost use Rattle.certificate_text.specs.BlockSteps.{CantFollow, EndsNoSteps, Follows, FollowsBlocks, FollowsSteps};
+ghost use Rattle.std.specs.Prelude.{◌≡◌, ◌≤◌, ◌×◌, List, IfOk, MatchResult, Ok, drop, length, map};
+ghost use Rattle.std.specs.List.{All};
+ghost use Rattle.symmetric_sums.specs.Terms.{FitsOver, terms_of};
+ghost use Rattle.presentation_text.specs.Readings.{StopsAs};
+ghost use Rattle.certificate_text.specs.BlockForms as spec;
+ghost use Rattle.certificate_text.specs.Plain.{plain_block};
+ghost use Rattle.certificate_text.specs.PlaceForms as forms;
 
 use crate::block::{Block, Step};
-use crate::uses::read_use;
-use presentation_text::{Token, is_word, read_element_line, tokens};
-use prime_field::Field;
+use crate::uses::use_line;
+use presentation_text::{DocKind, Document, PartFail, Token, element_at, end_at, is_unknown};
 use sqlite_items::Items;
 use std::alloc::{AllocError, Global};
-use symmetric_trees::GenTable;
+use symmetric_sums::Sum;
 
-// Where the next line stands: between blocks, in a block behind its wanted element, or in a block in a step.
+// Where the next line stands: between blocks, in a block behind its wanted element, or in a step of a block.
 #[derive(Drop)]
 pub enum Place {
     Between,
@@ -21,104 +21,142 @@ pub enum Place {
     InStep(Block, Step),
 }
 
-fn is_end(tokens: &[Token]) -> bool
-    ensures { IsTrue result ↔ (tokens.now ≡ end_line) }
-{
-    match tokens {
-        [word] => is_word(word, "end"),
-        _ => false,
-    }
+// Where the next line stands, and the whole blocks before it.
+#[derive(Drop)]
+pub struct Progress {
+    pub place: Place,
+    pub blocks: Items<Block>,
 }
 
-// The place behind a line that stands between blocks.
-fn behind_blocks(
-    alloc: Global,
-    field: Field,
-    table: &GenTable,
-    tokens: &[Token],
-) -> Result<Option<Place>, AllocError>
-    ensures { IfOk result (λ found. MatchOption found (CantFollow field table.now tokens.now Place.Between)
-        (λ next. (blocks : List Block) → FollowsBlocks field table.now tokens.now blocks next blocks)) }
-{
-    match read_element_line(alloc, field, table, "want", tokens)? {
-        Some(element) => Ok(Some(Place::InBlock(Block {
-            want: element.sum,
-            steps: Items::new(alloc),
-        }))),
-        None => Ok(None),
-    }
-}
-
-// The place behind a line that stands in a block behind whole steps.
-fn behind_steps(
-    alloc: Global,
-    field: Field,
-    table: &GenTable,
-    tokens: &[Token],
-    block: Block,
-    blocks: &mut Items<Block>,
-) -> Result<Option<Place>, AllocError>
-    ensures { IfOk result (λ found. MatchOption found (EndsNoSteps field table.now tokens.now)
-        (λ next. FollowsSteps field table.now tokens.now block blocks.old next blocks.new)) }
-{
-    if is_end(tokens) {
-        blocks.push(block)?;
-        return Ok(Some(Place::Between));
-    }
-    match read_element_line(alloc, field, table, "step", tokens)? {
-        Some(element) => {
-            let step = Step {
-                element: element.sum,
-                uses: Items::new(alloc),
-            };
-            Ok(Some(Place::InStep(block, step)))
+impl Place {
+    fn may_follow(&self, word: &str) -> bool
+        ensures { result ≡ spec.may_follow (forms.place_of self.now) word.now }
+    {
+        match self {
+            Place::Between => word == "want",
+            Place::InBlock(_) => word == "step" || word == "end",
+            Place::InStep(_, _) => word == "use" || word == "step" || word == "end",
         }
-        None => Ok(None),
+    }
+
+    // What stands against the word of a line.
+    pub fn word_fault(&self, version: u8, word: &str) -> Option<DocKind>
+        ensures { result ≡ spec.tail_word_fault version (forms.place_of self.now) word.now }
+    {
+        if is_unknown(version, word) {
+            return Some(DocKind::Directive);
+        }
+        if !self.may_follow(word) {
+            return Some(DocKind::Block);
+        }
+        None
     }
 }
 
-// The place behind a line that stands in a step.
-fn behind_uses(
+// The element of a line of a word and an element.
+fn sum_line(alloc: Global, document: &Document, tokens: &[Token]) -> Result<Sum, PartFail>
+    requires word { 1 ≤ length tokens.now }
+    ensures read { MatchResult result (λ sum. spec.sum_in document.now.field document.now.gens (drop 1 tokens.now) ≡ Ok (terms_of sum))
+        (StopsAs tokens.now (spec.sum_in document.now.field document.now.gens (drop 1 tokens.now))) }
+    ensures fits { IfOk result (FitsOver document.now.field document.now.gens) }
+{
+    let element = element_at(alloc, document.field, &document.gens, tokens, 1, 1, None)?;
+    end_at(tokens, element.next)?;
+    Ok(element.sum)
+}
+
+// Behind a line `want ELEMENT` between blocks.
+fn want_line(
     alloc: Global,
-    field: Field,
-    table: &GenTable,
+    document: &Document,
+    blocks: Items<Block>,
     tokens: &[Token],
+) -> Result<Progress, PartFail>
+    requires word { 1 ≤ length tokens.now }
+{
+    let want = sum_line(alloc, document, tokens)?;
+    let block = Block {
+        want,
+        steps: Items::new(alloc),
+    };
+    Ok(Progress {
+        place: Place::InBlock(block),
+        blocks,
+    })
+}
+
+// Behind a line `step ELEMENT` or `end` in a block whose steps are whole.
+fn block_line(
+    alloc: Global,
+    document: &Document,
+    block: Block,
+    blocks: Items<Block>,
+    word: &str,
+    tokens: &[Token],
+) -> Result<Progress, PartFail>
+    requires word { 1 ≤ length tokens.now }
+{
+    if word == "end" {
+        end_at(tokens, 1)?;
+        let mut blocks = blocks;
+        blocks.push(block)?;
+        return Ok(Progress {
+            place: Place::Between,
+            blocks,
+        });
+    }
+    let element = sum_line(alloc, document, tokens)?;
+    let step = Step {
+        element,
+        uses: Items::new(alloc),
+    };
+    Ok(Progress {
+        place: Place::InStep(block, step),
+        blocks,
+    })
+}
+
+// Behind a line that stands in a step: a use, or what stands behind whole steps.
+fn step_line(
+    alloc: Global,
+    document: &Document,
     block: Block,
     step: Step,
-    blocks: &mut Items<Block>,
-) -> Result<Option<Place>, AllocError>
-    requires sound { IsTable table.now }
-    ensures { IfOk result (λ found. MatchOption found (CantFollow field table.now tokens.now (Place.InStep block step))
-        (λ next. Follows field table.now tokens.now (Place.InStep block step) blocks.old next blocks.new)) }
+    blocks: Items<Block>,
+    word: &str,
+    tokens: &[Token],
+) -> Result<Progress, PartFail>
+    requires word { 1 ≤ length tokens.now }
 {
-    if let Some(item) = read_use(alloc, field, table, tokens)? {
+    if word == "use" {
+        let item = use_line(alloc, document.field, &document.gens, tokens)?;
         let Step { element, mut uses } = step;
         uses.push(item)?;
-        return Ok(Some(Place::InStep(block, Step { element, uses })));
+        return Ok(Progress {
+            place: Place::InStep(block, Step { element, uses }),
+            blocks,
+        });
     }
     let Block { want, mut steps } = block;
     steps.push(step)?;
-    behind_steps(alloc, field, table, tokens, Block { want, steps }, blocks)
+    block_line(alloc, document, Block { want, steps }, blocks, word, tokens)
 }
 
-// The place behind a line. A block that the line ends joins the others.
+// Where the next line stands behind a line whose word may follow.
 pub fn follow(
     alloc: Global,
-    field: Field,
-    table: &GenTable,
-    line: &[u8],
-    place: Place,
-    blocks: &mut Items<Block>,
-) -> Result<Option<Place>, AllocError>
-    requires sound { IsTable table.now }
-    ensures { IfOk result (λ found. MatchOption found (CantFollow field table.now (tokens_of line.now) place)
-        (λ next. Follows field table.now (tokens_of line.now) place blocks.old next blocks.new)) }
+    document: &Document,
+    now: Progress,
+    word: &str,
+    tokens: &[Token],
+) -> Result<Progress, PartFail>
+    requires word { 1 ≤ length tokens.now }
+    ensures { forms.GivesFollow tokens.now (spec.rest_of_tail_line document.now.field document.now.gens (forms.place_of now.place) (map plain_block now.blocks) word.now (drop 1 tokens.now)) result }
 {
-    let found = tokens(alloc, line)?;
-    let tokens = found.as_slice();
+    let Progress { place, blocks } = now;
     match place {
-        Place::Between => behind_blocks(alloc, field, table, tokens),
-        Place::InBlock(block) => behind_steps(alloc, field, table, tokens, block, blocks),
-        Place::InStep(block, step) => behind_uses(alloc, field, table, tokens, block, step, blocks),
+        Place::Between => want_line(alloc, document, blocks, tokens),
+        Place::InBlock(block) => block_line(alloc, document, block, blocks, word, tokens),
+        Place::InStep(block, step) => step_line(alloc, document, block, step, blocks, word, tokens),
     }
 }

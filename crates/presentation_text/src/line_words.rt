@@ -45,8 +45,8 @@ fn is_inside_tail(word: &str) -> bool
         || word == "red"
 }
 
-// Whether the word begins no line that may be read.
-pub(crate) fn is_unknown(version: u8, word: &str) -> bool
+/// Whether no line of a text of this version, 1 or 2, begins with the word: neither one of a presentation nor one of a tail.
+pub fn is_unknown(version: u8, word: &str) -> bool
     ensures { result ≡ spec.is_unknown version word.now }
 {
     section_of(version, word) == 0 && !is_inside_tail(word)

@@ -1,10 +1,22 @@
 ghost use Rattle.std.specs.Prelude.{◌≡◌, ◌≤◌, ◌<◌, ◌+◌, ◌∷◌, [], ℕ, List, MatchOption, MatchResult, drop, length, Ok};
+ghost use Rattle.presentation_text.specs.ElementForms.{begins_with};
 ghost use Rattle.presentation_text.specs.Readings as spec;
 ghost use Rattle.presentation_text.specs.declared.lexing.Token.{Token};
 
 use crate::kinds::{DocKind, PartFail};
 use crate::lexing::Token;
 use symmetric_trees::Name;
+
+/// Whether this single byte stands at a place among tokens, which is at most their number.
+pub fn has_mark(tokens: &[Token], at: usize, mark: u8) -> bool
+    requires within { at ≤ length tokens.now }
+    ensures exact { result ≡ begins_with mark (drop at tokens.now) }
+{
+    match token_at(tokens, at) {
+        Some(Token::Byte(byte)) => *byte == mark,
+        _ => false,
+    }
+}
 
 // The token at a place, or none at the end of the line.
 pub(crate) fn token_at(tokens: &[Token], at: usize) -> Option<&Token>
@@ -27,8 +39,9 @@ pub(crate) fn misfit(tokens: &[Token], at: usize) -> PartFail
     PartFail::At { token: at, kind }
 }
 
-// The place behind this single byte.
-pub(crate) fn mark_at(tokens: &[Token], at: usize, mark: u8) -> Result<usize, PartFail>
+/// The place behind this single byte, which stands at a place among tokens; `At` where it doesn't, with the kind of a token that
+/// can't stand there.
+pub fn mark_at(tokens: &[Token], at: usize, mark: u8) -> Result<usize, PartFail>
     requires within { at ≤ length tokens.now }
     ensures { spec.GivesBehind tokens.now (spec.mark_in mark (drop at tokens.now)) result }
 {
@@ -44,8 +57,8 @@ pub(crate) fn mark_at(tokens: &[Token], at: usize, mark: u8) -> Result<usize, Pa
     }
 }
 
-// The end of the line.
-pub(crate) fn end_at(tokens: &[Token], at: usize) -> Result<(), PartFail>
+/// The end of the line stands at a place among tokens; `At` where it doesn't, with the kind of a token that can't stand there.
+pub fn end_at(tokens: &[Token], at: usize) -> Result<(), PartFail>
     requires within { at ≤ length tokens.now }
     ensures { MatchResult result (λ _. spec.end_in (drop at tokens.now) ≡ Ok tt)
         (spec.StopsAs tokens.now (spec.end_in (drop at tokens.now))) }
@@ -56,8 +69,8 @@ pub(crate) fn end_at(tokens: &[Token], at: usize) -> Result<(), PartFail>
     }
 }
 
-// A number, with one token.
-pub(crate) fn number_at(tokens: &[Token], at: usize) -> Result<u64, PartFail>
+/// The number that stands at a place among tokens; `At` where none does, with the kind of a token that can't stand there.
+pub fn number_at(tokens: &[Token], at: usize) -> Result<u64, PartFail>
     requires within { at ≤ length tokens.now }
     ensures { MatchResult result (λ number. (spec.number_in (drop at tokens.now) ≡ Ok (number, drop (at + 1) tokens.now)) × (at < length tokens.now))
         (spec.StopsAs tokens.now (spec.number_in (drop at tokens.now))) }
@@ -68,8 +81,8 @@ pub(crate) fn number_at(tokens: &[Token], at: usize) -> Result<u64, PartFail>
     }
 }
 
-// A word, with one token.
-pub(crate) fn word_at(tokens: &[Token], at: usize) -> Result<&Name, PartFail>
+/// The word that stands at a place among tokens; `At` where none does, with the kind of a token that can't stand there.
+pub fn word_at(tokens: &[Token], at: usize) -> Result<&Name, PartFail>
     requires within { at ≤ length tokens.now }
     ensures { MatchResult result (λ word. (spec.word_in (drop at tokens.now) ≡ Ok (word.now, drop (at + 1) tokens.now)) × (at < length tokens.now))
         (spec.StopsAs tokens.now (spec.word_in (drop at tokens.now))) }
