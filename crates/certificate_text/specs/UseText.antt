@@ -1,16 +1,16 @@
 -- Lines of uses: their tokens, and what these say.
-use Rattle.std.specs.Prelude.{ℕ, ◌≡◌, ◌≤◌, ◌-◌, ◌%◌, min, Bool, if◌then◌else◌, List, [], ◌∷◌, ◌++◌, map, codes}
+use Rattle.std.specs.Prelude.{ℕ, ◌≡◌, ◌-◌, ◌%◌, min, true, Bool, if◌then◌else◌, List, [], ◌∷◌, ◌++◌, codes}
 use Rattle.std.specs.List.{All}
 use Rattle.labelled_trees.specs.Trees.{Tree}
-use Rattle.labelled_trees.specs.Leaves.{leaf_count}
-use Rattle.labelled_trees.specs.Meaning.{tree_of}
 use Rattle.symmetric_trees.specs.declared.generators.Generator.{Generator}
-use Rattle.symmetric_sums.specs.declared.instance.Instance.{Instance}
 use Rattle.symmetric_sums.specs.declared.instance.Rule.{Rule}
 use Rattle.symmetric_sums.specs.declared.instance.Rule.TheVariants.{Rel, Step}
-use Rattle.presentation_text.specs.TreeText.{tree_tokens, IsReadable}
+use Rattle.presentation_text.specs.Accepted.{IsDemanded}
+use Rattle.presentation_text.specs.TreeForms.{any_arity}
+use Rattle.presentation_text.specs.TreeText.{tree_tokens}
 use Rattle.presentation_text.specs.declared.lexing.Token.{Token}
 use Rattle.presentation_text.specs.declared.lexing.Token.TheVariants.{Word, Number, Byte}
+use Rattle.certificate_text.specs.Plain.{PlainUse}
 
 -- ---- the grammar
 
@@ -39,16 +39,16 @@ abbrev pub unsigned_tokens : List Generator → WrittenUse → List Token
 unsigned_tokens generators written =
     Number written.number ∷ (Byte 59 ∷ (tree_tokens generators written.context ++ behind_tokens generators written.cites_step written.cited written.inputs))
 
--- A use is `use`, '-' or nothing and a number, ';', the context, ';', what is cited, and ';' and a tree for each input.
+-- A use is, behind the word `use`, '-' or nothing and a number, ';', the context, ';', what is cited, and ';' and a tree for each input.
 abbrev pub use_tokens : List Generator → WrittenUse → List Token
-use_tokens generators written = Word (codes "use") ∷ ((if written.negative then Byte 45 ∷ [] else []) ++ unsigned_tokens generators written)
+use_tokens generators written = (if written.negative then Byte 45 ∷ [] else []) ++ unsigned_tokens generators written
 
 -- ---- which trees may stand in it
 
--- A tree of a use: over the table, with at most 8 generators one inside the other, at most 9 leaves, and leaf numbers of at most 99.
-pub record IsUseTree (generators : List Generator) (t : Tree ℕ) : Type 0 where
-  pub readable : IsReadable generators t
-  pub narrow : leaf_count t ≤ 9
+-- its trees are over the table, and their leaf numbers are free up to 99
+pub record HasUseTrees (generators : List Generator) (written : WrittenUse) : Type 0 where
+  pub context : IsDemanded generators (any_arity true) written.context
+  pub inputs : All (IsDemanded generators (any_arity true)) written.inputs
 
 -- ---- what it says
 
@@ -64,21 +64,15 @@ greatest_cited = 4294967295
 abbrev pub cited_rule : Bool → ℕ → Rule
 cited_rule cites_step cited = if cites_step then Step (min cited greatest_cited) else Rel (min cited greatest_cited)
 
--- The instance is the use that is written.
-pub record SaysUse (p : ℕ) (written : WrittenUse) (item : Instance) : Type 0 where
-  pub coef_is : item.coef ≡ signed_residue p written.negative written.number
-  pub context_is : tree_of item.context ≡ written.context
-  pub rule_is : item.rule ≡ cited_rule written.cites_step written.cited
-  pub inputs_are : map tree_of item.inputs ≡ written.inputs
+-- the use that is written
+abbrev pub said_use : ℕ → WrittenUse → PlainUse
+said_use p written = record {
+  coef = signed_residue p written.negative written.number; context = written.context;
+  rule = cited_rule written.cites_step written.cited; inputs = written.inputs }
 
--- its trees may stand in a use
-pub record HasUseTrees (generators : List Generator) (written : WrittenUse) : Type 0 where
-  pub context : IsUseTree generators written.context
-  pub inputs : All (IsUseTree generators) written.inputs
-
--- The line is that of a use, and the instance is what it says.
-pub record IsUseLine (p : ℕ) (generators : List Generator) (line : List Token) (item : Instance) : Type 0 where
+-- The tokens behind the word `use` are those of a use, which says this.
+pub record IsUse (p : ℕ) (generators : List Generator) (tokens : List Token) (item : PlainUse) : Type 0 where
   pub written : WrittenUse
-  pub spelled : line ≡ use_tokens generators written
+  pub spelled : tokens ≡ use_tokens generators written
   pub trees : HasUseTrees generators written
-  pub says : SaysUse p written item
+  pub item_is : item ≡ said_use p written

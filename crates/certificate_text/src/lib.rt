@@ -9,7 +9,7 @@ mod uses;
 
 pub use block::{Block, Step};
 pub use cert_fail::{CertFail, ReadCertFail};
-pub use reading::read_blocks;
+pub use reading::{blocks_are_accepted, read_blocks};
 
 #[cfg(test)]
 mod tests;

@@ -1,6 +1,7 @@
 ghost use Rattle.std.specs.Prelude.{◌≡◌, ◌≤◌, ◌<◌, ◌+◌, ◌^◌, IfOk, MatchResult, length};
 ghost use Rattle.std.specs.List.{All};
 ghost use Rattle.presentation_text.specs.Presentations.{IsReadAs};
+ghost use Rattle.certificate_text.specs.Laws.{BlocksAreAccepted};
 ghost use Rattle.certificate_text.specs.Tails.{AreReadAs, IsReadyBlock, IsRefused};
 
 use crate::block::Block;
@@ -93,3 +94,8 @@ pub fn read_blocks(
     };
     blocks_of(alloc, document, &bytes[tail.from..], tail.line)
 }
+
+/// Law: reading accepts exactly the lines of blocks, and gives what these say.
+pub fn blocks_are_accepted()
+    ensures law { BlocksAreAccepted }
+{}
