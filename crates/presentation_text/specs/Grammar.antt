@@ -75,12 +75,12 @@ pub data Adds (told : Told) (number : ℕ) : List Token → Told → Type 0 wher
       → Adds told number (Word (codes "weight") ∷ (Word name ∷ (Number weight ∷ []))) (record told { weights = weighed g weight told.weights; section = 4 })
   a_relation : (terms : List Written) → length told.relations < 1000 → AreDemanded told.generators 2 None terms
       → Adds told number (Word (codes "rel") ∷ element_tokens told.generators terms)
-        (record told { relations = told.relations ++ said (prime_of told.field) terms ∷ []; section = 5 })
+      (record told { relations = told.relations ++ said (prime_of told.field) terms ∷ []; section = 5 })
   a_query : (terms : List Written) → AreDemanded told.generators 1 None terms
       → Adds told number (Word (codes "query") ∷ element_tokens told.generators terms) (with_ask told number (query (said (prime_of told.field) terms)))
   a_comparison : (terms others : List Written) → AreDemanded told.generators 1 None terms → AreDemanded told.generators 1 (arity_of_first terms) others
       → Adds told number (Word (codes "same") ∷ (element_tokens told.generators terms ++ Byte 61 ∷ element_tokens told.generators others))
-        (with_ask told number (same (said (prime_of told.field) terms) (said (prime_of told.field) others)))
+      (with_ask told number (same (said (prime_of told.field) terms) (said (prime_of told.field) others)))
 
 -- nothing stands against the word of the line
 abbrev pub MayStand : Told → List Token → Type 0

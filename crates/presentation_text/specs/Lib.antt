@@ -20,4 +20,6 @@ pub mod DraftForms
 pub mod DocumentForms
 pub mod Presentations
 pub mod Grammar
+pub mod DocumentText
+pub mod ReadBack
 pub mod Laws

@@ -2,6 +2,7 @@
 #![tactic(auto)]
 
 mod document;
+mod document_writing;
 mod documents;
 mod draft;
 mod element_lines;
@@ -21,15 +22,16 @@ mod trees;
 mod writing;
 
 pub use document::{Ask, AskKind, Document, OrderName, Tail};
+pub use document_writing::{print_document, printed_documents_are_read_back};
 pub use documents::documents_are_determined;
 pub use element_lines::read_element_line;
 pub use elements::{ElementRead, elements_are_read_once, read_element};
 pub use kinds::{DocFail, DocKind, PartFail, ReadDocFail};
 pub use lexing::{Token, tokens, tokens_are_defined, words_are_words};
 pub use line_fail::LineFail;
+pub use line_words::is_unknown;
 pub use lines::{counts, lines_are_defined, next_line};
 pub use opening::{is_word, read_table, skip_opening};
-pub use line_words::is_unknown;
 pub use parts::{end_at, has_mark, mark_at, number_at, word_at};
 pub use presentations::read_document;
 pub use reading::{is_mark, read_tree, trees_are_read_once};

@@ -1,0 +1,84 @@
+-- What is printed of a document is read back.
+use Rattle.std.specs.Prelude.{ℕ, ◌≡◌, ◌≢◌, ◌<◌, ◌≤◌, ◌⊎◌, List, [], ◌∷◌, length, map, Option, Some, None, Ok}
+use Rattle.std.specs.List.{All}
+use Rattle.prime_field.specs.Primes.{IsFieldPrime}
+use Rattle.labelled_trees.specs.Trees.{Tree}
+use Rattle.symmetric_trees.specs.Generators.{IsTable}
+use Rattle.symmetric_trees.specs.declared.generators.Generator.{Generator}
+use Rattle.symmetric_sums.specs.Terms.{terms_of}
+use Rattle.presentation_text.specs.declared.document.Ask.{Ask}
+use Rattle.presentation_text.specs.declared.document.AskKind.{AskKind}
+use Rattle.presentation_text.specs.declared.document.AskKind.TheVariants.{Query, Same}
+use Rattle.presentation_text.specs.declared.document.Document.{Document}
+use Rattle.presentation_text.specs.declared.document.OrderName.TheVariants.{WeightPath}
+use Rattle.presentation_text.specs.DocumentForms.{Whole, read_text}
+use Rattle.presentation_text.specs.DocumentText.{document_text}
+use Rattle.presentation_text.specs.DraftForms.{asked_kind}
+use Rattle.presentation_text.specs.Elements.{IsElementTree}
+use Rattle.presentation_text.specs.LineForms.{Told}
+use Rattle.presentation_text.specs.Presentations.{IsReadAs, weight_or_none}
+use Rattle.presentation_text.specs.TreeText.{HasWords}
+
+-- ---- what may stand in a document
+
+-- a term that an element of arity n may say: a residue modulo p other than 0, and a tree that may be read
+pub record IsSaidTerm (p : ℕ) (generators : List Generator) (n : ℕ) (term : ℕ × Tree ℕ) : Type 0 where
+  pub nonzero : 0 < term.0
+  pub residue : term.0 < p
+  pub tree : IsElementTree generators n term.1
+
+-- a sum that an element of arity n may say
+abbrev pub IsSaidOver : ℕ → List Generator → ℕ → List (ℕ × Tree ℕ) → Type 0
+IsSaidOver p generators n = All (IsSaidTerm p generators n)
+
+-- a sum that a relation may say
+abbrev pub IsSaidRelation : ℕ → List Generator → List (ℕ × Tree ℕ) → Type 0
+IsSaidRelation p generators e = (n : ℕ) × (2 ≤ n) × IsSaidOver p generators n e
+
+-- what a question may say: its elements have one arity
+abbrev pub IsSaidAsk : ℕ → List Generator → AskKind → Type 0
+IsSaidAsk p generators (Query sum) = (n : ℕ) × IsSaidOver p generators n (terms_of sum)
+IsSaidAsk p generators (Same left right) = (n : ℕ) × IsSaidOver p generators n (terms_of left) × IsSaidOver p generators n (terms_of right)
+
+-- what only version 2 may have isn't there: generators with several parts, weights, and their order
+pub record IsOfVersionOne (document : Document) : Type 0 where
+  pub one_part : All (λ generator. length generator.parts ≡ 1) document.gens
+  pub no_weights : All (λ weight. weight ≡ 0) document.weights
+  pub no_weight_order : document.order ≢ WeightPath
+
+-- A document as it may be read.
+pub record IsWellFormed (document : Document) : Type 0 where
+  pub version : (document.version ≡ 2) ⊎ ((document.version ≡ 1) × IsOfVersionOne document)
+  pub field : IsFieldPrime document.field
+  pub table : IsTable document.gens
+  pub words : HasWords document.gens
+  pub short : All (λ generator. length generator.name ≤ 16) document.gens
+  pub weights : length document.weights ≡ length document.gens
+  pub small : All (λ weight. weight ≤ 1000000) document.weights
+  pub few : length document.rels ≤ 1000
+  pub relations : All (λ sum. IsSaidRelation document.field document.gens (terms_of sum)) document.rels
+  pub asks : All (λ ask. IsSaidAsk document.field document.gens ask.kind) document.asks
+
+-- Lines say what a document does, but for the numbers of lines.
+pub record SayAgain (told : Told) (document : Document) : Type 0 where
+  pub version_is : told.version ≡ document.version
+  pub field_is : told.field ≡ Some document.field
+  pub order_is : told.order ≡ Some document.order
+  pub generators_are : told.generators ≡ document.gens
+  pub weights_are : map weight_or_none told.weights ≡ document.weights
+  pub relations_are : told.relations ≡ map terms_of document.rels
+  pub asks_are : map (λ ask. ask.1) told.asks ≡ map (λ ask. asked_kind ask.kind) document.asks
+
+-- The text of the document is accepted, without a tail, and says the same.
+pub record IsReadBack (document : Document) : Type 0 where
+  pub told : Told
+  pub reading_is : read_text (document_text document) ≡ Ok (record { told = told; tail = None })
+  pub again : SayAgain told document
+
+-- A document that was read is well formed, and its text is read back, whatever its length.
+pub record ReadBackLaw (document : Document) : Type 0 where
+  pub well_formed : (bytes : List ℕ) → IsReadAs bytes document → IsWellFormed document
+  pub read_back : IsWellFormed document → IsReadBack document
+
+abbrev pub PrintedDocumentsAreReadBack : Type 0
+PrintedDocumentsAreReadBack = (document : Document) → ReadBackLaw document
