@@ -11,7 +11,7 @@ use Rattle.symmetric_sums.specs.declared.term.Term.{Term}
 use Rattle.symmetric_sums.specs.declared.instance.Rule.{Rule}
 use Rattle.symmetric_sums.specs.declared.instance.Rule.TheVariants.{Rel, Swap, Step as StepRule}
 use Rattle.symmetric_sums.specs.declared.instance.Instance.{Instance}
-use Rattle.certificate_text.specs.BlockText.{IsReadyStep}
+use Rattle.certificate_text.specs.Tails.{IsReadyStep}
 use Rattle.certificate_text.specs.declared.block.Step.{Step}
 
 -- ---- what the checker is given

@@ -3,7 +3,7 @@ ghost use Rattle.std.specs.List.{All};
 ghost use Rattle.symmetric_sums.specs.Terms.{FitsOver};
 ghost use Rattle.certificate_check.specs.Blocks.{AreReady, IsWanted, elements_of};
 ghost use Rattle.certificate_check.specs.Soundness.{HeldBlocksAreMembers};
-ghost use Rattle.certificate_text.specs.BlockText.{IsReadyStep};
+ghost use Rattle.certificate_text.specs.Tails.{IsReadyStep};
 ghost use Rattle.certificate_check.specs.Answers.{IsAnswer};
 ghost use Rattle.certificate_check.specs.Checking.{IsChecked, IsRefusal};
 

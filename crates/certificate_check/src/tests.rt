@@ -2,7 +2,7 @@ ghost use Rattle.std.specs.Prelude.{IsTrue};
 ghost use Rattle.std.specs.List.{All};
 ghost use Rattle.symmetric_sums.specs.Terms.{FitsOver};
 ghost use Rattle.certificate_check.specs.Blocks.{AreReady};
-ghost use Rattle.certificate_text.specs.BlockText.{IsReadyStep};
+ghost use Rattle.certificate_text.specs.Tails.{IsReadyStep};
 
 use crate::{CheckAnswer, CheckCause, check_block};
 use certificate_text::{Block, Step};

@@ -1,15 +1,17 @@
 -- Texts of presentations with blocks of certificates, and what the checker answers to them.
-use Rattle.std.specs.Prelude.{ℕ, ◌≡◌, ◌<◌, ◌+◌, ◌⊎◌, List, [], ◌∷◌, ◌++◌, length, codes}
+use Rattle.std.specs.Prelude.{ℕ, ◌≡◌, ◌<◌, ◌+◌, ◌⊎◌, List, [], ◌∷◌, ◌++◌, length, codes, Err}
 use Rattle.std.specs.List.{All}
 use Rattle.std.specs.Fmt.{decimal}
 use Rattle.operad_ideals.specs.Ideals.{InIdeal}
 use Rattle.symmetric_sums.specs.Terms.{terms_of}
 use Rattle.symmetric_sums.specs.Instances.{element_arity}
 use Rattle.symmetric_sums.specs.Membership.{presentation_of}
-use Rattle.presentation_text.specs.Documents.{IsReadAs, IsDocumentFault}
-use Rattle.presentation_text.specs.Opening.{token_lines}
+use Rattle.presentation_text.specs.DocumentForms.{read_text}
+use Rattle.presentation_text.specs.Presentations.{IsReadAs}
 use Rattle.presentation_text.specs.declared.document.Document.{Document}
-use Rattle.certificate_text.specs.BlockText.{AreReadAs, IsTailFault}
+use Rattle.presentation_text.specs.declared.kinds.DocKind.{DocKind}
+use Rattle.certificate_text.specs.BlockForms.{read_tail}
+use Rattle.certificate_text.specs.Tails.{AreReadAs}
 use Rattle.certificate_text.specs.declared.block.Block.{Block}
 use Rattle.certificate_check.specs.Blocks.{BlockHolds}
 use Rattle.certificate_check.specs.Answers.{IsAnswer}
@@ -27,10 +29,10 @@ pub record IsCertified (bytes : List ℕ) (document : Document) (blocks : List B
   pub document_is : IsReadAs bytes document
   pub blocks_are : AreReadAs bytes document blocks
 
--- The number of the first line that isn't as said: of the presentation, or of the blocks behind it.
-abbrev pub IsFirstFault : List ℕ → ℕ → Type 0
-IsFirstFault bytes number =
-    IsDocumentFault (token_lines bytes) number ⊎ ((document : Document) × IsReadAs bytes document × IsTailFault bytes document number)
+-- The first line that is refused, and why: of the presentation, or of the blocks behind it.
+abbrev pub IsFirstFault : List ℕ → ℕ → DocKind → Type 0
+IsFirstFault bytes number kind =
+    (read_text bytes ≡ Err (number, kind)) ⊎ ((document : Document) × IsReadAs bytes document × (read_tail bytes document document.tail ≡ Err (number, kind)))
 
 -- the block holds over the relations of the document
 abbrev pub Holds : Document → Block → Type 0
@@ -72,7 +74,7 @@ pub record IsRefused (bytes : List ℕ) (text : List ℕ) : Type 0 where
 
 -- the status and the text that go with checked bytes; other statuses go with none
 abbrev pub Tells : List ℕ → Status → List ℕ → Type 0
-Tells bytes status.Document text = (number : ℕ) × IsFirstFault bytes number × (text ≡ fault_text number)
+Tells bytes status.Document text = (number : ℕ) × (kind : DocKind) × IsFirstFault bytes number kind × (text ≡ fault_text number kind)
 Tells bytes status.Done text = IsAccepted bytes text
 Tells bytes status.Refused text = IsRefused bytes text
 Tells bytes _ text = ⊥

@@ -4,8 +4,8 @@ use Rattle.std.specs.List.{All}
 use Rattle.outside_io.specs.Causes.{Rose}
 use Rattle.presentation_text.specs.declared.document.Document as document_of
 use Rattle.certificate_text.specs.declared.block.Block.{Block}
-use Rattle.operad_run.specs.Certified.{IsCertified, IsFirstFault, Holds, IsAccepted, IsRefused}
-use Rattle.operad_run.specs.Runs.{Outside, Came, most_bytes, IsMisused, IsUnreadable, IsTooLong, fault_text, Ends}
+use Rattle.operad_run.specs.Certified.{IsCertified, Holds, Tells}
+use Rattle.operad_run.specs.Runs.{Outside, Came, most_bytes, IsMisused, IsUnreadable, IsTooLong, Ends}
 use Rattle.operad_run.specs.declared.status.Status.{Status}
 use Rattle.operad_run.specs.declared.status.Status.TheVariants.{Done, Refused, Usage, Document, Limit, Budget, ReadFault, WriteFault, NoMemory}
 
@@ -18,9 +18,9 @@ abbrev pub Says : List (List ℕ) → Outside → Status → List ℕ → Type 0
 Says words o Usage text = IsMisused IsMemberWord words o text
 Says words o ReadFault text = IsUnreadable IsMemberWord words o text
 Says words o Limit text = IsTooLong IsMemberWord words o text
-Says words o Document text = IsMemberWord words × (bytes : List ℕ) × Came o bytes × (number : ℕ) × IsFirstFault bytes number × (text ≡ fault_text number)
-Says words o Done text = IsMemberWord words × (bytes : List ℕ) × Came o bytes × IsAccepted bytes text
-Says words o Refused text = IsMemberWord words × (bytes : List ℕ) × Came o bytes × IsRefused bytes text
+Says words o Document text = IsMemberWord words × (bytes : List ℕ) × Came o bytes × Tells bytes Document text
+Says words o Done text = IsMemberWord words × (bytes : List ℕ) × Came o bytes × Tells bytes Done text
+Says words o Refused text = IsMemberWord words × (bytes : List ℕ) × Came o bytes × Tells bytes Refused text
 Says words o _ text = ⊥
 
 -- Where the word is `member`, the bytes are a presentation with blocks and no count of faults rose, the run is done where all

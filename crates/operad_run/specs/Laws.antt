@@ -1,18 +1,15 @@
--- What holds of documents and their answers.
+-- What holds of the texts that runs tell.
 use Rattle.std.specs.Prelude.{ℕ, ◌≡◌, List}
-use Rattle.labelled_trees.specs.Trees.{Tree}
-use Rattle.symmetric_trees.specs.declared.generators.Generator.{Generator}
-use Rattle.presentation_text.specs.Opening.{token_lines}
-use Rattle.operad_run.specs.OneGenerator.{IsDocument, IsFirstFault}
-use Rattle.operad_run.specs.Documents.{IsAnswered}
+use Rattle.operad_run.specs.Certified as checked
+use Rattle.operad_run.specs.Forms as forms
+use Rattle.operad_run.specs.declared.status.Status.{Status}
 
--- What a run tells is a function of the bytes and the greatest arity: a document has one text of answers, another text has
--- one first line that isn't as said, and a document has none.
-pub record AnswersLaw (bytes : List ℕ) (n : ℕ) : Type 0 where
-  pub one_text : (text other : List ℕ) → IsAnswered bytes n text → IsAnswered bytes n other → text ≡ other
-  pub one_fault : (number other : ℕ) → IsFirstFault n (token_lines bytes) number → IsFirstFault n (token_lines bytes) other → number ≡ other
-  pub never_both : (number : ℕ) (generator : Generator) (queries : List (List (ℕ × Tree ℕ)))
-      → IsFirstFault n (token_lines bytes) number → IsDocument bytes n generator queries → ⊥
-
+-- What `forms` tells is a function of the bytes and the greatest arity: one status and one text.
 abbrev pub AnswersAreDetermined : Type 0
-AnswersAreDetermined = (bytes : List ℕ) (n : ℕ) → AnswersLaw bytes n
+AnswersAreDetermined = (bytes : List ℕ) (n : ℕ) (status other : Status) (text others : List ℕ)
+    → forms.Tells bytes n status text → forms.Tells bytes n other others → (status ≡ other) × (text ≡ others)
+
+-- What the checker tells is a function of the bytes: one status and one text.
+abbrev pub ChecksAreDetermined : Type 0
+ChecksAreDetermined = (bytes : List ℕ) (status other : Status) (text others : List ℕ)
+    → checked.Tells bytes status text → checked.Tells bytes other others → (status ≡ other) × (text ≡ others)

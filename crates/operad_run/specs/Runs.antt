@@ -1,9 +1,11 @@
 -- Runs of a program: the source and the sink before and after it, and how it ends.
-use Rattle.std.specs.Prelude.{ℕ, ◌≡◌, ◌<◌, ◌≤◌, ◌+◌, ◌⊎◌, List, [], ◌++◌, length, take, codes, Option}
+use Rattle.std.specs.Prelude.{ℕ, ◌≡◌, ◌<◌, ◌≤◌, ◌+◌, ◌⊎◌, List, [], ◌∷◌, ◌++◌, length, take, codes, Option}
 use Rattle.std.specs.Fmt.{decimal}
 use Rattle.std.specs.Io.KnownBytes.{Consumes, IsAtEnd}
 use Rattle.outside_io.specs.Causes.{Rose}
 use Rattle.outside_io.specs.Taken.{Takes}
+use Rattle.presentation_text.specs.declared.kinds.DocKind.{DocKind}
+use Rattle.presentation_text.specs.declared.kinds.DocKind.TheVariants.{Header, Directive, Missing, FieldUnknown, OrderUnknown, NameBad, NameTaken, ArityOut, PartsOut, TooManyGens, Syntax, NameUnknown, InputCount, Labels, MixedArity, TooDeep, TooWide, NumberLong, TooManyRelations, Block, WeightTaken, WeightOut, NotBuilt}
 use Rattle.operad_run.specs.Answers.{line}
 use Rattle.operad_run.specs.declared.status.Status.{Status}
 use Rattle.operad_run.specs.declared.status.Status.TheVariants.{Done, Refused, Usage, Document, Limit, Budget, ReadFault, WriteFault, NoMemory}
@@ -56,9 +58,35 @@ IsUnreadable IsCommand words o text = IsCommand words × Rose o.read_faults o.re
 abbrev pub IsTooLong : (List (List ℕ) → Type 0) → List (List ℕ) → Outside → List ℕ → Type 0
 IsTooLong IsCommand words o text = IsCommand words × CameTooMany o × (text ≡ line (codes "fault limit bytes"))
 
--- the text that names a line that isn't as said
-abbrev pub fault_text : ℕ → List ℕ
-fault_text number = line (codes "fault document " ++ (decimal number ++ codes " NotBuilt"))
+-- the name of a kind
+abbrev pub kind_name : DocKind → List ℕ
+kind_name Header = codes "Header"
+kind_name Directive = codes "Directive"
+kind_name Missing = codes "Missing"
+kind_name FieldUnknown = codes "FieldUnknown"
+kind_name OrderUnknown = codes "OrderUnknown"
+kind_name NameBad = codes "NameBad"
+kind_name NameTaken = codes "NameTaken"
+kind_name ArityOut = codes "ArityOut"
+kind_name PartsOut = codes "PartsOut"
+kind_name TooManyGens = codes "TooManyGens"
+kind_name Syntax = codes "Syntax"
+kind_name NameUnknown = codes "NameUnknown"
+kind_name InputCount = codes "InputCount"
+kind_name Labels = codes "Labels"
+kind_name MixedArity = codes "MixedArity"
+kind_name TooDeep = codes "TooDeep"
+kind_name TooWide = codes "TooWide"
+kind_name NumberLong = codes "NumberLong"
+kind_name TooManyRelations = codes "TooManyRelations"
+kind_name Block = codes "Block"
+kind_name WeightTaken = codes "WeightTaken"
+kind_name WeightOut = codes "WeightOut"
+kind_name NotBuilt = codes "NotBuilt"
+
+-- the text that names a line that is refused, and why
+abbrev pub fault_text : ℕ → DocKind → List ℕ
+fault_text number kind = line (codes "fault document " ++ (decimal number ++ 32 ∷ kind_name kind))
 
 -- ---- how a run ends
 

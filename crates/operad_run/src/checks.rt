@@ -2,8 +2,9 @@ ghost use Rattle.std.specs.Prelude.{◌≡◌, ◌≤◌, ◌+◌, ◌++◌, ◌
 ghost use Rattle.std.specs.Fmt.{decimal};
 ghost use Rattle.std.specs.List.{All};
 ghost use Rattle.symmetric_sums.specs.Terms.{FitsOver};
-ghost use Rattle.certificate_text.specs.BlockText.{IsReadyBlock};
+ghost use Rattle.certificate_text.specs.Tails.{IsReadyBlock};
 ghost use Rattle.operad_run.specs.Answers.{line};
+ghost use Rattle.operad_run.specs.Laws.{ChecksAreDetermined};
 ghost use Rattle.operad_run.specs.Certified.{Holds, IsRefusedBy, Tells, cause_name as name_of};
 
 use crate::run::fault_text;
@@ -84,19 +85,25 @@ fn refused_text(alloc: Global, refusal: Refusal) -> Result<Vec<u8>, AllocError>
 
 /// The status and the text of a text of at most 16,777,216 bytes: `Done` and how many blocks there are where it is a
 /// presentation with blocks that hold, `Refused` and the first block that doesn't hold, or `Document` and the first line that
-/// isn't as said. `AllocError` comes for want of memory alone.
+/// is refused, with its kind. `AllocError` comes for want of memory alone.
 pub fn check_text(alloc: Global, bytes: &[u8]) -> Result<(Status, Vec<u8>), AllocError>
     requires short { length bytes.now ≤ 16777216 }
     ensures told { IfOk result (λ told. Tells bytes.now told.0 told.1.items) }
 {
     let document = match read_document(alloc, bytes) {
         Ok(document) => document,
-        Err(ReadDocFail::At(fail)) => return Ok((Status::Document, fault_text(alloc, fail.line)?)),
+        Err(ReadDocFail::At(fail)) => return Ok((
+            Status::Document,
+            fault_text(alloc, fail.line, fail.kind)?,
+        )),
         Err(ReadDocFail::NoMemory) => return Err(AllocError),
     };
     let blocks = match read_blocks(alloc, bytes, &document) {
         Ok(blocks) => blocks,
-        Err(ReadCertFail::At(fail)) => return Ok((Status::Document, fault_text(alloc, fail.line)?)),
+        Err(ReadCertFail::At(fail)) => return Ok((
+            Status::Document,
+            fault_text(alloc, fail.line, fail.kind)?,
+        )),
         Err(ReadCertFail::NoMemory) => return Err(AllocError),
     };
     match first_refusal(alloc, &document, blocks.as_slice())? {
@@ -104,3 +111,8 @@ pub fn check_text(alloc: Global, bytes: &[u8]) -> Result<(Status, Vec<u8>), Allo
         None => Ok((Status::Done, accepted_text(alloc, blocks.len() as u64)?)),
     }
 }
+
+/// Law: what the checker tells of a text is a function of the text.
+pub fn checks_are_determined()
+    ensures law { ChecksAreDetermined }
+{}

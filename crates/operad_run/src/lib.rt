@@ -5,15 +5,15 @@
 mod check_tests;
 mod checks;
 mod commands;
-mod documents;
+mod forms;
 mod member;
-mod queries;
 mod run;
 mod status;
 #[cfg(test)]
 mod tests;
 
-pub use documents::answers_are_determined;
+pub use checks::checks_are_determined;
+pub use forms::answers_are_determined;
 pub use member::check_run;
 pub use run::operad_run;
 pub use status::Status;

@@ -1,13 +1,13 @@
 //! A run: the words and the bytes of a source in, the text into a sink.
 ghost use Rattle.std.specs.Prelude.{◌≡◌, IfOk, map, string_bytes};
-ghost use Rattle.operad_run.specs.Runs.{Told, fault_text as text_of_fault};
+ghost use Rattle.operad_run.specs.Runs.{Told, fault_text as text_of_fault, kind_name as name_of};
 ghost use Rattle.operad_run.specs.FormsRuns.{IsRun};
 
 use crate::commands::forms_arity;
-use crate::documents::forms;
+use crate::forms::forms_text;
 use crate::status::Status;
 use outside_io::{ReadFail, Sink, Source, read_all, write_all};
-use presentation_text::{LineFail, write_number};
+use presentation_text::{DocKind, write_number};
 use std::alloc::{AllocError, Global};
 
 // The most bytes that a document has.
@@ -23,25 +23,59 @@ pub(crate) fn tell<K: Sink>(sink: &mut K, text: &[u8], status: Status) -> Status
     }
 }
 
-// The text that names the first line that isn't as said.
-pub(crate) fn fault_text(alloc: Global, line: u32) -> Result<Vec<u8>, AllocError>
-    ensures { IfOk result (λ text. text.items ≡ text_of_fault line) }
+// The name of a kind.
+fn kind_name(kind: DocKind) -> &'static str
+    ensures { result.now ≡ name_of kind }
+{
+    match kind {
+        DocKind::Header => "Header",
+        DocKind::Directive => "Directive",
+        DocKind::Missing => "Missing",
+        DocKind::FieldUnknown => "FieldUnknown",
+        DocKind::OrderUnknown => "OrderUnknown",
+        DocKind::NameBad => "NameBad",
+        DocKind::NameTaken => "NameTaken",
+        DocKind::ArityOut => "ArityOut",
+        DocKind::PartsOut => "PartsOut",
+        DocKind::TooManyGens => "TooManyGens",
+        DocKind::Syntax => "Syntax",
+        DocKind::NameUnknown => "NameUnknown",
+        DocKind::InputCount => "InputCount",
+        DocKind::Labels => "Labels",
+        DocKind::MixedArity => "MixedArity",
+        DocKind::TooDeep => "TooDeep",
+        DocKind::TooWide => "TooWide",
+        DocKind::NumberLong => "NumberLong",
+        DocKind::TooManyRelations => "TooManyRelations",
+        DocKind::Block => "Block",
+        DocKind::WeightTaken => "WeightTaken",
+        DocKind::WeightOut => "WeightOut",
+        DocKind::NotBuilt => "NotBuilt",
+    }
+}
+
+// The text that names a line that is refused, and why.
+pub(crate) fn fault_text(alloc: Global, line: u32, kind: DocKind) -> Result<Vec<u8>, AllocError>
+    ensures { IfOk result (λ text. text.items ≡ text_of_fault line kind) }
 {
     let mut text = Vec::new(alloc);
     text.extend_from_slice(b"fault document ")?;
     write_number(u64::from(line), &mut text)?;
-    text.extend_from_slice(b" NotBuilt\n")?;
+    text.push(b' ')?;
+    text.extend_from_slice(kind_name(kind).as_bytes())?;
+    text.push(b'\n')?;
     Ok(text)
 }
 
 /// All that the program does. The words are `forms N B`, where N is one digit from 1 to 9 and B has 1 to 19 digits; the
-/// source gives a document of at most 16,777,216 bytes with one generator of two inputs and queries of elements of an arity
-/// of at most N. The sink takes a line for each query: the collected form of its element. Two lines for elements of one
-/// arity are equal exactly where the difference of the elements is a sum of instances of symmetry rules.
+/// source gives a document of at most 16,777,216 bytes, so far without relations that have terms. The sink takes a line for
+/// each `query` line: the collected form of its element. Two lines for elements of one arity are equal exactly where the
+/// difference of the elements is a sum of instances of symmetry rules.
 ///
-/// Each other end has its cause, its status and its text: words that are no command, a source or a sink that failed, a
-/// text that is longer, or a line that isn't as said, the first of which is named. `NoMemory` comes for want of memory
-/// alone, and writes nothing.
+/// Each other end has its cause, its status and its text: words that are no command; a source or a sink that failed; a text
+/// that is longer; a line that is refused, the first of which is named with its kind, and where none is, the first line of a
+/// certificate behind the document, or line 0 for a relation that has terms; a question with an arity above N, the first of
+/// which is named. `NoMemory` comes for want of memory alone, and writes nothing.
 pub fn operad_run<S: Source, K: Sink>(
     alloc: Global,
     words: &[String],
@@ -68,12 +102,8 @@ pub fn operad_run<S: Source, K: Sink>(
         Err(ReadFail::TooLong) => return tell(sink, b"fault limit bytes\n", Status::Limit),
         Err(ReadFail::NoMemory) => return Status::NoMemory,
     };
-    match forms(alloc, bytes.as_slice(), most) {
-        Ok(text) => tell(sink, text.as_slice(), Status::Done),
-        Err(LineFail::At { line }) => match fault_text(alloc, line) {
-            Ok(text) => tell(sink, text.as_slice(), Status::Document),
-            Err(_) => Status::NoMemory,
-        },
-        Err(LineFail::NoMemory) => Status::NoMemory,
+    match forms_text(alloc, bytes.as_slice(), most) {
+        Ok((status, text)) => tell(sink, text.as_slice(), status),
+        Err(_) => Status::NoMemory,
     }
 }

@@ -1,7 +1,7 @@
 use Rattle.std.proofs.Common.{◌+◌, ap, sym, subst, take}
 use Rattle.std.specs.Prelude.{Err}
 use Rattle.std.proofs.lemmas.Result.{IfOk-weaker}
-use Rattle.certificate_text.specs.BlockText.{IsReadyStep}
+use Rattle.certificate_text.specs.Tails.{IsReadyStep}
 use Rattle.certificate_check.specs.Blocks.{elements_of, StepHolds}
 use Rattle.certificate_check.specs.Answers.{IsAnswer}
 use Rattle.certificate_check.specs.Checking.{IsChecked, IsRefusal}

@@ -2,7 +2,7 @@ use Rattle.std.proofs.Common.{subst, refl}
 use Rattle.std.specs.List.{All}
 use Rattle.std.proofs.lemmas.List.{take_all}
 use Rattle.std.proofs.lemmas.List.Elements.{All-more}
-use Rattle.certificate_text.specs.BlockText.{IsReadyStep}
+use Rattle.certificate_text.specs.Tails.{IsReadyStep}
 use Rattle.certificate_check.proofs.tests.are_ready.Goals as goal
 
 pub loop-step-preserved : goal.loop-step-preserved

@@ -1,6 +1,6 @@
 use Rattle.std.proofs.Common.{take}
 use Rattle.std.specs.List.{All}
-use Rattle.certificate_text.specs.BlockText.{IsReadyStep}
+use Rattle.certificate_text.specs.Tails.{IsReadyStep}
 use Rattle.certificate_check.proofs.tests.are_ready.Given as goal
 
 abbrev pub invariant-loop-step : goal.invariant-loop-step

@@ -1,0 +1,97 @@
+-- What `forms` tells of a text: its answers, or why there are none.
+use Rattle.std.specs.Prelude.{ℕ, ◌≡◌, ◌≤◌, List, [], ◌∷◌, ◌++◌, codes, Option, Some, None, Err, filter_map}
+use Rattle.std.specs.List.{All, flat_map}
+use Rattle.std.specs.Fmt.{decimal}
+use Rattle.labelled_trees.specs.Trees.{Tree}
+use Rattle.symmetric_sums.specs.Terms.{HaveArity, terms_of}
+use Rattle.symmetric_sums.specs.declared.term.Term.{Term}
+use Rattle.presentation_text.specs.DocumentForms.{read_text}
+use Rattle.presentation_text.specs.Presentations.{IsReadAs}
+use Rattle.presentation_text.specs.declared.document.Ask.{Ask}
+use Rattle.presentation_text.specs.declared.document.AskKind.{AskKind}
+use Rattle.presentation_text.specs.declared.document.AskKind.TheVariants.{Query, Same}
+use Rattle.presentation_text.specs.declared.document.Document as document_of
+use Rattle.presentation_text.specs.declared.document.Tail.{Tail}
+use Rattle.presentation_text.specs.declared.kinds.DocKind.{DocKind}
+use Rattle.presentation_text.specs.declared.kinds.DocKind.TheVariants.{Block, NotBuilt}
+use Rattle.operad_run.specs.Answers.{AreAnswers, AnswersDecide, line}
+use Rattle.operad_run.specs.Runs.{fault_text}
+use Rattle.operad_run.specs.declared.status.Status.{Status}
+use Rattle.operad_run.specs.declared.status.Status.TheVariants.{Done, Document, Limit}
+
+-- ---- questions
+
+abbrev pub queried_kind : AskKind → Option (List (ℕ × Tree ℕ))
+queried_kind (Query sum) = Some (terms_of sum)
+queried_kind (Same left right) = None
+
+-- the element of a query; none of a comparison
+abbrev pub queried : Ask → Option (List (ℕ × Tree ℕ))
+queried ask = queried_kind ask.kind
+
+-- the elements of the queries, in their order
+abbrev pub queries : List Ask → List (List (ℕ × Tree ℕ))
+queries = filter_map queried
+
+-- each of the sum's trees has at most n leaves
+abbrev pub IsWithin : ℕ → List Term → Type 0
+IsWithin n sum = (m : ℕ) × (m ≤ n) × HaveArity m sum
+
+-- the elements of a question, as far as they have terms, have an arity of at most n
+abbrev pub IsAskWithin : ℕ → AskKind → Type 0
+IsAskWithin n (Query sum) = IsWithin n sum
+IsAskWithin n (Same left right) = IsWithin n left × IsWithin n right
+
+-- The first question whose elements have a greater arity stands in the line of this number.
+pub record IsFirstWide (n : ℕ) (asks : List Ask) (number : ℕ) : Type 0 where
+  pub front : List Ask
+  pub ask : Ask
+  pub others : List Ask
+  pub asks_are : asks ≡ front ++ ask ∷ others
+  pub within : All (λ ask. IsAskWithin n ask.kind) front
+  pub wide : IsAskWithin n ask.kind → ⊥
+  pub number_is : number ≡ ask.line
+
+-- ---- documents
+
+-- the relations have no terms
+abbrev pub HasNoRelations : document_of.Document → Type 0
+HasNoRelations document = All (λ sum. sum ≡ []) document.rels
+
+-- The text is a document without a tail and without relations that have terms.
+pub record IsFree (bytes : List ℕ) (document : document_of.Document) : Type 0 where
+  pub read : IsReadAs bytes document
+  pub no_tail : document.tail ≡ None
+  pub no_relations : HasNoRelations document
+
+-- The text that says why a text is refused: for a line of its presentation; for the first line of its tail, which has no place here; or,
+-- so far, for a relation that has terms, as line 0.
+pub data IsRefused (bytes : List ℕ) : List ℕ → Type 0 where
+  by_line : (number : ℕ) (kind : DocKind) → read_text bytes ≡ Err (number, kind) → IsRefused bytes (fault_text number kind)
+  by_tail : (document : document_of.Document) (tail : Tail) → IsReadAs bytes document → document.tail ≡ Some tail → IsRefused bytes (fault_text tail.line Block)
+  by_relation : (document : document_of.Document) → IsReadAs bytes document → document.tail ≡ None → (HasNoRelations document → ⊥) → IsRefused bytes (fault_text 0 NotBuilt)
+
+-- A question of the text has an arity above n, and the line names the first one.
+pub record IsTooWide (bytes : List ℕ) (n : ℕ) (text : List ℕ) : Type 0 where
+  pub document : document_of.Document
+  pub free : IsFree bytes document
+  pub number : ℕ
+  pub wide : IsFirstWide n document.asks number
+  pub text_is : text ≡ line (codes "fault limit query " ++ decimal number)
+
+-- The text is the lines of the answers to the queries, which tell these apart modulo symmetry.
+pub record IsAnswered (bytes : List ℕ) (n : ℕ) (text : List ℕ) : Type 0 where
+  pub document : document_of.Document
+  pub free : IsFree bytes document
+  pub within : All (λ ask. IsAskWithin n ask.kind) document.asks
+  pub answers : List (List ℕ)
+  pub are_answers : AreAnswers document.field document.gens (queries document.asks) answers
+  pub text_is : text ≡ flat_map line answers
+  pub decide : AnswersDecide document.field document.gens
+
+-- the status and the text that go with bytes and a greatest arity; other statuses go with none
+abbrev pub Tells : List ℕ → ℕ → Status → List ℕ → Type 0
+Tells bytes n Document text = IsRefused bytes text
+Tells bytes n Limit text = IsTooWide bytes n text
+Tells bytes n Done text = IsAnswered bytes n text
+Tells bytes n _ text = ⊥

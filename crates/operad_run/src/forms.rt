@@ -1,0 +1,132 @@
+ghost use Rattle.std.specs.Prelude.{◌≡◌, ◌↔◌, ◌≤◌, ◌++◌, [], ◌∷◌, IfOk, IsTrue, MatchOption, codes, length};
+ghost use Rattle.std.specs.Fmt.{decimal};
+ghost use Rattle.std.specs.List.{All};
+ghost use Rattle.presentation_text.specs.DraftForms.{AskFits};
+ghost use Rattle.operad_run.specs.Answers.{line as line_of};
+ghost use Rattle.operad_run.specs.Forms as spec;
+ghost use Rattle.operad_run.specs.Laws.{AnswersAreDetermined};
+
+use crate::run::fault_text;
+use crate::status::Status;
+use presentation_text::{
+    Ask, AskKind, DocKind, Document, ReadDocFail, read_document, write_number, write_sum,
+};
+use prime_field::Field;
+use std::alloc::{AllocError, Global};
+use symmetric_sums::{Sum, collected};
+use symmetric_trees::GenTable;
+
+// Whether all trees of a sum have at most so many leaves.
+fn is_within(sum: &Sum, most: u8) -> bool
+    ensures { IsTrue result ↔ spec.IsWithin most sum.now }
+{
+    match sum.arity() {
+        Some(arity) => arity <= most,
+        None => true,
+    }
+}
+
+fn is_ask_within(kind: &AskKind, most: u8) -> bool
+    ensures { IsTrue result ↔ spec.IsAskWithin most kind.now }
+{
+    match kind {
+        AskKind::Query(sum) => is_within(sum, most),
+        AskKind::Same(left, right) => is_within(left, most) && is_within(right, most),
+    }
+}
+
+// The line of the first question whose elements have a greater arity.
+fn first_wide(asks: &[Ask], most: u8) -> Option<u32>
+    ensures { MatchOption result (All (λ ask. spec.IsAskWithin most ask.kind) asks.now) (spec.IsFirstWide most asks.now) }
+{
+    for ask in asks {
+        if !is_ask_within(&ask.kind, most) {
+            return Some(ask.line);
+        }
+    }
+    None
+}
+
+// Whether no relation has terms.
+fn has_no_relations(document: &Document) -> bool
+    ensures { IsTrue result ↔ spec.HasNoRelations document.now }
+{
+    document
+        .rels
+        .as_slice()
+        .iter()
+        .all(|relation| relation.terms().is_empty())
+}
+
+// Puts the line of the answer to an element behind `out`: its collected form.
+fn write_answer(
+    alloc: Global,
+    field: Field,
+    table: &GenTable,
+    sum: &Sum,
+    out: &mut Vec<u8>,
+) -> Result<(), AllocError> {
+    let form = collected(alloc, field, table, sum)?;
+    write_sum(field, table, &form, out)?;
+    out.push(b'\n')?;
+    Ok(())
+}
+
+// The lines of the answers to the queries of a document.
+fn answers(alloc: Global, document: &Document) -> Result<Vec<u8>, AllocError>
+    requires asks { All (λ ask. AskFits document.now.field document.now.gens ask.kind) document.now.asks }
+{
+    let mut out = Vec::new(alloc);
+    for ask in document.asks.as_slice() {
+        if let AskKind::Query(sum) = &ask.kind {
+            write_answer(alloc, document.field, &document.gens, sum, &mut out)?;
+        }
+    }
+    Ok(out)
+}
+
+// The text that names the line of the first question with a greater arity.
+fn wide_text(alloc: Global, line: u32) -> Result<Vec<u8>, AllocError>
+    ensures { IfOk result (λ text. text.items ≡ line_of (codes "fault limit query " ++ decimal line)) }
+{
+    let mut text = Vec::new(alloc);
+    text.extend_from_slice(b"fault limit query ")?;
+    write_number(u64::from(line), &mut text)?;
+    text.push(b'\n')?;
+    Ok(text)
+}
+
+/// The status and the text of a text of at most 16,777,216 bytes and a greatest arity from 1 to 9: `Done` and the answers to
+/// the queries; `Document` and the first line that is refused, or that of a tail, or 0 for a relation that has terms; or
+/// `Limit` and the first question of a greater arity. `AllocError` comes for want of memory alone.
+pub fn forms_text(alloc: Global, bytes: &[u8], most: u8) -> Result<(Status, Vec<u8>), AllocError>
+    requires few { most ≤ 9 }
+    requires short { length bytes.now ≤ 16777216 }
+    ensures told { IfOk result (λ told. spec.Tells bytes.now most told.0 told.1.items) }
+{
+    let document = match read_document(alloc, bytes) {
+        Ok(document) => document,
+        Err(ReadDocFail::At(fail)) => {
+            return Ok((Status::Document, fault_text(alloc, fail.line, fail.kind)?));
+        }
+        Err(ReadDocFail::NoMemory) => return Err(AllocError),
+    };
+    if let Some(tail) = document.tail {
+        return Ok((
+            Status::Document,
+            fault_text(alloc, tail.line, DocKind::Block)?,
+        ));
+    }
+    if !has_no_relations(&document) {
+        return Ok((Status::Document, fault_text(alloc, 0, DocKind::NotBuilt)?));
+    }
+    match first_wide(document.asks.as_slice(), most) {
+        Some(line) => Ok((Status::Limit, wide_text(alloc, line)?)),
+        None => Ok((Status::Done, answers(alloc, &document)?)),
+    }
+}
+
+/// Law: what a run tells of a text is a function of the text and the greatest arity.
+pub fn answers_are_determined()
+    ensures law { AnswersAreDetermined }
+{}
