@@ -3,5 +3,7 @@ pub mod UseText
 pub mod BlockText
 pub mod BlockForms
 pub mod PlaceForms
+pub mod Writable
 pub mod Tails
+pub mod PrintedBlocks
 pub mod Laws

@@ -67,8 +67,11 @@ cited_rule cites_step cited = if cites_step then Step (min cited greatest_cited)
 -- the use that is written
 abbrev pub said_use : ℕ → WrittenUse → PlainUse
 said_use p written = record {
-  coef = signed_residue p written.negative written.number; context = written.context;
-  rule = cited_rule written.cites_step written.cited; inputs = written.inputs }
+  coef = signed_residue p written.negative written.number;
+  context = written.context;
+  rule = cited_rule written.cites_step written.cited;
+  inputs = written.inputs;
+}
 
 -- The tokens behind the word `use` are those of a use, which says this.
 pub record IsUse (p : ℕ) (generators : List Generator) (tokens : List Token) (item : PlainUse) : Type 0 where

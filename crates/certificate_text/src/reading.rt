@@ -1,7 +1,9 @@
-ghost use Rattle.std.specs.Prelude.{◌≡◌, ◌≤◌, ◌<◌, ◌+◌, ◌^◌, IfOk, MatchResult, length};
+ghost use Rattle.std.specs.Prelude.{◌≡◌, ◌≤◌, ◌<◌, ◌+◌, ◌^◌, IfOk, MatchResult, length, map};
 ghost use Rattle.std.specs.List.{All};
 ghost use Rattle.presentation_text.specs.Presentations.{IsReadAs};
 ghost use Rattle.certificate_text.specs.Laws.{BlocksAreAccepted};
+ghost use Rattle.certificate_text.specs.Plain.{plain_block};
+ghost use Rattle.certificate_text.specs.Writable.{IsWritable};
 ghost use Rattle.certificate_text.specs.Tails.{AreReadAs, IsReadyBlock, IsRefused};
 
 use crate::block::Block;
@@ -88,6 +90,7 @@ pub fn read_blocks(
     requires read { IsReadAs bytes.now document.now }
     ensures blocks { MatchResult result (AreReadAs bytes.now document.now) (IsRefused bytes.now document.now) }
     ensures ready { IfOk result (All (IsReadyBlock document.now.field document.now.gens)) }
+    ensures writable { IfOk result (λ blocks. All (IsWritable document.now.field document.now.gens) (map plain_block blocks)) }
 {
     let Some(tail) = document.tail else {
         return Ok(Items::new(alloc));

@@ -1,0 +1,12 @@
+pub mod Words
+pub mod Runs
+pub mod BlockChecks
+pub mod SameReadings
+pub mod AnswerSteps
+pub mod OneAnswer
+pub mod Decides
+pub mod FormsRuns
+pub mod OneTelling
+pub mod OneVerdict
+pub mod CheckRuns
+pub mod CheckedTexts

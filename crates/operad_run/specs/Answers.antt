@@ -1,5 +1,6 @@
 -- The lines of the answers to queries.
 use Rattle.std.specs.Prelude.{ℕ, ◌≡◌, ◌≤◌, ◌↔◌, ◌-◌, List, [], ◌∷◌, ◌++◌}
+use Rattle.std.specs.List.{flat_map}
 use Rattle.modular_sums.specs.Sums.{scale, AllTerms}
 use Rattle.labelled_trees.specs.Trees.{Tree}
 use Rattle.operad_ideals.specs.Presentations.{Presentation}
@@ -25,6 +26,18 @@ pub data AreAnswers (p : ℕ) (generators : List Generator) : List (List (ℕ ×
 -- a line ends with a line feed
 abbrev pub line : List ℕ → List ℕ
 line text = text ++ 10 ∷ []
+
+-- the line of the answer to an element joins a text
+pub record AddsAnswer (p : ℕ) (generators : List Generator) (element : List (ℕ × Tree ℕ)) (old new : List ℕ) : Type 0 where
+  pub answer : List ℕ
+  pub is_answer : IsAnswer p generators element answer
+  pub text_is : new ≡ old ++ line answer
+
+-- the text is the lines of the answers to these elements
+pub record AreAnswered (p : ℕ) (generators : List Generator) (elements : List (List (ℕ × Tree ℕ))) (text : List ℕ) : Type 0 where
+  pub answers : List (List ℕ)
+  pub are_answers : AreAnswers p generators elements answers
+  pub text_is : text ≡ flat_map line answers
 
 -- the presentation of the generators modulo p, without relations
 abbrev pub free : ℕ → List Generator → Presentation

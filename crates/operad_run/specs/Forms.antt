@@ -1,8 +1,9 @@
 -- What `forms` tells of a text: its answers, or why there are none.
 use Rattle.std.specs.Prelude.{ℕ, ◌≡◌, ◌≤◌, List, [], ◌∷◌, ◌++◌, codes, Option, Some, None, Err, filter_map}
-use Rattle.std.specs.List.{All, flat_map}
+use Rattle.std.specs.List.{All}
 use Rattle.std.specs.Fmt.{decimal}
 use Rattle.labelled_trees.specs.Trees.{Tree}
+use Rattle.symmetric_trees.specs.declared.generators.Generator.{Generator}
 use Rattle.symmetric_sums.specs.Terms.{HaveArity, terms_of}
 use Rattle.symmetric_sums.specs.declared.term.Term.{Term}
 use Rattle.presentation_text.specs.DocumentForms.{read_text}
@@ -14,7 +15,7 @@ use Rattle.presentation_text.specs.declared.document.Document as document_of
 use Rattle.presentation_text.specs.declared.document.Tail.{Tail}
 use Rattle.presentation_text.specs.declared.kinds.DocKind.{DocKind}
 use Rattle.presentation_text.specs.declared.kinds.DocKind.TheVariants.{Block, NotBuilt}
-use Rattle.operad_run.specs.Answers.{AreAnswers, AnswersDecide, line}
+use Rattle.operad_run.specs.Answers.{AddsAnswer, AreAnswered, AnswersDecide, line}
 use Rattle.operad_run.specs.Runs.{fault_text}
 use Rattle.operad_run.specs.declared.status.Status.{Status}
 use Rattle.operad_run.specs.declared.status.Status.TheVariants.{Done, Document, Limit}
@@ -32,6 +33,11 @@ queried ask = queried_kind ask.kind
 -- the elements of the queries, in their order
 abbrev pub queries : List Ask → List (List (ℕ × Tree ℕ))
 queries = filter_map queried
+
+-- the line of the answer joins a text where the question is a query
+abbrev pub AnswersAsk : ℕ → List Generator → AskKind → List ℕ → List ℕ → Type 0
+AnswersAsk p generators (Query sum) old new = AddsAnswer p generators (terms_of sum) old new
+AnswersAsk p generators (Same left right) old new = new ≡ old
 
 -- each of the sum's trees has at most n leaves
 abbrev pub IsWithin : ℕ → List Term → Type 0
@@ -84,9 +90,7 @@ pub record IsAnswered (bytes : List ℕ) (n : ℕ) (text : List ℕ) : Type 0 wh
   pub document : document_of.Document
   pub free : IsFree bytes document
   pub within : All (λ ask. IsAskWithin n ask.kind) document.asks
-  pub answers : List (List ℕ)
-  pub are_answers : AreAnswers document.field document.gens (queries document.asks) answers
-  pub text_is : text ≡ flat_map line answers
+  pub answered : AreAnswered document.field document.gens (queries document.asks) text
   pub decide : AnswersDecide document.field document.gens
 
 -- the status and the text that go with bytes and a greatest arity; other statuses go with none

@@ -1,6 +1,5 @@
 -- What holds of the texts that runs tell.
 use Rattle.std.specs.Prelude.{ℕ, ◌≡◌, List}
-use Rattle.operad_run.specs.Certified as checked
 use Rattle.operad_run.specs.Forms as forms
 use Rattle.operad_run.specs.declared.status.Status.{Status}
 
@@ -8,8 +7,3 @@ use Rattle.operad_run.specs.declared.status.Status.{Status}
 abbrev pub AnswersAreDetermined : Type 0
 AnswersAreDetermined = (bytes : List ℕ) (n : ℕ) (status other : Status) (text others : List ℕ)
     → forms.Tells bytes n status text → forms.Tells bytes n other others → (status ≡ other) × (text ≡ others)
-
--- What the checker tells is a function of the bytes: one status and one text.
-abbrev pub ChecksAreDetermined : Type 0
-ChecksAreDetermined = (bytes : List ℕ) (status other : Status) (text others : List ℕ)
-    → checked.Tells bytes status text → checked.Tells bytes other others → (status ≡ other) × (text ≡ others)

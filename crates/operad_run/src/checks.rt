@@ -4,7 +4,6 @@ ghost use Rattle.std.specs.List.{All};
 ghost use Rattle.symmetric_sums.specs.Terms.{FitsOver};
 ghost use Rattle.certificate_text.specs.Tails.{IsReadyBlock};
 ghost use Rattle.operad_run.specs.Answers.{line};
-ghost use Rattle.operad_run.specs.Laws.{ChecksAreDetermined};
 ghost use Rattle.operad_run.specs.Certified.{Holds, IsRefusedBy, Tells, cause_name as name_of};
 
 use crate::run::fault_text;
@@ -111,8 +110,3 @@ pub fn check_text(alloc: Global, bytes: &[u8]) -> Result<(Status, Vec<u8>), Allo
         None => Ok((Status::Done, accepted_text(alloc, blocks.len() as u64)?)),
     }
 }
-
-/// Law: what the checker tells of a text is a function of the text.
-pub fn checks_are_determined()
-    ensures law { ChecksAreDetermined }
-{}

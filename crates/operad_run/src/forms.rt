@@ -1,8 +1,9 @@
-ghost use Rattle.std.specs.Prelude.{◌≡◌, ◌↔◌, ◌≤◌, ◌++◌, [], ◌∷◌, IfOk, IsTrue, MatchOption, codes, length};
+ghost use Rattle.std.specs.Prelude.{◌≡◌, ◌↔◌, ◌≤◌, ◌++◌, [], ◌∷◌, IfOk, IsTrue, MatchOption, OnOk, codes, length};
 ghost use Rattle.std.specs.Fmt.{decimal};
 ghost use Rattle.std.specs.List.{All};
+ghost use Rattle.symmetric_sums.specs.Terms.{FitsOver, terms_of};
 ghost use Rattle.presentation_text.specs.DraftForms.{AskFits};
-ghost use Rattle.operad_run.specs.Answers.{line as line_of};
+ghost use Rattle.operad_run.specs.Answers.{AddsAnswer, AreAnswered, line as line_of};
 ghost use Rattle.operad_run.specs.Forms as spec;
 ghost use Rattle.operad_run.specs.Laws.{AnswersAreDetermined};
 
@@ -65,22 +66,43 @@ fn write_answer(
     table: &GenTable,
     sum: &Sum,
     out: &mut Vec<u8>,
-) -> Result<(), AllocError> {
+) -> Result<(), AllocError>
+    requires fits { FitsOver field table.now sum.now }
+    ensures { OnOk result (AddsAnswer field table.now (terms_of sum.now) out.old.items out.new.items) }
+{
+    // `arity` tells that all trees are numbered by 1 to the same number.
+    let _arity = sum.arity();
     let form = collected(alloc, field, table, sum)?;
     write_sum(field, table, &form, out)?;
     out.push(b'\n')?;
     Ok(())
 }
 
+// Puts the line of the answer behind `out` where the question is a query.
+fn write_ask_answer(
+    alloc: Global,
+    field: Field,
+    table: &GenTable,
+    kind: &AskKind,
+    out: &mut Vec<u8>,
+) -> Result<(), AllocError>
+    requires fits { AskFits field table.now kind.now }
+    ensures { OnOk result (spec.AnswersAsk field table.now kind.now out.old.items out.new.items) }
+{
+    match kind {
+        AskKind::Query(sum) => write_answer(alloc, field, table, sum, out),
+        AskKind::Same(_, _) => Ok(()),
+    }
+}
+
 // The lines of the answers to the queries of a document.
 fn answers(alloc: Global, document: &Document) -> Result<Vec<u8>, AllocError>
     requires asks { All (λ ask. AskFits document.now.field document.now.gens ask.kind) document.now.asks }
+    ensures { IfOk result (λ out. AreAnswered document.now.field document.now.gens (spec.queries document.now.asks) out.items) }
 {
     let mut out = Vec::new(alloc);
     for ask in document.asks.as_slice() {
-        if let AskKind::Query(sum) = &ask.kind {
-            write_answer(alloc, document.field, &document.gens, sum, &mut out)?;
-        }
+        write_ask_answer(alloc, document.field, &document.gens, &ask.kind, &mut out)?;
     }
     Ok(out)
 }

@@ -12,7 +12,6 @@ mod status;
 #[cfg(test)]
 mod tests;
 
-pub use checks::checks_are_determined;
 pub use forms::answers_are_determined;
 pub use member::check_run;
 pub use run::operad_run;

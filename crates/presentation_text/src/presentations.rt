@@ -1,11 +1,11 @@
 ghost use Rattle.std.specs.Prelude.{◌≡◌, ◌≤◌, ◌<◌, ◌+◌, ◌^◌, ◌∷◌, IfOk, MatchResult, MatchOption, Some, None, length};
 ghost use Rattle.std.specs.List.{All};
-ghost use Rattle.symmetric_trees.specs.Generators.{IsTable};
 ghost use Rattle.symmetric_sums.specs.Terms.{FitsOver};
 ghost use Rattle.presentation_text.specs.DraftForms.{AskFits, IsSound, told_of};
 ghost use Rattle.presentation_text.specs.DocumentForms as spec;
 ghost use Rattle.presentation_text.specs.Lines.{EndsWith, lines as lines_of};
 ghost use Rattle.presentation_text.specs.Presentations.{IsReadAs, IsRefused};
+ghost use Rattle.presentation_text.specs.ReadBack.{IsWellFormed};
 ghost use Rattle.presentation_text.specs.Tokens.{tokens as tokens_of};
 
 use crate::document::{Document, Tail};
@@ -224,8 +224,7 @@ pub fn read_document(alloc: Global, bytes: &[u8]) -> Result<Document, ReadDocFai
     ensures document { MatchResult result (IsReadAs bytes.now) (IsRefused bytes.now) }
     ensures fit { IfOk result (λ document. All (FitsOver document.field document.gens) document.rels) }
     ensures asks { IfOk result (λ document. All (λ ask. AskFits document.field document.gens ask.kind) document.asks) }
-    ensures table { IfOk result (λ document. IsTable document.gens) }
-    ensures weights { IfOk result (λ document. length document.weights ≡ length document.gens) }
+    ensures formed { IfOk result IsWellFormed }
 {
     let header = skip_header(alloc, bytes)?;
     let read = read_presentation(alloc, header)?;

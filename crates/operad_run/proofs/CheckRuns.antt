@@ -1,0 +1,65 @@
+-- How runs of `operad_check` end.
+use Rattle.std.proofs.Common.{◌≡◌, ℕ, suc, ◌++◌, inl, inr, ⊎_elim, List, [], ◌∷◌, length, refl, sym, subst, arith}
+use Rattle.std.specs.List.{All}
+use Rattle.presentation_text.specs.declared.document.Document as document_of
+use Rattle.presentation_text.specs.declared.kinds.DocKind.{DocKind}
+use Rattle.certificate_text.specs.declared.block.Block.{Block}
+use Rattle.certificate_check.specs.Blocks.{BlockHolds}
+use Rattle.operad_run.specs.Certified.{IsCertified, IsFirstFault, Holds, IsAccepted, IsRefused, Tells}
+use Rattle.operad_run.specs.Runs.{Outside, Came, Told, Ends}
+use Rattle.operad_run.specs.CheckRuns.{IsMemberWord, Says, IsComplete, IsRun}
+use Rattle.operad_run.specs.declared.status.Status.{Status}
+use Rattle.operad_run.specs.declared.status.Status.TheVariants.{Done, Refused, Usage, Document, Limit, Budget, ReadFault, WriteFault, NoMemory}
+use Rattle.operad_run.proofs.OneTelling.{in_the_middle}
+use Rattle.operad_run.proofs.OneVerdict.{never_faulty, all_hold_over}
+use Rattle.operad_run.proofs.Runs.{told_ends, same_bytes, not_too_many}
+
+-- a text whose blocks hold is accepted, and one whose blocks don't is refused
+complete_from_ends : (status : Status) (words : List (List ℕ)) (o : Outside) → Ends (IsMemberWord words) (Says words o) status o → IsComplete status words o
+complete_from_ends Done words o ends bytes document blocks w e few c r s =
+    let says = ends.1 in
+    let accepted : IsAccepted says.1 ends.0 = says.3 in
+    let same = same_bytes o bytes says.1 e says.2 in
+    let other = subst (λ b. IsCertified b accepted.document accepted.blocks) same accepted.certified in
+    let held = all_hold_over bytes accepted.document document accepted.blocks blocks other c accepted.hold in
+    (λ all. inl refl, λ none. absurd (none held))
+complete_from_ends NoMemory words o ends bytes document blocks w e few c r s = (λ all. inr refl, λ none. inr refl)
+complete_from_ends Refused words o ends bytes document blocks w e few c r s =
+    let says = ends.1 in
+    let refused : IsRefused says.1 ends.0 = says.3 in
+    let same = same_bytes o bytes says.1 e says.2 in
+    let all_blocks = refused.front ++ refused.block ∷ refused.others in
+    let other = subst (λ b. IsCertified b refused.document all_blocks) same refused.certified in (
+      λ all.
+          let held = all_hold_over bytes document refused.document blocks all_blocks c other all in
+          absurd (refused.fails (in_the_middle (Holds refused.document) refused.front refused.others refused.block held)),
+      λ none. inl refl,
+    )
+complete_from_ends Usage words o ends bytes document blocks w e few c r s = absurd (ends.1.0 w)
+complete_from_ends ReadFault words o ends bytes document blocks w e few c r s = absurd (r ends.1.1)
+complete_from_ends WriteFault words o ends bytes document blocks w e few c r s = absurd (s ends.rose)
+complete_from_ends Limit words o ends bytes document blocks w e few c r s = absurd (not_too_many o bytes e few ends.1.1)
+complete_from_ends Document words o ends bytes document blocks w e few c r s =
+    let says = ends.1 in
+    let same = same_bytes o bytes says.1 e says.2 in
+    let fault : Tells says.1 Document ends.0 = says.3 in
+    absurd (never_faulty bytes document blocks fault.0 fault.1 c (subst (λ b. IsFirstFault b fault.0 fault.1) same fault.2))
+complete_from_ends Budget words o ends bytes document blocks w e few c r s = absurd ends.1
+
+pub told_is_run : (meant status : Status) (words : List (List ℕ)) (o : Outside) (text : List ℕ) → Says words o meant text
+    → Told meant text status o.taken o.taken_now o.write_faults o.write_faults_now → IsRun status words o
+told_is_run meant status words o text says told =
+    let ends = told_ends (IsMemberWord words) (Says words o) meant status o text (record { write = λ t s. s; memory = λ t s. s }) says told in
+    record { ends = ends; complete = complete_from_ends status words o ends }
+
+-- what a text tells is said by the run
+pub says_of : (words : List (List ℕ)) (o : Outside) (bytes : List ℕ) (status : Status) (text : List ℕ) → IsMemberWord words → Came o bytes → Tells bytes status text → Says words o status text
+says_of words o bytes Done text w came t = (w, bytes, came, t)
+says_of words o bytes Refused text w came t = (w, bytes, came, t)
+says_of words o bytes Document text w came t = (w, bytes, came, t)
+says_of words o bytes Usage text w came t = absurd t
+says_of words o bytes Limit text w came t = absurd t
+says_of words o bytes Budget text w came t = absurd t
+says_of words o bytes ReadFault text w came t = absurd t
+says_of words o bytes WriteFault text w came t = absurd t
+says_of words o bytes NoMemory text w came t = absurd t

@@ -1,0 +1,140 @@
+-- What a run tells is determined by the bytes.
+use Rattle.std.proofs.Common.{◌≡◌, ℕ, suc, ◌+◌, ◌≤◌, ◌<◌, ◌++◌, ◌∷◌, ◌⊎◌, inl, inr, ⊎_elim, List, [], length, Option, Some, None, Err, ap, ap₂, sym, ◌∙◌, refl, subst, arith, codes}
+use Rattle.std.specs.List.{All}
+use Rattle.std.specs.Fmt.{decimal}
+use Rattle.prime_field.specs.Primes.{IsFieldPrime}
+use Rattle.presentation_text.specs.DocumentForms.{LineFault, read_text}
+use Rattle.presentation_text.specs.Presentations.{IsReadAs}
+use Rattle.presentation_text.specs.ReadBack.{PrintedDocumentsAreReadBack}
+use Rattle.presentation_text.specs.declared.document.Ask.{Ask}
+use Rattle.presentation_text.specs.declared.document.Document as document_of
+use Rattle.presentation_text.specs.declared.document.Tail.{Tail}
+use Rattle.presentation_text.specs.declared.kinds.DocKind.{DocKind}
+use Rattle.presentation_text.specs.declared.kinds.DocKind.TheVariants.{Block, NotBuilt}
+use Rattle.operad_run.specs.Answers.{AreAnswered, line}
+use Rattle.operad_run.specs.Forms.{IsAskWithin, IsFirstWide, HasNoRelations, IsFree, IsRefused, by_line, by_tail, by_relation, IsTooWide, IsAnswered, Tells, queries}
+use Rattle.operad_run.specs.Runs.{fault_text}
+use Rattle.operad_run.specs.Laws.{AnswersAreDetermined}
+use Rattle.operad_run.specs.declared.status.Status.{Status}
+use Rattle.operad_run.specs.declared.status.Status.TheVariants.{Done, Refused, Usage, Document, Limit, Budget, ReadFault, WriteFault, NoMemory}
+use Rattle.operad_run.proofs.Decides.{field_positive}
+use Rattle.operad_run.proofs.OneAnswer.{same_answered}
+use Rattle.operad_run.proofs.SameReadings.{never_refused, refused_once, same_documents, same_tail_lines, no_tail_once}
+
+-- a text that is free is not refused
+pub free_or_refused : (bytes : List ℕ) (document : document_of.Document) (text : List ℕ) → IsFree bytes document → IsRefused bytes text → ⊥
+free_or_refused bytes document _ free (by_line number kind e) = never_refused bytes free.read.whole (number, kind) free.read.reading_is e
+free_or_refused bytes document _ free (by_tail other tail r e) = no_tail_once bytes document other free.read r tail free.no_tail e
+free_or_refused bytes document _ free (by_relation other r e some) =
+    some (subst (All (λ sum. sum ≡ [])) (same_documents bytes document other free.read r).relations free.no_relations)
+
+one_refusal : (bytes text other : List ℕ) → IsRefused bytes text → IsRefused bytes other → text ≡ other
+one_refusal bytes _ _ (by_line n k e) (by_line m l f) = ap (λ (x : LineFault). fault_text x.0 x.1) (refused_once bytes (n, k) (m, l) e f)
+one_refusal bytes _ _ (by_line n k e) (by_tail d t r f) = absurd (never_refused bytes r.whole (n, k) r.reading_is e)
+one_refusal bytes _ _ (by_line n k e) (by_relation d r f some) = absurd (never_refused bytes r.whole (n, k) r.reading_is e)
+one_refusal bytes _ _ (by_tail d t r f) (by_line n k e) = absurd (never_refused bytes r.whole (n, k) r.reading_is e)
+one_refusal bytes _ _ (by_tail d t r f) (by_tail e u s g) = ap (λ n. fault_text n Block) (same_tail_lines bytes d e r s t u f g)
+one_refusal bytes _ _ (by_tail d t r f) (by_relation e s g some) = absurd (no_tail_once bytes e d s r t g f)
+one_refusal bytes _ _ (by_relation d r f some) (by_line n k e) = absurd (never_refused bytes r.whole (n, k) r.reading_is e)
+one_refusal bytes _ _ (by_relation d r f some) (by_tail e u s g) = absurd (no_tail_once bytes d e r s u f g)
+one_refusal bytes _ _ (by_relation d r f some) (by_relation e s g more) = refl
+
+-- ---- the first question with a greater arity
+
+abbrev AskWithin : ℕ → Ask → Type 0
+AskWithin n ask = IsAskWithin n ask.kind
+
+all_tail : {X : Type 0} (P : X → Type 0) (x : X) (xs : List X) → All P (x ∷ xs) → All P xs
+all_tail P x xs h k d l = h (suc k) d (omega (arith, l))
+
+pub in_the_middle : {X : Type 0} (P : X → Type 0) (front others : List X) (x : X) → All P (front ++ x ∷ others) → P x
+in_the_middle P [] others x h = h 0 x (omega arith)
+in_the_middle P (y ∷ front) others x h = in_the_middle P front others x (all_tail P y (front ++ x ∷ others) h)
+
+-- one list is cut at one place only before the first thing that isn't so
+pub one_first : {X : Type 0} (P : X → Type 0) (front others before behind : List X) (x y : X) → front ++ x ∷ others ≡ before ++ y ∷ behind
+    → All P front → All P before → (P x → ⊥) → (P y → ⊥) → x ≡ y
+one_first P [] others [] behind x y e h g p q = cc
+one_first P [] others (z ∷ before) behind x y e h g p q = let same : x ≡ z = cc in absurd (p (subst P (sym same) (g 0 z (omega arith))))
+one_first P (z ∷ front) others [] behind x y e h g p q = let same : z ≡ y = cc in absurd (q (subst P same (h 0 z (omega arith))))
+one_first P (z ∷ front) others (w ∷ before) behind x y e h g p q =
+    let further : front ++ x ∷ others ≡ before ++ y ∷ behind = cc in
+    one_first P front others before behind x y further (all_tail P z front h) (all_tail P w before g) p q
+
+one_wide : (n : ℕ) (asks : List Ask) (number other : ℕ) → IsFirstWide n asks number → IsFirstWide n asks other → number ≡ other
+one_wide n asks number other h g =
+    h.number_is ∙ ap (λ ask. ask.line) (one_first (AskWithin n) h.front h.others g.front g.others h.ask g.ask (sym h.asks_are ∙ g.asks_are) h.within g.within h.wide g.wide) ∙ sym g.number_is
+
+never_wide : (n : ℕ) (asks : List Ask) (number : ℕ) → IsFirstWide n asks number → All (AskWithin n) asks → ⊥
+never_wide n asks number h all = h.wide (in_the_middle (AskWithin n) h.front h.others h.ask (subst (All (AskWithin n)) h.asks_are all))
+
+-- nor has it a question of a greater arity where none is
+pub free_or_wide : (bytes : List ℕ) (n : ℕ) (document : document_of.Document) (text : List ℕ) → IsFree bytes document → All (AskWithin n) document.asks → IsTooWide bytes n text → ⊥
+free_or_wide bytes n document text free within h =
+    never_wide n document.asks h.number (subst (λ asks. IsFirstWide n asks h.number) (sym (same_documents bytes document h.document free.read h.free.read).asks) h.wide) within
+
+module _ (printed : PrintedDocumentsAreReadBack) (bytes : List ℕ) (n : ℕ) where
+  same_asks : (document other : document_of.Document) → IsFree bytes document → IsFree bytes other → document.asks ≡ other.asks
+  same_asks document other h g = (same_documents bytes document other h.read g.read).asks
+
+  wide_or_answered : (text other : List ℕ) → IsTooWide bytes n text → IsAnswered bytes n other → ⊥
+  wide_or_answered text other h g =
+      never_wide n g.document.asks h.number (subst (λ asks. IsFirstWide n asks h.number) (same_asks h.document g.document h.free g.free) h.wide) g.within
+
+  one_limit : (text other : List ℕ) → IsTooWide bytes n text → IsTooWide bytes n other → text ≡ other
+  one_limit text other h g =
+      let asks = same_asks h.document g.document h.free g.free in
+      h.text_is
+      ∙ ap (λ m. line (codes "fault limit query " ++ decimal m)) (one_wide n g.document.asks h.number g.number (subst (λ xs. IsFirstWide n xs h.number) asks h.wide) g.wide)
+      ∙ sym g.text_is
+
+  positive : (document : document_of.Document) → IsReadAs bytes document → 0 < document.field
+  positive document h = field_positive document.field ((printed document).well_formed bytes h).field
+
+  one_text : (text other : List ℕ) → IsAnswered bytes n text → IsAnswered bytes n other → text ≡ other
+  one_text text other h g =
+      let same = same_documents bytes h.document g.document h.free.read g.free.read in
+      let d = h.document in
+      let e = g.document in
+      let here =
+      subst (λ p. AreAnswered p e.gens (queries e.asks) text) same.field
+      (subst (λ gens. AreAnswered d.field gens (queries e.asks) text) same.generators (subst (λ asks. AreAnswered d.field d.gens (queries asks) text) same.asks h.answered)) in
+      same_answered e.field e.gens (queries e.asks) text other (positive e g.free.read) here g.answered
+
+  pub one_telling : (status other : Status) (text others : List ℕ) → Tells bytes n status text → Tells bytes n other others → (status ≡ other) × (text ≡ others)
+  one_telling Document Document text others h g = (refl, one_refusal bytes text others h g)
+  one_telling Document Limit text others h g = absurd (free_or_refused bytes g.document text g.free h)
+  one_telling Document Done text others h g = absurd (free_or_refused bytes g.document text g.free h)
+  one_telling Limit Document text others h g = absurd (free_or_refused bytes h.document others h.free g)
+  one_telling Limit Limit text others h g = (refl, one_limit text others h g)
+  one_telling Limit Done text others h g = absurd (wide_or_answered text others h g)
+  one_telling Done Document text others h g = absurd (free_or_refused bytes h.document others h.free g)
+  one_telling Done Limit text others h g = absurd (wide_or_answered others text g h)
+  one_telling Done Done text others h g = (refl, one_text text others h g)
+  one_telling Refused other text others h g = absurd h
+  one_telling Usage other text others h g = absurd h
+  one_telling Budget other text others h g = absurd h
+  one_telling ReadFault other text others h g = absurd h
+  one_telling WriteFault other text others h g = absurd h
+  one_telling NoMemory other text others h g = absurd h
+  one_telling Document Refused text others h g = absurd g
+  one_telling Document Usage text others h g = absurd g
+  one_telling Document Budget text others h g = absurd g
+  one_telling Document ReadFault text others h g = absurd g
+  one_telling Document WriteFault text others h g = absurd g
+  one_telling Document NoMemory text others h g = absurd g
+  one_telling Limit Refused text others h g = absurd g
+  one_telling Limit Usage text others h g = absurd g
+  one_telling Limit Budget text others h g = absurd g
+  one_telling Limit ReadFault text others h g = absurd g
+  one_telling Limit WriteFault text others h g = absurd g
+  one_telling Limit NoMemory text others h g = absurd g
+  one_telling Done Refused text others h g = absurd g
+  one_telling Done Usage text others h g = absurd g
+  one_telling Done Budget text others h g = absurd g
+  one_telling Done ReadFault text others h g = absurd g
+  one_telling Done WriteFault text others h g = absurd g
+  one_telling Done NoMemory text others h g = absurd g
+
+pub answers_determined : PrintedDocumentsAreReadBack → AnswersAreDetermined
+answers_determined printed bytes n status other text others h g = one_telling printed bytes n status other text others h g
