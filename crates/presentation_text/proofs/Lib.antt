@@ -18,3 +18,4 @@ pub mod RelationLines
 pub mod DocumentLines
 pub mod DocumentReading
 pub mod OneDocument
+pub mod TreeFormsPlaces
