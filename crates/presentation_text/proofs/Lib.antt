@@ -19,3 +19,5 @@ pub mod DocumentLines
 pub mod DocumentReading
 pub mod OneDocument
 pub mod TreeFormsPlaces
+pub mod TreeFormsLeaves
+pub mod TreeFormsSteps
