@@ -21,3 +21,4 @@ pub mod OneDocument
 pub mod TreeFormsPlaces
 pub mod TreeFormsLeaves
 pub mod TreeFormsSteps
+pub mod TreesAcceptedTrees

@@ -199,25 +199,25 @@ one_more : (t : Tree ℕ) (reading : Reading (Row ℕ)) → (reading >>= (λ oth
 one_more t (Ok found) = refl
 one_more t (Err e) = refl
 
-abbrev others_in : Inside → ℕ → ℕ → Tree ℕ × List Token → Reading (Row ℕ)
+abbrev pub others_in : Inside → ℕ → ℕ → Tree ℕ × List Token → Reading (Row ℕ)
 others_in inside k seen input = do
   others ← row_in inside false k (seen + leaf_count input.0) input.1
   Ok (more input.0 others.0, others.1)
 
-abbrev inputs_in : Inside → ℕ → ℕ → List Token → Reading (Row ℕ)
+abbrev pub inputs_in : Inside → ℕ → ℕ → List Token → Reading (Row ℕ)
 inputs_in inside k seen rest = do
   input ← input_in inside seen rest
   others_in inside k seen input
 
-row_in-step : (inside : Inside) (first : Bool) (k seen : ℕ) (ts : List Token) → row_in inside first (suc k) seen ts ≡ (before_in first ts >>= inputs_in inside k seen)
+pub row_in-step : (inside : Inside) (first : Bool) (k seen : ℕ) (ts : List Token) → row_in inside first (suc k) seen ts ≡ (before_in first ts >>= inputs_in inside k seen)
 unfolding row_in
 row_in-step inside first k seen ts = refl
 
-row_in-last : (inside : Inside) (first : Bool) (seen : ℕ) (ts : List Token) → row_in inside first 0 seen ts ≡ (close_in ts >>= (λ rest. Ok (none, rest)))
+pub row_in-last : (inside : Inside) (first : Bool) (seen : ℕ) (ts : List Token) → row_in inside first 0 seen ts ≡ (close_in ts >>= (λ rest. Ok (none, rest)))
 unfolding row_in
 row_in-last inside first seen ts = refl
 
-row_in-more : (inside : Inside) (first : Bool) (k seen : ℕ) (ts rest behind_it : List Token) (t : Tree ℕ) → before_in first ts ≡ Ok rest → input_in inside seen rest ≡ Ok (t, behind_it)
+pub row_in-more : (inside : Inside) (first : Bool) (k seen : ℕ) (ts rest behind_it : List Token) (t : Tree ℕ) → before_in first ts ≡ Ok rest → input_in inside seen rest ≡ Ok (t, behind_it)
     → row_in inside first (suc k) seen ts ≡ behind (t ∷ []) (row_in inside false k (seen + leaf_count t) behind_it)
 row_in-more inside first k seen ts rest behind_it t e f =
     row_in-step inside first k seen ts ∙ ap (λ r. r >>= inputs_in inside k seen) e ∙ ap (λ r. r >>= others_in inside k seen) f ∙ one_more t (row_in inside false k (seen + leaf_count t) behind_it)
@@ -232,7 +232,7 @@ row_in-no_input inside first k seen ts rest fault e f = row_in-step inside first
 row_in-no_end : (inside : Inside) (first : Bool) (seen : ℕ) (ts : List Token) (fault : Fault) → close_in ts ≡ Err fault → row_in inside first 0 seen ts ≡ Err fault
 row_in-no_end inside first seen ts fault e = row_in-last inside first seen ts ∙ ap (λ r. r >>= (λ rest. Ok (none, rest))) e
 
-row_in-closed : (inside : Inside) (first : Bool) (seen : ℕ) (ts rest : List Token) → close_in ts ≡ Ok rest → row_in inside first 0 seen ts ≡ Ok (none, rest)
+pub row_in-closed : (inside : Inside) (first : Bool) (seen : ℕ) (ts rest : List Token) → close_in ts ≡ Ok rest → row_in inside first 0 seen ts ≡ Ok (none, rest)
 row_in-closed inside first seen ts rest e = row_in-last inside first seen ts ∙ ap (λ r. r >>= (λ rest. Ok (none, rest))) e
 
 -- Behind the name of generator g these inputs were read, up to a place.
