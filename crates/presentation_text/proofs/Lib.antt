@@ -22,3 +22,4 @@ pub mod TreeFormsPlaces
 pub mod TreeFormsLeaves
 pub mod TreeFormsSteps
 pub mod TreesAcceptedTrees
+pub mod TreesAccepted

@@ -352,7 +352,7 @@ module _ (generators : List Generator) (inside : Inside) (tokens : List Token) (
 
 -- ---- whole trees
 
-abbrev judged : Demands → Tree ℕ × List Token → Reading (Tree ℕ)
+abbrev pub judged : Demands → Tree ℕ × List Token → Reading (Tree ℕ)
 judged demands found = refused (suc (length found.1)) (first_row (against demands found.0)) (Ok found)
 
 pub whole-stops : (generators : List Generator) (demands : Demands) (ts : List Token) (fault : Fault) → tree_in generators 8 0 ts ≡ Err fault → whole_tree_in generators demands ts ≡ Err fault

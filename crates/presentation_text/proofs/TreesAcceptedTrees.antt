@@ -340,7 +340,7 @@ module _ (generators : List Generator) (table : IsTable generators) where
         let within = (tree_tokens generators t ++ inputs_tokens generators false r) ++ Byte 41 ∷ rest in
         let parted : within ≡ tree_tokens generators t ++ behind_it = append_assoc (tree_tokens generators t) (inputs_tokens generators false r) (Byte 41 ∷ rest) in
         let one : input_in inside seen within ≡ Ok (t, behind_it) =
-            ap (input_in inside seen) parted ∙ steps.input_in-tree inside seen (tree_tokens generators t ++ behind_it) (tree_begins generators t behind_it)
-            ∙ tree_back t depth seen behind_it fits.0 (max_left (nested t) (nested_row r) depth shallow) (omega arith) small.0 in
+        ap (input_in inside seen) parted ∙ steps.input_in-tree inside seen (tree_tokens generators t ++ behind_it) (tree_begins generators t behind_it)
+        ∙ tree_back t depth seen behind_it fits.0 (max_left (nested t) (nested_row r) depth shallow) (omega arith) small.0 in
         let others = row_back false r depth (seen + leaf_count t) rest fits.1 (max_right (nested t) (nested_row r) depth shallow) (omega arith) small.1 in
         steps.row_in-more inside first (width r) seen (Byte (mark_of first) ∷ within) within behind_it t (before_in-back first within) one ∙ ap (steps.behind (t ∷ [])) others

@@ -3,6 +3,7 @@ ghost use Rattle.labelled_trees.specs.Leaves.{leaf_count};
 ghost use Rattle.labelled_trees.specs.Meaning.{tree_of};
 ghost use Rattle.symmetric_trees.specs.Trees.{Fits};
 ghost use Rattle.symmetric_trees.specs.declared.generators.Generator.{Generator};
+ghost use Rattle.presentation_text.specs.Accepted.{TreesAreAccepted};
 ghost use Rattle.presentation_text.specs.Readings.{first_row, GivesBehind};
 ghost use Rattle.presentation_text.specs.TreeForms as spec;
 ghost use Rattle.presentation_text.specs.declared.lexing.Token.{Token};
@@ -291,3 +292,10 @@ pub fn tree_at(
     let found = demanded_tree_at(alloc, table, demands, tokens, at)?;
     Ok((found.tree, found.end))
 }
+
+/// Law: reading accepts a tree exactly where tokens begin with those of a tree over the table that is as it is
+/// demanded: within the limits, with leaves that carry 1 to some number, each once, unless they are free, and with the
+/// arity that is asked.
+pub fn trees_are_accepted()
+    ensures law { TreesAreAccepted }
+{}
