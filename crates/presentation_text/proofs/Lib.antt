@@ -23,3 +23,7 @@ pub mod TreeFormsLeaves
 pub mod TreeFormsSteps
 pub mod TreesAcceptedTrees
 pub mod TreesAccepted
+pub mod TreesStopForms
+pub mod TreesStopTrees
+pub mod TreesStopLimits
+pub mod TreesStop

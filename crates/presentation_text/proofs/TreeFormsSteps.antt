@@ -159,13 +159,17 @@ unfolding tree_in
 tree_in-deep generators zero seen w g rest e last = ap (λ i. node_in generators None seen i rest) e
 tree_in-deep generators (suc depth) seen w g rest e last = absurd (omega arith)
 
+pub tree_in-below : (generators : List Generator) (depth seen : ℕ) (w : List ℕ) (g : ℕ) (rest : List Token) → index_of w generators ≡ Some g
+    → tree_in generators (suc depth) seen (Word w ∷ rest) ≡ node_in generators (Some (tree_in generators depth)) seen (Some g) rest
+unfolding tree_in
+tree_in-below generators depth seen w g rest e = ap (λ i. node_in generators (Some (tree_in generators depth)) seen i rest) e
+
 pub tree_in-node : (generators : List Generator) (depth seen : ℕ) (w : List ℕ) (g : ℕ) (rest : List Token) → index_of w generators ≡ Some g → (depth ≡ 0 → ⊥)
     → tree_in generators depth seen (Word w ∷ rest) ≡ node_in generators (Some (tree_in generators (depth - 1))) seen (Some g) rest
-unfolding tree_in
 tree_in-node generators zero seen w g rest e more_deep = absurd (more_deep refl)
 tree_in-node generators (suc depth) seen w g rest e more_deep =
     let less : depth ≡ suc depth - 1 = omega arith in
-    ap (λ i. node_in generators (Some (tree_in generators depth)) seen i rest) e ∙ ap (λ k. node_in generators (Some (tree_in generators k)) seen (Some g) rest) less
+    tree_in-below generators depth seen w g rest e ∙ ap (λ k. node_in generators (Some (tree_in generators k)) seen (Some g) rest) less
 
 -- ---- the inputs read so far
 

@@ -35,10 +35,10 @@ bound (Err fault) f y e = absurd cc
 both_ok : {A B : Type 0} (a c : A) (b d : B) → ◌≡◌ {A = Result (A × B) Fault} (Ok (a, b)) (Ok (c, d)) → ◌≡◌ {A = A × B} (a, b) (c, d)
 both_ok a c b d e = cc
 
-ok_left : {A B : Type 0} (a c : A) (b d : B) → ◌≡◌ {A = Result (A × B) Fault} (Ok (a, b)) (Ok (c, d)) → a ≡ c
+pub ok_left : {A B : Type 0} (a c : A) (b d : B) → ◌≡◌ {A = Result (A × B) Fault} (Ok (a, b)) (Ok (c, d)) → a ≡ c
 ok_left {A = A} {B = B} a c b d e = ap (λ (p : A × B). p.0) (both_ok a c b d e)
 
-ok_right : {A B : Type 0} (a c : A) (b d : B) → ◌≡◌ {A = Result (A × B) Fault} (Ok (a, b)) (Ok (c, d)) → b ≡ d
+pub ok_right : {A B : Type 0} (a c : A) (b d : B) → ◌≡◌ {A = Result (A × B) Fault} (Ok (a, b)) (Ok (c, d)) → b ≡ d
 ok_right {A = A} {B = B} a c b d e = ap (λ (p : A × B). p.1) (both_ok a c b d e)
 
 -- ---- marks
@@ -89,11 +89,11 @@ input_in-read : (inside : Inside) (seen : ℕ) (ts : List Token) (found : Tree �
 input_in-read inside seen [] found e = e
 input_in-read inside seen (token ∷ rest) found e = input_read (is_mark 41 token) InputCount (suc (length rest)) (inside seen (token ∷ rest)) found e
 
-before_in-back : (first : Bool) (rest : List Token) → before_in first (Byte (mark_of first) ∷ rest) ≡ Ok rest
+pub before_in-back : (first : Bool) (rest : List Token) → before_in first (Byte (mark_of first) ∷ rest) ≡ Ok rest
 before_in-back true rest = refl
 before_in-back false rest = refl
 
-close_in-back : (rest : List Token) → close_in (Byte 41 ∷ rest) ≡ Ok rest
+pub close_in-back : (rest : List Token) → close_in (Byte 41 ∷ rest) ≡ Ok rest
 close_in-back rest = refl
 
 -- ---- names
@@ -155,7 +155,7 @@ row_is generators none l = absurd (omega arith)
 row_is generators (more t r) l = ap (λ x. Byte 40 ∷ (tree_tokens generators t ++ x)) (more_is generators r)
 
 -- the tokens of a vertex, and those behind it
-node_tokens : (generators : List Generator) (g : ℕ) (r : Row ℕ) (rest : List Token) → 0 < width r
+pub node_tokens : (generators : List Generator) (g : ℕ) (r : Row ℕ) (rest : List Token) → 0 < width r
     → tree_tokens generators (node g r) ++ rest ≡ Word (name_of generators g) ∷ (inputs_tokens generators true r ++ Byte 41 ∷ rest)
 node_tokens generators g r rest some =
     ap (λ x. Word (name_of generators g) ∷ x) (append_assoc (Byte 40 ∷ row_tokens generators r) (Byte 41 ∷ []) rest ∙ ap (λ x. x ++ Byte 41 ∷ rest) (row_is generators r some))
@@ -300,7 +300,7 @@ is_upto a b l = grind (arith, nat_tests)
 leaf_back : (seen n : ℕ) (rest : List Token) → seen < 9 → n ≤ 99 → leaf_in seen n rest ≡ Ok (leaf n, rest)
 leaf_back seen n rest l small = all_passed (nat_le 9 seen) (nat_lt 99 n) TooWide Labels (suc (length rest)) (Ok (leaf n, rest)) (is_below 9 seen l) (is_upto 99 n small)
 
-tree_begins : (generators : List Generator) (t : Tree ℕ) (rest : List Token) → begins_with 41 (tree_tokens generators t ++ rest) ≡ false
+pub tree_begins : (generators : List Generator) (t : Tree ℕ) (rest : List Token) → begins_with 41 (tree_tokens generators t ++ rest) ≡ false
 tree_begins generators (leaf n) rest = refl
 tree_begins generators (node g r) rest = refl
 
@@ -311,7 +311,7 @@ max_right : (a b n : ℕ) → max a b ≤ n → b ≤ n
 max_right a b n h = omega arith
 
 module _ (generators : List Generator) (table : IsTable generators) where
-  index_back : (g : ℕ) → 2 ≤ arity_in generators g → index_of (name_of generators g) generators ≡ Some g
+  pub index_back : (g : ℕ) → 2 ≤ arity_in generators g → index_of (name_of generators g) generators ≡ Some g
   index_back g least =
       let held = in_table generators g (omega arith) in
       steps.index-some generators (name_of generators g) g table held (λ d. sym (name_of-is generators g d held))
