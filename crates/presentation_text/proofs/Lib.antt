@@ -26,4 +26,5 @@ pub mod TreesAccepted
 pub mod TreesStopForms
 pub mod TreesStopTrees
 pub mod TreesStopLimits
+pub mod TreesGoOn
 pub mod TreesStop

@@ -72,7 +72,7 @@ unrefused true b kind other_kind left token c rest other f e = absurd cc
 unrefused false true kind other_kind left token c rest other f e = let same : rest ≡ other = cc in let mark = f refl in cc
 unrefused false false kind other_kind left token c rest other f e = absurd cc
 
-before_in-front : (first : Bool) (ts rest : List Token) → before_in first ts ≡ Ok rest → ts ≡ Byte (mark_of first) ∷ rest
+pub before_in-front : (first : Bool) (ts rest : List Token) → before_in first ts ≡ Ok rest → ts ≡ Byte (mark_of first) ∷ rest
 before_in-front true ts rest e = mark_in-front 40 ts rest e
 before_in-front false [] rest e = absurd cc
 before_in-front false (token ∷ others) rest e = unrefused (is_mark 41 token) (is_mark 44 token) InputCount (misplaced token) (suc (length others)) token 44 others rest (marked 44 token) e
@@ -85,7 +85,7 @@ input_read : (a : Bool) (kind : DocKind) (left : ℕ) (reading : Reading (Tree �
 input_read true kind left reading found e = absurd cc
 input_read false kind left reading found e = e
 
-input_in-read : (inside : Inside) (seen : ℕ) (ts : List Token) (found : Tree ℕ × List Token) → input_in inside seen ts ≡ Ok found → inside seen ts ≡ Ok found
+pub input_in-read : (inside : Inside) (seen : ℕ) (ts : List Token) (found : Tree ℕ × List Token) → input_in inside seen ts ≡ Ok found → inside seen ts ≡ Ok found
 input_in-read inside seen [] found e = e
 input_in-read inside seen (token ∷ rest) found e = input_read (is_mark 41 token) InputCount (suc (length rest)) (inside seen (token ∷ rest)) found e
 
@@ -103,9 +103,9 @@ next_index-is None g e = absurd cc
 next_index-is (Some h) g e = (h, refl, cc)
 
 -- the generator with an index, and its name
-record IsHeld (generators : List Generator) (name : List ℕ) (g : ℕ) : Type 0 where
-  held : g < length generators
-  named : name_of generators g ≡ name
+pub record IsHeld (generators : List Generator) (name : List ℕ) (g : ℕ) : Type 0 where
+  pub held : g < length generators
+  pub named : name_of generators g ≡ name
 
 held_by : (b : Bool) (x : Generator) (xs : List Generator) (name : List ℕ) (g : ℕ) → (b ≡ true → x.name ≡ name) → ((h : ℕ) → index_of name xs ≡ Some h → IsHeld xs name h)
     → (if b then Some 0 else next_index (index_of name xs)) ≡ Some g → IsHeld (x ∷ xs) name g
@@ -115,11 +115,11 @@ held_by false x xs name g f further e =
     let inside = further next.0 next.1 in
     subst (IsHeld (x ∷ xs) name) (sym next.2) (record { held = omega (arith, inside.held); named = inside.named })
 
-index_held : (generators : List Generator) (name : List ℕ) (g : ℕ) → index_of name generators ≡ Some g → IsHeld generators name g
+pub index_held : (generators : List Generator) (name : List ℕ) (g : ℕ) → index_of name generators ≡ Some g → IsHeld generators name g
 index_held [] name g e = absurd cc
 index_held (x ∷ xs) name g e = held_by (bytes_eq x.name name) x xs name g ((bytes_eq-Decides x.name name).0) (λ h f. index_held xs name h f) e
 
-least_arity : (generators : List Generator) → IsTable generators → (g : ℕ) → g < length generators → 2 ≤ arity_in generators g
+pub least_arity : (generators : List Generator) → IsTable generators → (g : ℕ) → g < length generators → 2 ≤ arity_in generators g
 least_arity [] table g l = absurd (omega arith)
 least_arity (x ∷ xs) table g l = arity_in-least (x ∷ xs) table g x l
 

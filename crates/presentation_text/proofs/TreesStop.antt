@@ -6,7 +6,7 @@ use Rattle.labelled_trees.specs.Leaves.{leaf_count}
 use Rattle.symmetric_trees.specs.Generators.{IsTable}
 use Rattle.symmetric_trees.specs.Trees.{Fits}
 use Rattle.symmetric_trees.specs.declared.generators.Generator.{Generator}
-use Rattle.presentation_text.specs.Accepted.{IsDemanded, GoOnAs, IsRuledOut, TreesAreRefusedRightly}
+use Rattle.presentation_text.specs.Accepted.{IsDemanded, GoOnAs, IsRuledOut, TreesAreRefusedRightly, RefusedTreesBegin}
 use Rattle.presentation_text.specs.declared.kinds.DocKind.{DocKind}
 use Rattle.presentation_text.specs.declared.kinds.DocKind.TheVariants.{Syntax, NumberLong, NameUnknown, InputCount, TooDeep, TooWide, Labels, ArityOut, MixedArity}
 use Rattle.presentation_text.specs.declared.lexing.Token.{Token}
@@ -18,6 +18,7 @@ use Rattle.presentation_text.proofs.TreeTokens.{read_once}
 use Rattle.presentation_text.proofs.TreeFormsSteps.{judged}
 use Rattle.presentation_text.proofs.TreesAcceptedTrees.{IsReadInside, tree_sound, tree_back}
 use Rattle.presentation_text.proofs.TreesAccepted.{all_accepted}
+use Rattle.presentation_text.proofs.TreesGoOn.{Begins, tree_goes}
 use Rattle.presentation_text.proofs.TreesStopTrees.{local_tree}
 use Rattle.presentation_text.proofs.TreesStopLimits.{Breaks, IsReadOrBreaks, tree_or_breaks}
 
@@ -95,25 +96,34 @@ module _ (generators : List Generator) (table : IsTable generators) (demands : D
   stopped_inside front (token ∷ back) kind e t h g =
       no_tree kind (suc (length g.0)) t h (ap (tree_in generators 8 0) g.1 ∙ (local_tree generators 8 0).stops front token back g.0 kind e)
 
-  -- ---- at the last token of a tree
+-- ---- at the last token of a tree
 
-  same_front : (p q r s : List Token) → p ++ q ≡ r ++ s → length q ≡ length s → p ≡ r
-  same_front [] q [] s e l = refl
-  same_front [] q (x ∷ r) s e l = absurd (omega (arith, ap length e, length-append (x ∷ r) s, l))
-  same_front (x ∷ p) q [] s e l = absurd (omega (arith, ap length e, length-append (x ∷ p) q, l))
-  same_front (x ∷ p) q (y ∷ r) s e l =
-      let first : x ≡ y = cc in
-      let others : p ++ q ≡ r ++ s = cc in
-      ap (λ z. z ∷ p) first ∙ ap (λ ts. y ∷ ts) (same_front p q r s others l)
+same_front : (p q r s : List Token) → p ++ q ≡ r ++ s → length q ≡ length s → p ≡ r
+same_front [] q [] s e l = refl
+same_front [] q (x ∷ r) s e l = absurd (omega (arith, ap length e, length-append (x ∷ r) s, l))
+same_front (x ∷ p) q [] s e l = absurd (omega (arith, ap length e, length-append (x ∷ p) q, l))
+same_front (x ∷ p) q (y ∷ r) s e l =
+    let first : x ≡ y = cc in
+    let others : p ++ q ≡ r ++ s = cc in
+    ap (λ z. z ∷ p) first ∙ ap (λ ts. y ∷ ts) (same_front p q r s others l)
 
+-- the tree that was read ends with the refused token
+as_far : (generators : List Generator) (table : IsTable generators) (demands : Demands) (front : List Token) (token : Token) (back : List Token) (kind : DocKind)
+    → (j : IsJudged generators demands (front ++ token ∷ back) (suc (length back)) kind)
+    → (front ++ token ∷ [] ≡ tree_tokens generators j.tree) × IsReadInside generators 8 0 (front ++ token ∷ back) j.tree j.others
+as_far generators table demands front token back kind j =
+    let read : IsReadInside generators 8 0 (front ++ token ∷ back) j.tree j.others = tree_sound generators table 8 0 (front ++ token ∷ back) j.tree j.others (omega arith) j.read in
+    let left = j.left_is in
+    (same_front (front ++ token ∷ []) back (tree_tokens generators j.tree) j.others (append_assoc front (token ∷ []) back ∙ read.spelled) (omega (arith, left)), read)
+
+module _ (generators : List Generator) (table : IsTable generators) (demands : Demands) where
   only_read : (front back : List Token) (kind : DocKind) (t : Tree ℕ) → whole_tree_in generators demands (front ++ back) ≡ Err (length back, kind) → (j : IsJudged generators demands (front ++ back) (length back) kind)
       → IsDemanded generators demands t → GoOnAs front back (tree_tokens generators t) → ⊥
   only_read front [] kind t e j demanded g = let is = j.left_is in absurd (omega (arith, is))
   only_read front (token ∷ back) kind t e j demanded g =
-      let read : IsReadInside generators 8 0 (front ++ token ∷ back) j.tree j.others = tree_sound generators table 8 0 (front ++ token ∷ back) j.tree j.others (omega arith) j.read in
-      let left = j.left_is in
-      let as_far : front ++ token ∷ [] ≡ tree_tokens generators j.tree = same_front (front ++ token ∷ []) back (tree_tokens generators j.tree) j.others (append_assoc front (token ∷ []) back ∙ read.spelled) (omega (arith, left)) in
-      let behind_it : tree_tokens generators t ++ [] ≡ tree_tokens generators j.tree ++ g.0 = append-nil (tree_tokens generators t) ∙ g.1 ∙ sym (append_assoc front (token ∷ []) g.0) ∙ ap (λ ts. ts ++ g.0) as_far in
+      let ends = as_far generators table demands front token back kind j in
+      let read : IsReadInside generators 8 0 (front ++ token ∷ back) j.tree j.others = ends.1 in
+      let behind_it : tree_tokens generators t ++ [] ≡ tree_tokens generators j.tree ++ g.0 = append-nil (tree_tokens generators t) ∙ g.1 ∙ sym (append_assoc front (token ∷ []) g.0) ∙ ap (λ ts. ts ++ g.0) ends.0 in
       let same : t ≡ j.tree = (read_once generators table t j.tree [] g.0 demanded.fits read.fits behind_it).0 in
       let accepted : whole_tree_in generators demands (front ++ token ∷ back) ≡ Ok (j.tree, j.others) = (all_accepted generators table demands (front ++ token ∷ back) j.others j.tree).1 (read.spelled, subst (IsDemanded generators demands) same demanded) in
       let both : ◌≡◌ {A = Reading (Tree ℕ)} (Ok (j.tree, j.others)) (Err (suc (length back), kind)) = sym accepted ∙ e in
@@ -122,7 +132,7 @@ module _ (generators : List Generator) (table : IsTable generators) (demands : D
   refused_rightly : (front back : List Token) (kind : DocKind) → whole_tree_in generators demands (front ++ back) ≡ Err (length back, kind) → (t : Tree ℕ) → IsRuledOut generators demands kind t
       → GoOnAs front back (tree_tokens generators t) → ⊥
   refused_rightly front back kind e t h g = ⊎_elim
-      (λ inside. stopped_inside front back kind inside t h g)
+      (λ inside. stopped_inside generators table demands front back kind inside t h g)
       (λ j. at_end j (λ demanded. only_read front back kind t e j demanded g))
       (stopped generators demands (front ++ back) (length back) kind e)
     where
@@ -134,3 +144,19 @@ module _ (generators : List Generator) (table : IsTable generators) (demands : D
 
 pub all_refused_rightly : TreesAreRefusedRightly
 all_refused_rightly generators table demands front back kind e t h g = refused_rightly generators table demands front back kind e t h g
+
+-- ---- the tokens before
+
+begins_before : (generators : List Generator) (table : IsTable generators) (demands : Demands) (front back : List Token) (kind : DocKind) → IsJudged generators demands (front ++ back) (length back) kind → Begins generators front
+begins_before generators table demands front [] kind j = let is = j.left_is in absurd (omega (arith, is))
+begins_before generators table demands front (token ∷ back) kind j =
+    let ends = as_far generators table demands front token back kind j in
+    record { tree = j.tree; others = token ∷ []; fits = ends.1.fits; spelled = sym ends.0 }
+
+pub all_begin : RefusedTreesBegin
+all_begin generators table demands front back kind e =
+    let begun : Begins generators front = ⊎_elim
+    (λ inside. tree_goes generators table 8 0 (omega arith) front back kind inside)
+    (λ j. begins_before generators table demands front back kind j)
+    (stopped generators demands (front ++ back) (length back) kind e) in
+    (begun.tree, begun.others, begun.fits, begun.spelled)

@@ -29,21 +29,19 @@ pub record IsLocal {X : Type 0} (read : List Token → Reading X) : Type 0 where
 
 -- ---- one list that is parted in two ways
 
-record IsWithin (used rest front : List Token) (token : Token) (back : List Token) : Type 0 where
-  between : List Token
-  front_is : front ≡ used ++ between
-  rest_is : rest ≡ between ++ token ∷ back
+pub record IsWithin (used rest front back : List Token) : Type 0 where
+  pub between : List Token
+  pub front_is : front ≡ used ++ between
+  pub rest_is : rest ≡ between ++ back
 
--- the refused token isn't among those that were read
-within : (used rest front : List Token) (token : Token) (back : List Token) → used ++ rest ≡ front ++ token ∷ back → suc (length back) ≤ length rest → IsWithin used rest front token back
-within [] rest front token back e l = record { between = front; front_is = refl; rest_is = e }
-within (u ∷ us) rest [] token back e l =
-    let others : us ++ rest ≡ back = cc in
-    absurd (omega (arith, l, length-append us rest, ap length others))
-within (u ∷ us) rest (f ∷ fs) token back e l =
+-- what stands behind isn't among the tokens that were read
+pub within : (used rest front back : List Token) → used ++ rest ≡ front ++ back → length back ≤ length rest → IsWithin used rest front back
+within [] rest front back e l = record { between = front; front_is = refl; rest_is = e }
+within (u ∷ us) rest [] back e l = absurd (omega (arith, l, length-append us rest, ap length e))
+within (u ∷ us) rest (f ∷ fs) back e l =
     let same : u ≡ f = cc in
-    let others : us ++ rest ≡ fs ++ token ∷ back = cc in
-    let inside : IsWithin us rest fs token back = within us rest fs token back others l in
+    let others : us ++ rest ≡ fs ++ back = cc in
+    let inside : IsWithin us rest fs back = within us rest fs back others l in
     record { between = inside.between; front_is = ap (λ x. f ∷ x) inside.front_is ∙ ap (λ x. x ∷ (us ++ inside.between)) (sym same); rest_is = inside.rest_is }
 
 -- ---- one thing and then another
@@ -79,7 +77,7 @@ module _ {X Y : Type 0} (read : List Token → Reading X) (next : X → List Tok
   joined_stops front token back beyond kind (Ok found) is e =
       let gone = local.goes (front ++ token ∷ back) found.0 found.1 is in
       let l = (local_next found.0).bounded found.1 (suc (length back), kind) e in
-      let w = within gone.used found.1 front token back (sym gone.parted) l in
+      let w = within gone.used found.1 front (token ∷ back) (sym gone.parted) l in
       let inner = (local_next found.0).stops w.between token back beyond kind (ap (next found.0) (sym w.rest_is) ∙ e) in
       ap (joined read next) (ap (λ f. f ++ token ∷ beyond) w.front_is ∙ append_assoc gone.used w.between (token ∷ beyond))
       ∙ ap (λ (m : Reading X). m >>= (λ (found : X × List Token). next found.0 found.1)) (gone.again (w.between ++ token ∷ beyond)) ∙ inner

@@ -30,7 +30,7 @@ input_starts inside seen token true e start = inl (record { told = Err InputCoun
 input_starts inside seen token false e (inl g) = inl (record { told = g.told; is = λ rest. open_given (is_mark 41 token) (inside seen (token ∷ rest)) rest e ∙ g.is rest })
 input_starts inside seen token false e (inr g) = inr (record { inner = g.inner; local = g.local; is = λ rest. open_given (is_mark 41 token) (inside seen (token ∷ rest)) rest e ∙ g.is rest })
 
-input_by_token : (inside : Inside) (seen : ℕ) → IsByToken (inside seen) → IsByToken (input_in inside seen)
+pub input_by_token : (inside : Inside) (seen : ℕ) → IsByToken (inside seen) → IsByToken (input_in inside seen)
 input_by_token inside seen wise = record {
   kind = wise.kind;
   ends = wise.ends;
@@ -49,7 +49,7 @@ local_marked first inner local =
     (local_by_token (λ ts. before_in first ts >>= (λ (rest : List Token). Ok (true, rest))) (before_by_token first)) (λ b. local))
 
 module _ (inside : Inside) (wise : (seen : ℕ) → IsByToken (inside seen)) where
-  local_row : (k : ℕ) (first : Bool) (seen : ℕ) → IsLocal (row_in inside first k seen)
+  pub local_row : (k : ℕ) (first : Bool) (seen : ℕ) → IsLocal (row_in inside first k seen)
   unfolding row_in
   local_row zero first seen = local_by_token (λ ts. close_in ts >>= (λ (rest : List Token). Ok (none, rest))) (close_by_token none)
   local_row (suc k) first seen =
@@ -96,7 +96,7 @@ token_starts generators inside wise seen Bad = inl (record { told = Err (misplac
 or_end_by_token : (generators : List Generator) (inside : Option Inside) → AreByToken inside → (seen : ℕ) → IsByToken (tree_or_end_in generators inside seen)
 or_end_by_token generators inside wise seen = record { kind = Syntax; ends = refl; starts = token_starts generators inside wise seen }
 
-tree_by_token : (generators : List Generator) (depth seen : ℕ) → IsByToken (tree_in generators depth seen)
+pub tree_by_token : (generators : List Generator) (depth seen : ℕ) → IsByToken (tree_in generators depth seen)
 unfolding tree_in
 tree_by_token generators zero seen = or_end_by_token generators None tt seen
 tree_by_token generators (suc depth) seen = or_end_by_token generators (Some (tree_in generators depth)) (λ s. tree_by_token generators depth s) seen

@@ -57,6 +57,12 @@ TreesAreRefusedRightly = (generators : List Generator) → IsTable generators �
     → whole_tree_in generators demands (front ++ back) ≡ Err (length back, kind)
     → (t : Tree ℕ) → IsRuledOut generators demands kind t → GoOnAs front back (tree_tokens generators t) → ⊥
 
+-- The tokens before the refused one are the first of a tree over the table.
+abbrev pub RefusedTreesBegin : Type 0
+RefusedTreesBegin = (generators : List Generator) → IsTable generators → (demands : Demands) (front back : List Token) (kind : DocKind)
+    → whole_tree_in generators demands (front ++ back) ≡ Err (length back, kind)
+    → (t : Tree ℕ) × (others : List Token) × Fits generators t × (tree_tokens generators t ≡ front ++ others)
+
 -- ---- elements
 
 -- the tokens don't begin with this single byte

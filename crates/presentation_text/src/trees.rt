@@ -3,7 +3,7 @@ ghost use Rattle.labelled_trees.specs.Leaves.{leaf_count};
 ghost use Rattle.labelled_trees.specs.Meaning.{tree_of};
 ghost use Rattle.symmetric_trees.specs.Trees.{Fits};
 ghost use Rattle.symmetric_trees.specs.declared.generators.Generator.{Generator};
-ghost use Rattle.presentation_text.specs.Accepted.{TreesAreAccepted, TreesAreRefusedRightly};
+ghost use Rattle.presentation_text.specs.Accepted.{RefusedTreesBegin, TreesAreAccepted, TreesAreRefusedRightly};
 ghost use Rattle.presentation_text.specs.Readings.{first_row, GivesBehind};
 ghost use Rattle.presentation_text.specs.TreeForms as spec;
 ghost use Rattle.presentation_text.specs.declared.lexing.Token.{Token};
@@ -305,4 +305,9 @@ pub fn trees_are_accepted()
 /// and if leaf numbers or the arity are refused, of the trees that are as demanded.
 pub fn trees_are_refused_rightly()
     ensures law { TreesAreRefusedRightly }
+{}
+
+/// Law: where reading refuses a token, or the end of the line, the tokens before begin a tree over the table.
+pub fn refused_trees_begin()
+    ensures law { RefusedTreesBegin }
 {}
