@@ -1,21 +1,20 @@
 -- Trees inside a tree are read exactly where their tokens stand.
-use Rattle.std.specs.Prelude.{if◌then◌else◌, ◌==◌, nat_le, nat_lt}
-use Rattle.std.proofs.Common.{◌≡◌, ℕ, zero, suc, ◌+◌, ◌-◌, ◌<◌, ◌≤◌, max, Bool, true, false, not, List, [], ◌∷◌, ◌++◌, length, get_or, Option, Some, None, Result, Ok, Err, refl, ap, sym, ◌∙◌, subst, arith, append_assoc}
-use Rattle.std.specs.List.{HoldsAt}
+use Rattle.std.specs.Prelude.{if◌then◌else◌, nat_le, nat_lt}
+use Rattle.std.proofs.Common.{◌≡◌, ℕ, zero, suc, ◌+◌, ◌-◌, ◌<◌, ◌≤◌, max, Bool, true, false, not, List, [], ◌∷◌, ◌++◌, length, Option, Some, None, Result, Ok, Err, refl, ap, sym, ◌∙◌, subst, arith, append_assoc}
 use Rattle.std.specs.Str.{bytes_eq}
 use Rattle.std.proofs.lemmas.Bool.Decides.{Decides-eqb, nat_tests}
 use Rattle.std.proofs.lemmas.Slice.Eq.{bytes_eq-Decides}
-use Rattle.labelled_trees.specs.Trees.{Tree, Row, leaf, node, none, more, row, width}
+use Rattle.labelled_trees.specs.Trees.{Tree, Row, leaf, node, none, more, width}
 use Rattle.labelled_trees.specs.Leaves.{AllLeaves, AllRow, leaf_count, leaf_count_row}
 use Rattle.labelled_trees.specs.Labelled as labelled
-use Rattle.symmetric_trees.specs.Generators.{IsTable, IsNamed}
+use Rattle.symmetric_trees.specs.Generators.{IsTable}
 use Rattle.symmetric_trees.specs.Trees.{Fits}
 use Rattle.symmetric_trees.specs.declared.generators.Generator.{Generator}
 use Rattle.presentation_text.specs.declared.kinds.DocKind.{DocKind}
 use Rattle.presentation_text.specs.declared.kinds.DocKind.TheVariants.{InputCount, TooWide, Labels}
 use Rattle.presentation_text.specs.declared.lexing.Token.{Token}
 use Rattle.presentation_text.specs.declared.lexing.Token.TheVariants.{Word, Number, Long, Byte, Bad}
-use Rattle.presentation_text.specs.Readings.{Fault, Reading, ◌>>=◌, is_mark, misplaced, misfit, mark_in, first_row, refused}
+use Rattle.presentation_text.specs.Readings.{Fault, Reading, ◌>>=◌, is_mark, misplaced, mark_in, first_row, refused}
 use Rattle.presentation_text.specs.TreeForms.{Inside, next_index, index_of, begins_with, before_in, close_in, input_in, row_in, leaf_in, node_in, begun_in, tree_or_end_in, tree_in}
 use Rattle.presentation_text.specs.TreeText.{name_of, tree_tokens, row_tokens, more_tokens, nested, nested_row}
 use Rattle.presentation_text.proofs.TreeTokens.{arity_in, arity_in-least, in_table, name_of-is}

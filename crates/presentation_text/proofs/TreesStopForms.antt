@@ -1,17 +1,11 @@
 -- Reading stops by what stands before the refused token and by that token alone.
-use Rattle.std.specs.Prelude.{if◌then◌else◌, nat_le, nat_lt}
-use Rattle.std.proofs.Common.{◌≡◌, ◌⊎◌, inl, inr, ⊎_elim, ℕ, zero, suc, ◌+◌, ◌<◌, ◌≤◌, Bool, true, false, not, List, [], ◌∷◌, ◌++◌, length, Option, Some, None, Result, Ok, Err, refl, ap, sym, ◌∙◌, subst, arith, append_assoc, length-append}
-use Rattle.labelled_trees.specs.Trees.{Tree, Row, leaf, node, none, more}
-use Rattle.labelled_trees.specs.Leaves.{leaf_count}
-use Rattle.symmetric_trees.specs.declared.generators.Generator.{Generator}
+use Rattle.std.specs.Prelude.{if◌then◌else◌}
+use Rattle.std.proofs.Common.{◌≡◌, ◌⊎◌, inl, inr, suc, ◌≤◌, Bool, true, false, not, List, [], ◌∷◌, ◌++◌, length, Result, Ok, Err, refl, ap, sym, ◌∙◌, subst, arith, append_assoc, length-append}
 use Rattle.presentation_text.specs.declared.kinds.DocKind.{DocKind}
-use Rattle.presentation_text.specs.declared.kinds.DocKind.TheVariants.{InputCount, NameUnknown, TooDeep, TooWide, Labels, Syntax}
+use Rattle.presentation_text.specs.declared.kinds.DocKind.TheVariants.{InputCount, Syntax}
 use Rattle.presentation_text.specs.declared.lexing.Token.{Token}
-use Rattle.presentation_text.specs.declared.lexing.Token.TheVariants.{Word, Number, Long, Byte, Bad}
-use Rattle.presentation_text.specs.Readings.{Fault, Reading, ◌>>=◌, is_mark, misplaced, misfit, mark_in, first_row, refused}
-use Rattle.presentation_text.specs.TreeForms.{Inside, index_of, before_in, close_in, input_in, row_in, leaf_in, node_in, begun_in, tree_or_end_in, tree_in}
-use Rattle.presentation_text.proofs.TreeTokens.{arity_in}
-use Rattle.presentation_text.proofs.TreeFormsSteps as steps
+use Rattle.presentation_text.specs.Readings.{Fault, Reading, ◌>>=◌, is_mark, misplaced, first_row, refused}
+use Rattle.presentation_text.specs.TreeForms.{before_in, close_in}
 use Rattle.presentation_text.proofs.TreesAcceptedTrees.{ok_left, ok_right}
 
 -- what was read of the tokens, whatever stands behind them

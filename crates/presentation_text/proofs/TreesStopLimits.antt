@@ -1,6 +1,6 @@
 -- The tokens of a tree over the table are refused for a limit alone.
 use Rattle.std.specs.Prelude.{nat_le, nat_lt}
-use Rattle.std.proofs.Common.{◌≡◌, ℕ, zero, suc, ◌+◌, ◌<◌, ◌≤◌, max, Bool, true, false, List, [], ◌∷◌, ◌++◌, length, Option, Some, None, Result, Ok, Err, refl, ap, sym, ◌∙◌, subst, arith, append_assoc}
+use Rattle.std.proofs.Common.{◌≡◌, ℕ, zero, suc, ◌+◌, ◌<◌, ◌≤◌, max, Bool, true, false, List, [], ◌∷◌, ◌++◌, length, Ok, Err, refl, ap, sym, ◌∙◌, subst, arith, append_assoc}
 use Rattle.std.proofs.lemmas.Bool.Decides.{nat_tests}
 use Rattle.labelled_trees.specs.Trees.{Tree, Row, leaf, node, none, more, width}
 use Rattle.labelled_trees.specs.Leaves.{leaf_count, leaf_count_row}
@@ -12,8 +12,8 @@ use Rattle.presentation_text.specs.declared.kinds.DocKind.{DocKind}
 use Rattle.presentation_text.specs.declared.kinds.DocKind.TheVariants.{TooDeep, TooWide, Labels}
 use Rattle.presentation_text.specs.declared.lexing.Token.{Token}
 use Rattle.presentation_text.specs.declared.lexing.Token.TheVariants.{Byte}
-use Rattle.presentation_text.specs.Readings.{Fault, Reading, ◌>>=◌, first_row, refused}
-use Rattle.presentation_text.specs.TreeForms.{Inside, before_in, input_in, row_in, leaf_in, node_in, tree_in}
+use Rattle.presentation_text.specs.Readings.{Reading, ◌>>=◌, first_row, refused}
+use Rattle.presentation_text.specs.TreeForms.{input_in, row_in, tree_in}
 use Rattle.presentation_text.specs.TreeText.{name_of, tree_tokens, nested, nested_row}
 use Rattle.presentation_text.proofs.TreeTokens.{arity_in}
 use Rattle.presentation_text.proofs.TreeFormsSteps as steps

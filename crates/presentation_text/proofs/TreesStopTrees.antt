@@ -1,7 +1,7 @@
 -- Trees are read by what stands before the refused token and by that token alone.
 use Rattle.std.specs.Prelude.{nat_le, nat_lt}
-use Rattle.std.proofs.Common.{◌≡◌, ◌⊎◌, inl, inr, ⊎_elim, ℕ, zero, suc, ◌+◌, ◌<◌, ◌≤◌, Bool, true, false, List, [], ◌∷◌, ◌++◌, length, Option, Some, None, Result, Ok, Err, refl, ap, sym, ◌∙◌, subst, arith}
-use Rattle.labelled_trees.specs.Trees.{Tree, Row, leaf, node, none, more}
+use Rattle.std.proofs.Common.{◌≡◌, ◌⊎◌, inl, inr, ℕ, zero, suc, ◌+◌, Bool, true, false, List, [], ◌∷◌, length, Option, Some, None, Result, Ok, Err, refl, ap, ◌∙◌}
+use Rattle.labelled_trees.specs.Trees.{Tree, leaf, node, none, more}
 use Rattle.labelled_trees.specs.Leaves.{leaf_count}
 use Rattle.symmetric_trees.specs.declared.generators.Generator.{Generator}
 use Rattle.presentation_text.specs.declared.kinds.DocKind.{DocKind}
@@ -9,7 +9,7 @@ use Rattle.presentation_text.specs.declared.kinds.DocKind.TheVariants.{InputCoun
 use Rattle.presentation_text.specs.declared.lexing.Token.{Token}
 use Rattle.presentation_text.specs.declared.lexing.Token.TheVariants.{Word, Number, Long, Byte, Bad}
 use Rattle.presentation_text.specs.Readings.{Fault, Reading, ◌>>=◌, is_mark, misplaced, first_row, refused}
-use Rattle.presentation_text.specs.TreeForms.{Inside, index_of, before_in, close_in, input_in, row_in, leaf_in, node_in, tree_or_end_in, tree_in}
+use Rattle.presentation_text.specs.TreeForms.{Inside, index_of, before_in, close_in, input_in, row_in, node_in, tree_or_end_in, tree_in}
 use Rattle.presentation_text.proofs.TreeTokens.{arity_in}
 use Rattle.presentation_text.proofs.TreesStopForms.{IsLocal, joined, local_joined, local_same, local_done, given, IsGiven, IsGoneInto, IsByToken, local_by_token, before_by_token, close_by_token}
 
