@@ -18,3 +18,13 @@ pub mod RelationLines
 pub mod DocumentLines
 pub mod DocumentReading
 pub mod OneDocument
+pub mod TreeFormsPlaces
+pub mod TreeFormsLeaves
+pub mod TreeFormsSteps
+pub mod TreesAcceptedTrees
+pub mod TreesAccepted
+pub mod TreesStopForms
+pub mod TreesStopTrees
+pub mod TreesStopLimits
+pub mod TreesGoOn
+pub mod TreesStop

@@ -36,7 +36,7 @@ pub use parts::{end_at, has_mark, mark_at, number_at, word_at};
 pub use presentations::read_document;
 pub use reading::{is_mark, read_tree, trees_are_read_once};
 pub use terms::{ElementAt, element_at};
-pub use trees::tree_at;
+pub use trees::{refused_trees_begin, tree_at, trees_are_accepted, trees_are_refused_rightly};
 pub use writing::{
     print_sum, print_tree, printed_sums_are_read_back, printed_trees_are_read_back, write_number,
     write_sum, write_tree,
