@@ -28,3 +28,11 @@ pub mod TreesStopTrees
 pub mod TreesStopLimits
 pub mod TreesGoOn
 pub mod TreesStop
+pub mod GeneratorTexts
+pub mod LineTexts
+pub mod PrintedStages
+pub mod PrintedGenerators
+pub mod PrintedTables
+pub mod PrintedFeeds
+pub mod PrintedDocuments
+pub mod PrintedWhole

@@ -87,13 +87,16 @@ ask_text p generators (Same left right) =
 
 -- ---- documents
 
+-- the header, the field and the order
+abbrev pub opening_text : Document → List ℕ
+opening_text document =
+    line_of (codes "operad") (decimal document.version ∷ []) ++ (line_of (codes "field") (decimal document.field ∷ []) ++ line_of (codes "order") (order_word document.order ∷ []))
+
 -- A document is printed line by line: the header, the field, the order, the generators with their weights, the relations and the questions.
 -- The numbers of lines and the tail aren't printed.
 abbrev pub document_text : Document → List ℕ
 document_text document =
-    line_of (codes "operad") (decimal document.version ∷ [])
-    ++ (line_of (codes "field") (decimal document.field ∷ [])
-    ++ (line_of (codes "order") (order_word document.order ∷ [])
+    opening_text document
     ++ (generators_text document.version document.gens document.weights
     ++ (flat_map (λ sum. relation_text document.field document.gens (terms_of sum)) document.rels
-    ++ flat_map (λ ask. ask_text document.field document.gens ask.kind) document.asks))))
+    ++ flat_map (λ ask. ask_text document.field document.gens ask.kind) document.asks))

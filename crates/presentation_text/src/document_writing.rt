@@ -1,14 +1,15 @@
 ghost use Rattle.std.specs.Prelude.{◌≡◌, ◌≤◌, ◌++◌, IfOk, OnOk, length};
-ghost use Rattle.std.specs.List.{All};
-ghost use Rattle.symmetric_sums.specs.Terms.{FitsOver};
+ghost use Rattle.std.specs.List.{All, flat_map};
+ghost use Rattle.symmetric_sums.specs.Terms.{FitsOver, terms_of};
 ghost use Rattle.presentation_text.specs.DocumentText as text;
 ghost use Rattle.presentation_text.specs.DraftForms.{AskFits};
 ghost use Rattle.presentation_text.specs.ReadBack.{PrintedDocumentsAreReadBack};
 
-use crate::document::{AskKind, Document, OrderName};
+use crate::document::{Ask, AskKind, Document, OrderName};
 use crate::writing::{write_number, write_sum};
 use prime_field::Field;
 use std::alloc::{AllocError, Global};
+use symmetric_sums::Sum;
 use symmetric_trees::{GenTable, Generator, Part, PartKind};
 
 fn order_word(order: OrderName) -> &'static str
@@ -146,7 +147,9 @@ fn write_ask(
 }
 
 // Puts the lines of the header, the field and the order behind `out`.
-fn write_opening(document: &Document, out: &mut Vec<u8>) -> Result<(), AllocError> {
+fn write_opening(document: &Document, out: &mut Vec<u8>) -> Result<(), AllocError>
+    ensures { OnOk result (out.new.items ≡ out.old.items ++ text.opening_text document.now) }
+{
     write_word("operad ", out)?;
     write_number(u64::from(document.version), out)?;
     write_word("\nfield ", out)?;
@@ -157,24 +160,50 @@ fn write_opening(document: &Document, out: &mut Vec<u8>) -> Result<(), AllocErro
     Ok(())
 }
 
-// Puts the lines of the relations behind `out`.
-fn write_relations(document: &Document, out: &mut Vec<u8>) -> Result<(), AllocError>
-    requires fit { All (FitsOver document.now.field document.now.gens) document.now.rels }
+// Puts the line of a relation behind `out`.
+fn write_relation(
+    field: Field,
+    table: &GenTable,
+    relation: &Sum,
+    out: &mut Vec<u8>,
+) -> Result<(), AllocError>
+    requires fits { FitsOver field table.now relation.now }
+    ensures { OnOk result (out.new.items ≡ out.old.items ++ text.relation_text field table.now (terms_of relation.now)) }
 {
-    for relation in document.rels.as_slice() {
-        write_word("rel ", out)?;
-        write_sum(document.field, &document.gens, relation, out)?;
-        out.push(b'\n')?;
+    write_word("rel ", out)?;
+    write_sum(field, table, relation, out)?;
+    out.push(b'\n')?;
+    Ok(())
+}
+
+// Puts the lines of the relations behind `out`.
+fn write_relations(
+    field: Field,
+    table: &GenTable,
+    relations: &[Sum],
+    out: &mut Vec<u8>,
+) -> Result<(), AllocError>
+    requires fit { All (FitsOver field table.now) relations.now }
+    ensures { OnOk result (out.new.items ≡ out.old.items ++ flat_map (λ sum. text.relation_text field table.now (terms_of sum)) relations.now) }
+{
+    for relation in relations {
+        write_relation(field, table, relation, out)?;
     }
     Ok(())
 }
 
 // Puts the lines of the questions behind `out`.
-fn write_asks(document: &Document, out: &mut Vec<u8>) -> Result<(), AllocError>
-    requires fit { All (λ ask. AskFits document.now.field document.now.gens ask.kind) document.now.asks }
+fn write_asks(
+    field: Field,
+    table: &GenTable,
+    asks: &[Ask],
+    out: &mut Vec<u8>,
+) -> Result<(), AllocError>
+    requires fit { All (λ ask. AskFits field table.now ask.kind) asks.now }
+    ensures { OnOk result (out.new.items ≡ out.old.items ++ flat_map (λ ask. text.ask_text field table.now ask.kind) asks.now) }
 {
-    for ask in document.asks.as_slice() {
-        write_ask(document.field, &document.gens, &ask.kind, out)?;
+    for ask in asks {
+        write_ask(field, table, &ask.kind, out)?;
     }
     Ok(())
 }
@@ -192,8 +221,18 @@ pub fn print_document(alloc: Global, document: &Document) -> Result<Vec<u8>, All
     let mut out = Vec::new(alloc);
     write_opening(document, &mut out)?;
     write_generators(document, &mut out)?;
-    write_relations(document, &mut out)?;
-    write_asks(document, &mut out)?;
+    write_relations(
+        document.field,
+        &document.gens,
+        document.rels.as_slice(),
+        &mut out,
+    )?;
+    write_asks(
+        document.field,
+        &document.gens,
+        document.asks.as_slice(),
+        &mut out,
+    )?;
     Ok(out)
 }
 
