@@ -19,3 +19,12 @@ pub mod DocumentLines
 pub mod DocumentReading
 pub mod OneDocument
 pub mod TreeFormsPlaces
+pub mod LineFormsStops
+pub mod LineFormsField
+pub mod Names
+pub mod FitsLonger
+pub mod LineFormsNumbers
+pub mod LineFormsTables
+pub mod LineFormsRead
+pub mod LineFormsParts
+pub mod LineFormsGenerators
