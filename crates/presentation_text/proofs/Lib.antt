@@ -28,3 +28,6 @@ pub mod LineFormsTables
 pub mod LineFormsRead
 pub mod LineFormsParts
 pub mod LineFormsGenerators
+pub mod DocumentFormsWords
+pub mod DocumentFormsLines
+pub mod DocumentFormsRest

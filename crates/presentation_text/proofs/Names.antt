@@ -10,14 +10,14 @@ use Rattle.symmetric_trees.specs.declared.generators.Generator.{Generator}
 use Rattle.presentation_text.specs.LineForms.{is_known}
 use Rattle.presentation_text.specs.TreeForms.{index_of, next_index}
 
-same_name : (a b : List ℕ) → a ≡ b → bytes_eq a b ≡ true
+pub same_name : (a b : List ℕ) → a ≡ b → bytes_eq a b ≡ true
 same_name a b e = (bytes_eq-Decides a b).1 e
 
-not_true : (b : Bool) → (b ≡ true → ⊥) → b ≡ false
+pub not_true : (b : Bool) → (b ≡ true → ⊥) → b ≡ false
 not_true true h = absurd (h refl)
 not_true false h = refl
 
-other_name : (a b : List ℕ) → (a ≡ b → ⊥) → bytes_eq a b ≡ false
+pub other_name : (a b : List ℕ) → (a ≡ b → ⊥) → bytes_eq a b ≡ false
 other_name a b e = not_true (bytes_eq a b) (λ k. e ((bytes_eq-Decides a b).0 k))
 
 -- the names of a table's generators are apart

@@ -19,4 +19,5 @@ pub mod LineForms
 pub mod DraftForms
 pub mod DocumentForms
 pub mod Presentations
+pub mod DocumentDrafts
 pub mod Laws

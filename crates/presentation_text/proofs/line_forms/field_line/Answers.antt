@@ -31,11 +31,13 @@ returns-in_err-end_at c =
 pub returns : goal.returns
 unfolding field_line
 returns c =
-    let some : is_prime c.in_ok-number.number ≡ true = prime_is c.in_ok-number.number c.in-Some.ensures.listed.0 in
-    (rw (c.in_ok-number.ensures.0, some, c.in_ok-end_at.ensures) (ap (λ p. Ok (record (told_of c.args.draft) { field = Some p; section = 2 })) (sym c.in-Some.ensures.listed.1)), record {
-      table = c.requires.sound.table;
-      no_sums = λ e. absurd cc;
-      relations = none_hold (FitsOver c.in-Some.field c.args.draft.gens) c.args.draft.rels (c.requires.sound.no_sums c.requires.first).0;
-      asks = none_hold (λ (ask : Ask). AskFits c.in-Some.field c.args.draft.gens ask.kind) c.args.draft.asks (c.requires.sound.no_sums c.requires.first).1;
-      weights = c.requires.sound.weights;
-    })
+    let some : is_prime c.in_ok-number.number ≡ true = prime_is c.in_ok-number.number c.in-Some.ensures.listed.0 in (
+      rw (c.in_ok-number.ensures.0, some, c.in_ok-end_at.ensures) (ap (λ p. Ok (record (told_of c.args.draft) { field = Some p; section = 2 })) (sym c.in-Some.ensures.listed.1)),
+      record {
+        table = c.requires.sound.table;
+        no_sums = λ e. absurd cc;
+        relations = none_hold (FitsOver c.in-Some.field c.args.draft.gens) c.args.draft.rels (c.requires.sound.no_sums c.requires.first).0;
+        asks = none_hold (λ (ask : Ask). AskFits c.in-Some.field c.args.draft.gens ask.kind) c.args.draft.asks (c.requires.sound.no_sums c.requires.first).1;
+        weights = c.requires.sound.weights;
+      },
+    )

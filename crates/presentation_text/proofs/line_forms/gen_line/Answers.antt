@@ -26,14 +26,16 @@ returns c =
     let old = c.args.draft.gens in
     let generator = c.in_ok-generator.generator in
     let longer : c.add.new.self ≡ old ++ generator ∷ [] = c.in-Ok.ensures.answer.0 in
-    let p = prime_of c.args.draft.field in
-    (rw c.in_ok-generator.ensures (
-      ap (λ generators. Ok (record (told_of c.args.draft) { generators = generators; weights = c.args.draft.weights ++ None ∷ []; section = 4 })) (sym longer)
-      ∙ ap (λ weights. Ok (record (told_of c.args.draft) { generators = c.add.new.self; weights = weights; section = 4 })) (sym c.in_ok-push.ensures.ok)
-    ), record {
-      table = subst IsTable (sym longer) (table-push old generator c.requires.sound.table c.in-Ok.ensures.answer.1);
-      no_sums = c.requires.sound.no_sums;
-      relations = sums_fit-longer p old c.add.new.self (generator ∷ []) longer c.args.draft.rels c.requires.sound.relations;
-      asks = asks_fit-longer p old c.add.new.self (generator ∷ []) longer c.args.draft.asks c.requires.sound.asks;
-      weights = ap length c.in_ok-push.ensures.ok ∙ length-append c.args.draft.weights (None ∷ []) ∙ ap (λ n. n + 1) c.requires.sound.weights ∙ sym (ap length longer ∙ length-append old (generator ∷ []));
-    })
+    let p = prime_of c.args.draft.field in (
+      rw c.in_ok-generator.ensures (
+          ap (λ generators. Ok (record (told_of c.args.draft) { generators = generators; weights = c.args.draft.weights ++ None ∷ []; section = 4 })) (sym longer)
+          ∙ ap (λ weights. Ok (record (told_of c.args.draft) { generators = c.add.new.self; weights = weights; section = 4 })) (sym c.in_ok-push.ensures.ok)
+          ),
+      record {
+        table = subst IsTable (sym longer) (table-push old generator c.requires.sound.table c.in-Ok.ensures.answer.1);
+        no_sums = c.requires.sound.no_sums;
+        relations = sums_fit-longer p old c.add.new.self (generator ∷ []) longer c.args.draft.rels c.requires.sound.relations;
+        asks = asks_fit-longer p old c.add.new.self (generator ∷ []) longer c.args.draft.asks c.requires.sound.asks;
+        weights = ap length c.in_ok-push.ensures.ok ∙ length-append c.args.draft.weights (None ∷ []) ∙ ap (λ n. n + 1) c.requires.sound.weights ∙ sym (ap length longer ∙ length-append old (generator ∷ []));
+      },
+    )

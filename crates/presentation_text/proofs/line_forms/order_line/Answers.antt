@@ -27,11 +27,13 @@ returns-in_err-end_at c =
 pub returns : goal.returns
 unfolding order_line
 returns c =
-    let some : order_named c.args.draft.version c.in_ok-name.name.now ≡ Some c.in-Some.order = sym (c.in-Some.ensures ∙ ap (order_named c.args.draft.version) c.as_str.ensures.bytes) in
-    (rw (c.in_ok-name.ensures.0, some, c.in_ok-end_at.ensures) refl, record {
-      table = c.requires.sound.table;
-      no_sums = c.requires.sound.no_sums;
-      relations = c.requires.sound.relations;
-      asks = c.requires.sound.asks;
-      weights = c.requires.sound.weights;
-    })
+    let some : order_named c.args.draft.version c.in_ok-name.name.now ≡ Some c.in-Some.order = sym (c.in-Some.ensures ∙ ap (order_named c.args.draft.version) c.as_str.ensures.bytes) in (
+      rw (c.in_ok-name.ensures.0, some, c.in_ok-end_at.ensures) refl,
+      record {
+        table = c.requires.sound.table;
+        no_sums = c.requires.sound.no_sums;
+        relations = c.requires.sound.relations;
+        asks = c.requires.sound.asks;
+        weights = c.requires.sound.weights;
+      },
+    )

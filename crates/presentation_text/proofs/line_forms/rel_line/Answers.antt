@@ -39,15 +39,17 @@ pub returns : goal.returns
 unfolding rel_line
 returns c =
     let fits = FitsOver (prime_of c.args.draft.field) c.args.draft.gens in
-    let room : nat_le 1000 (length (map terms_of c.args.draft.rels)) ≡ false = not_at_most 1000 _ (omega (arith, length-map c.args.draft.rels terms_of, c.len.ensures, c.if-len-ge-MOST_RELATIONS.false)) in
-    (rw (room, c.in_ok-element.ensures.read.reading_is, c.in_ok-end_at.ensures)
-    (ap (λ relations. Ok (record (told_of c.args.draft) { relations = relations; section = 5 }))
-    (ap (λ relation. map terms_of c.args.draft.rels ++ relation ∷ []) (ap (λ field. said (prime_of field) c.in_ok-element.ensures.read.terms) c.in-Some.is ∙ sym c.in_ok-element.ensures.read.sum_is)
-    ∙ sym (ap (map terms_of) c.in_ok-push.ensures.ok ∙ map-append terms_of c.args.draft.rels (c.in_ok-element.element.sum ∷ [])))), record {
-      table = c.requires.sound.table;
-      no_sums = λ e. let both : false ≡ true = subst (λ field. is_some field ≡ true) e c.requires.field in absurd cc;
-      relations = subst (All fits) (sym c.in_ok-push.ensures.ok) (All-push fits c.args.draft.rels c.in_ok-element.element.sum c.requires.sound.relations
-      (subst (λ field. FitsOver (prime_of field) c.args.draft.gens c.in_ok-element.element.sum) (sym c.in-Some.is) c.in_ok-element.ensures.fits));
-      asks = c.requires.sound.asks;
-      weights = c.requires.sound.weights;
-    })
+    let room : nat_le 1000 (length (map terms_of c.args.draft.rels)) ≡ false = not_at_most 1000 _ (omega (arith, length-map c.args.draft.rels terms_of, c.len.ensures, c.if-len-ge-MOST_RELATIONS.false)) in (
+      rw (room, c.in_ok-element.ensures.read.reading_is, c.in_ok-end_at.ensures)
+          (ap (λ relations. Ok (record (told_of c.args.draft) { relations = relations; section = 5 }))
+          (ap (λ relation. map terms_of c.args.draft.rels ++ relation ∷ []) (ap (λ field. said (prime_of field) c.in_ok-element.ensures.read.terms) c.in-Some.is ∙ sym c.in_ok-element.ensures.read.sum_is)
+          ∙ sym (ap (map terms_of) c.in_ok-push.ensures.ok ∙ map-append terms_of c.args.draft.rels (c.in_ok-element.element.sum ∷ [])))),
+      record {
+        table = c.requires.sound.table;
+        no_sums = λ e. let both : false ≡ true = subst (λ field. is_some field ≡ true) e c.requires.field in absurd cc;
+        relations = subst (All fits) (sym c.in_ok-push.ensures.ok) (All-push fits c.args.draft.rels c.in_ok-element.element.sum c.requires.sound.relations
+            (subst (λ field. FitsOver (prime_of field) c.args.draft.gens c.in_ok-element.element.sum) (sym c.in-Some.is) c.in_ok-element.ensures.fits));
+        asks = c.requires.sound.asks;
+        weights = c.requires.sound.weights;
+      },
+    )

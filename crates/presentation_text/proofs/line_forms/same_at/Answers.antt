@@ -44,6 +44,6 @@ returns c = (
     c.in_ok-left.ensures.read.sum_is,
     c.in_ok-right.ensures.read.sum_is,
   )
-  refl,
+      refl,
   (c.in_ok-left.ensures.fits, c.in_ok-right.ensures.fits),
 )

@@ -77,12 +77,14 @@ returns c =
     let untaken : is_weighed c.in-Some.generator c.args.draft.weights ≡ false =
     weighed_is c.in-Some.generator c.args.draft.weights None (omega (arith, c.requires.sound.weights, c.in-Some.ensures.found.0))
     ∙ ap (λ weights. is_some (get_or weights c.in-Some.generator None)) (sym c.as_slice.ensures) ∙ sym c.if-is_some.ensures in
-    let small : nat_lt 1000000 c.in_ok-weight.weight ≡ false = not_below 1000000 _ c.if-weight-gt-GREATEST_WEIGHT.false in
-    (rw (c.in_ok-name.ensures.0, known, untaken, c.in_ok-weight.ensures.0, small, c.in_ok-end_at.ensures)
-    (ap (λ weights. Ok (record (told_of c.args.draft) { weights = weights; section = 4 })) (weighed_set c.in-Some.generator c.in_ok-weight.weight c.args.draft.weights ∙ sym c.set.ensures)), record {
-      table = c.requires.sound.table;
-      no_sums = c.requires.sound.no_sums;
-      relations = c.requires.sound.relations;
-      asks = c.requires.sound.asks;
-      weights = ap length c.set.ensures ∙ length-set c.args.draft.weights c.in-Some.generator (Some c.in_ok-weight.weight) ∙ c.requires.sound.weights;
-    })
+    let small : nat_lt 1000000 c.in_ok-weight.weight ≡ false = not_below 1000000 _ c.if-weight-gt-GREATEST_WEIGHT.false in (
+      rw (c.in_ok-name.ensures.0, known, untaken, c.in_ok-weight.ensures.0, small, c.in_ok-end_at.ensures)
+          (ap (λ weights. Ok (record (told_of c.args.draft) { weights = weights; section = 4 })) (weighed_set c.in-Some.generator c.in_ok-weight.weight c.args.draft.weights ∙ sym c.set.ensures)),
+      record {
+        table = c.requires.sound.table;
+        no_sums = c.requires.sound.no_sums;
+        relations = c.requires.sound.relations;
+        asks = c.requires.sound.asks;
+        weights = ap length c.set.ensures ∙ length-set c.args.draft.weights c.in-Some.generator (Some c.in_ok-weight.weight) ∙ c.requires.sound.weights;
+      },
+    )
