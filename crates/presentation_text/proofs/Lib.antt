@@ -31,3 +31,4 @@ pub mod LineFormsGenerators
 pub mod DocumentFormsWords
 pub mod DocumentFormsLines
 pub mod DocumentFormsRest
+pub mod DocumentFormsOnce

@@ -157,11 +157,15 @@ all_parts_in arity sum ts = do
   others ← parts_in (length part.1) arity (sum + (part.0).size) part.1
   Ok (part.0 ∷ others)
 
+-- what stands against the name of a generator
+abbrev pub name_fault : List Generator → List ℕ → Option DocKind
+name_fault generators name = first_row ((nat_lt 16 (length name), NameBad) ∷ (is_known name generators, NameTaken) ∷ [])
+
 -- the name and the arity of a `gen` line
 unfoldable pub named_arity_in : List Generator → List Token → Reading (List ℕ × ℕ)
 named_arity_in generators ts = refused (suc (length ts)) (first_row ((nat_le 12 (length generators), TooManyGens) ∷ [])) (do
   w ← word_in ts
-  n ← refused (suc (length w.1)) (first_row ((nat_lt 16 (length w.0), NameBad) ∷ (is_known w.0 generators, NameTaken) ∷ [])) (number_in w.1)
+  n ← refused (suc (length w.1)) (name_fault generators w.0) (number_in w.1)
   refused (suc (length n.1)) (first_row ((not (is_arity n.0), ArityOut) ∷ [])) (Ok ((w.0, n.0), n.1)))
 
 -- a symmetry in version 1, and parts in version 2

@@ -29,7 +29,7 @@ pub use lexing::{Token, tokens, tokens_are_defined, words_are_words};
 pub use line_fail::LineFail;
 pub use lines::{counts, lines_are_defined, next_line};
 pub use opening::{is_word, read_table, skip_opening};
-pub use presentations::read_document;
+pub use presentations::{read_document, texts_are_read_or_refused};
 pub use reading::{is_mark, read_tree, trees_are_read_once};
 pub use terms::{ElementAt, element_at};
 pub use trees::tree_at;

@@ -3,6 +3,7 @@ ghost use Rattle.std.specs.Option.{is_some};
 ghost use Rattle.presentation_text.specs.DraftForms.{AskFits, GivesAsk, GivesDraft, IsSound, asked_kind, told_of};
 ghost use Rattle.presentation_text.specs.LineForms as spec;
 ghost use Rattle.presentation_text.specs.Readings.{StopsAs};
+ghost use Rattle.symmetric_trees.specs.Generators.{IsTable};
 ghost use Rattle.presentation_text.specs.declared.kinds.PartFail.TheVariants.{NoMemory};
 
 use crate::document::{Ask, AskKind, OrderName};
@@ -171,6 +172,27 @@ fn parts_at(alloc: Global, arity: u8, tokens: &[Token], at: usize) -> Result<Ite
     Ok(parts)
 }
 
+fn is_taken(table: &GenTable, name: &str) -> bool
+    requires table { IsTable table.now }
+    ensures { result ≡ spec.is_known name.now table.now }
+{
+    table.find(name).is_some()
+}
+
+// What stands against the name of a generator.
+fn name_fault(table: &GenTable, name: &str) -> Option<DocKind>
+    requires table { IsTable table.now }
+    ensures { result ≡ spec.name_fault table.now name.now }
+{
+    if name.len() > LONGEST_NAME {
+        return Some(DocKind::NameBad);
+    }
+    if is_taken(table, name) {
+        return Some(DocKind::NameTaken);
+    }
+    None
+}
+
 // The name and the arity of a `gen` line.
 fn named_arity<'a>(table: &GenTable, tokens: &'a [Token]) -> Result<(&'a Name, u8), PartFail>
     requires word { 1 ≤ length tokens.now }
@@ -181,11 +203,8 @@ fn named_arity<'a>(table: &GenTable, tokens: &'a [Token]) -> Result<(&'a Name, u
         return fail(0, DocKind::TooManyGens);
     }
     let name = word_at(tokens, 1)?;
-    if name.as_str().len() > LONGEST_NAME {
-        return fail(1, DocKind::NameBad);
-    }
-    if table.find(name.as_str()).is_some() {
-        return fail(1, DocKind::NameTaken);
+    if let Some(kind) = name_fault(table, name.as_str()) {
+        return fail(1, kind);
     }
     let arity = number_at(tokens, 2)?;
     if arity < 2 || arity > 6 {

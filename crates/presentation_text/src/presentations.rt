@@ -6,6 +6,7 @@ ghost use Rattle.symmetric_sums.specs.Terms.{FitsOver};
 ghost use Rattle.presentation_text.specs.DocumentDrafts.{HasBoth, IsBehind, IsPresentationRead, IsRestFrom, StopsAtLine, tail_of};
 ghost use Rattle.presentation_text.specs.DocumentForms as spec;
 ghost use Rattle.presentation_text.specs.DraftForms.{AskFits, GivesDraft, IsSound, told_of};
+ghost use Rattle.presentation_text.specs.Laws.{DocumentsAreDetermined};
 ghost use Rattle.presentation_text.specs.LineForms.{rest_of_line, told_by_header, word_fault};
 ghost use Rattle.presentation_text.specs.Lines.{lines as lines_of};
 ghost use Rattle.presentation_text.specs.Presentations.{IsReadAs, IsRefused, Says, weight_or_none};
@@ -261,7 +262,32 @@ fn all_weights(alloc: Global, weights: &Items<Option<u32>>) -> Result<Items<u32>
     Ok(all)
 }
 
-/// The document that a text of at most 16,777,216 bytes says. ...
+/// The document that a text of at most 16,777,216 bytes says, up to the first line of its tail: a line that begins with `want`
+/// or `cert`. `tail` names that line and the place of its first byte; the lines from there on aren't read.
+///
+/// A line of blanks (space, tab, carriage return) alone and a line whose first other byte is `#` are passed over, but numbered.
+/// The others are, in this order: the header `operad 1` or `operad 2`, which is the version; `field P`, with P one of 3, 5, 7,
+/// 101, 32003 and 65537; `order NAME`, with NAME `path`, `pathshort`, `leafpath`, or in version 2 `weightpath`; generators,
+/// `gen NAME ARITY SYMMETRY` in version 1 with `sym`, `alt` or `reg`, and `gen NAME ARITY PART ..` in version 2, where each part is
+/// `sym`, `alt` or `free` and its size, mixed in version 2 with weights, `weight NAME W`; relations, `rel ELEMENT`; questions,
+/// `query ELEMENT` and `same ELEMENT = ELEMENT`; and the tail. A generator without a weight has the weight 0. Elements are those
+/// of `element_at`.
+///
+/// `At` names the first line that is refused and its kind; a line that is missing is the one behind the last. `Header`: the first
+/// line that isn't passed over is no header, or there is none. For each further line the first of these counts: `Directive`, no
+/// line begins so; `Missing`, no field stands and the line isn't `field`, or a field and no order, and the line is neither;
+/// `Directive`, the line's section is before that of the last line, or it is a second `field` or `order`; `Block`, it begins with
+/// `step`, `use`, `end`, `elem`, `row`, `relabel` or `red`, which stand in a tail alone. Then the first token that is refused
+/// counts, and where several kinds hold at it, the first of these: `TooManyRelations` at `rel` behind 1,000 relations;
+/// `TooManyGens` at `gen` behind 12 generators; `NumberLong` for more than 18 digits; `FieldUnknown`, `OrderUnknown`; `NameBad`
+/// for a generator's name of more than 16 bytes; `NameTaken`; `ArityOut` for an arity outside 2 to 6; `NameUnknown`;
+/// `WeightTaken` where the generator has a weight; `WeightOut` for one above 1,000,000; `PartsOut` for a size of 0, or one with
+/// which the sizes are more than the arity, or at the end of the line where they are less; those of a tree, as `tree_at` has
+/// them; `ArityOut` for a relation's tree that is a leaf; `MixedArity` for a tree of another arity than the first one of its
+/// element or of its `same` line; `Syntax` for any other token that can't stand there, or the end of the line before it is whole.
+/// At the end of the text `Missing` comes where no field or no order stands.
+///
+/// `NoMemory` comes for want of memory alone.
 pub fn read_document(alloc: Global, bytes: &[u8]) -> Result<Document, ReadDocFail>
     requires short { length bytes.now ≤ 16777216 }
     ensures document { MatchResult result (IsReadAs bytes.now) (IsRefused bytes.now) }
@@ -277,3 +303,8 @@ pub fn read_document(alloc: Global, bytes: &[u8]) -> Result<Document, ReadDocFai
         Err(_) => Err(ReadDocFail::NoMemory),
     }
 }
+
+/// Law: a text is accepted, as documents that say the same, or refused, for one line and one kind.
+pub fn texts_are_read_or_refused()
+    ensures law { DocumentsAreDetermined }
+{}
