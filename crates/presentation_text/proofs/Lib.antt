@@ -32,3 +32,5 @@ pub mod DocumentFormsWords
 pub mod DocumentFormsLines
 pub mod DocumentFormsRest
 pub mod DocumentFormsOnce
+pub mod ToldForms
+pub mod ToldLines

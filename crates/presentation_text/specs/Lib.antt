@@ -20,4 +20,5 @@ pub mod DraftForms
 pub mod DocumentForms
 pub mod Presentations
 pub mod DocumentDrafts
+pub mod WellFormed
 pub mod Laws
