@@ -12,7 +12,7 @@ use Rattle.symmetric_trees.specs.declared.generators.Generator.{Generator}
 use Rattle.symmetric_sums.specs.Terms.{terms_of}
 use Rattle.symmetric_sums.specs.Membership.{IsElement}
 use Rattle.presentation_text.specs.Presentations.{IsReadAs}
-use Rattle.presentation_text.specs.ReadBack.{IsSaidOver, IsWellFormed}
+use Rattle.presentation_text.specs.ReadBack.{IsSaidOver, IsWritable as IsWritableDocument}
 use Rattle.presentation_text.specs.declared.document.Document.{Document}
 use Rattle.certificate_text.specs.Plain.{plain_block, plain_step}
 use Rattle.certificate_text.specs.Tails.{AreReadAs}
@@ -45,7 +45,7 @@ all_images f P Q h [] all k d l = absurd (omega (arith, l))
 all_images f P Q h (x ∷ xs) all zero d l = h x (all 0 (f x) (omega arith))
 all_images f P Q h (x ∷ xs) all (suc k) d l = all_images f P Q h xs (λ j c s. all (suc j) c (omega (arith, s))) k d (omega (arith, l))
 
-block_elements : (document : Document) → IsWellFormed document → (block : Block) → IsWritable document.field document.gens (plain_block block) → AreElements document.gens document.rels block.want block.steps
+block_elements : (document : Document) → IsWritableDocument document → (block : Block) → IsWritable document.field document.gens (plain_block block) → AreElements document.gens document.rels block.want block.steps
 block_elements document formed block h =
     let p = document.field in
     let gens = document.gens in
@@ -56,12 +56,12 @@ block_elements document formed block h =
     }
 
 -- the wanted elements of blocks that hold are in the ideal
-all_members : (document : Document) (blocks : List Block) → IsWellFormed document → All (IsWritable document.field document.gens) (map plain_block blocks) → All (Holds document) blocks → All (IsMember document) blocks
+all_members : (document : Document) (blocks : List Block) → IsWritableDocument document → All (IsWritable document.field document.gens) (map plain_block blocks) → All (Holds document) blocks → All (IsMember document) blocks
 all_members document blocks formed writable held k d l =
     let elements = all_images plain_block (IsWritable document.field document.gens) (λ block. AreElements document.gens document.rels block.want block.steps) (block_elements document formed) blocks writable in
     held_blocks document.field document.gens document.rels _ _ (field_positive document.field formed.field) (elements k d l) (held k d l)
 
-pub accepted : (bytes : List ℕ) (document : Document) (blocks : List Block) (text : List ℕ) → IsReadAs bytes document → IsWellFormed document → AreReadAs bytes document blocks
+pub accepted : (bytes : List ℕ) (document : Document) (blocks : List Block) (text : List ℕ) → IsReadAs bytes document → IsWritableDocument document → AreReadAs bytes document blocks
     → All (IsWritable document.field document.gens) (map plain_block blocks) → All (Holds document) blocks
     → text ≡ line (codes "accepted " ++ decimal (length blocks)) → IsAccepted bytes text
 accepted bytes document blocks text h formed r writable held e = record {

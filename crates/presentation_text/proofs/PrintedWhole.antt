@@ -1,4 +1,4 @@
--- The text of a well-formed document is read back to the same.
+-- The text of a writable document is read back to the same.
 use Rattle.std.proofs.Common.{◌≡◌, ◌≢◌, ℕ, zero, suc, ◌+◌, ◌^◌, ◌<◌, ◌≤◌, ◌⊎◌, inl, inr, ⊎_elim, true, Bool, List, [], ◌∷◌, ◌++◌, length, map, codes, get_or, Option, Some, None, Ok, refl, ap, ap₂, sym, ◌∙◌, subst, arith, append-nil, append_assoc}
 use Rattle.std.specs.List.{All, AllByRecursion, flat_map}
 use Rattle.std.specs.Bool.{IsTrue}
@@ -19,7 +19,7 @@ use Rattle.presentation_text.specs.Grammar.{numbered_tokens, a_field, an_order, 
 use Rattle.presentation_text.specs.LineForms.{Told, told_by_header, is_prime, order_named}
 use Rattle.presentation_text.specs.Lines.{HasNoFeed, lines}
 use Rattle.presentation_text.specs.Presentations.{weight_or_none}
-use Rattle.presentation_text.specs.ReadBack.{IsWellFormed, IsOfVersionOne, SayAgain, IsReadBack}
+use Rattle.presentation_text.specs.ReadBack.{IsWritable, IsOfVersionOne, SayAgain, IsReadBack}
 use Rattle.presentation_text.specs.TreeText.{HasWords}
 use Rattle.presentation_text.specs.Tokens.{IsWord, tokens}
 use Rattle.presentation_text.proofs.LineTexts.{no_feed-word, no_feed-decimal}
@@ -70,7 +70,7 @@ no_feed-order WeightPath = no_feed-word (order_word WeightPath) (refl, refl)
 regroup : (a b c rest : List ℕ) → (a ++ (b ++ c)) ++ rest ≡ a ++ (b ++ (c ++ rest))
 regroup a b c rest = append_assoc a (b ++ c) rest ∙ ap (λ xs. a ++ xs) (append_assoc b c rest)
 
-module _ (document : Document) (formed : IsWellFormed document) where
+module _ (document : Document) (formed : IsWritable document) where
   abbrev version : ℕ
   version = document.version
 

@@ -1,6 +1,7 @@
 -- What a draft says, and what functions on it give.
-use Rattle.std.specs.Prelude.{ℕ, ◌≡◌, List, length, map, Result, Ok, Err, Option, Some, None}
+use Rattle.std.specs.Prelude.{ℕ, ◌≡◌, List, [], length, map, Result, Ok, Err, Option, Some, None}
 use Rattle.std.specs.List.{All}
+use Rattle.symmetric_trees.specs.Generators.{IsTable}
 use Rattle.symmetric_trees.specs.declared.generators.Generator.{Generator}
 use Rattle.symmetric_sums.specs.Terms.{FitsOver, terms_of}
 use Rattle.presentation_text.specs.declared.document.Ask.{Ask}
@@ -39,8 +40,11 @@ abbrev pub AskFits : ℕ → List Generator → AskKind → Type 0
 AskFits p generators (Query sum) = FitsOver p generators sum
 AskFits p generators (Same left right) = FitsOver p generators left × FitsOver p generators right
 
--- A draft holds together: its sums fit its field and its generators, and it has one place for a weight for each generator.
+-- A draft holds together: its generators are a table, its sums fit its field and the table, it has none before it has a field,
+-- and it has one place for a weight for each generator.
 pub record IsSound (draft : Draft) : Type 0 where
+  pub table : IsTable draft.gens
+  pub no_sums : draft.field ≡ None → (draft.rels ≡ []) × (draft.asks ≡ [])
   pub relations : All (FitsOver (prime_of draft.field) draft.gens) draft.rels
   pub asks : All (λ ask. AskFits (prime_of draft.field) draft.gens ask.kind) draft.asks
   pub weights : length draft.weights ≡ length draft.gens

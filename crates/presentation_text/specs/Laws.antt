@@ -1,5 +1,5 @@
 -- What holds of lines, tokens and the tokens of trees.
-use Rattle.std.specs.Prelude.{ℕ, ◌≡◌, ◌<◌, ◌^◌, ◌↔◌, List, ◌++◌, map, Option}
+use Rattle.std.specs.Prelude.{ℕ, ◌≡◌, ◌<◌, ◌^◌, ◌↔◌, ◌⊎◌, List, ◌++◌, map, Option, Ok}
 use Rattle.modular_sums.specs.Lists.{Mem}
 use Rattle.prime_field.specs.Primes.{IsFieldPrime}
 use Rattle.labelled_trees.specs.Trees.{Tree}
@@ -7,7 +7,14 @@ use Rattle.labelled_trees.specs.Leaves.{AllLeaves}
 use Rattle.symmetric_trees.specs.Generators.{IsTable}
 use Rattle.symmetric_trees.specs.Trees.{Fits}
 use Rattle.symmetric_trees.specs.declared.generators.Generator.{Generator}
+use Rattle.symmetric_sums.specs.Terms.{terms_of}
+use Rattle.presentation_text.specs.declared.document.Document.{Document}
+use Rattle.presentation_text.specs.declared.kinds.DocFail.{DocFail}
+use Rattle.presentation_text.specs.declared.kinds.ReadDocFail.TheVariants.{At}
 use Rattle.presentation_text.specs.declared.lexing.Token.{Token}
+use Rattle.presentation_text.specs.DocumentForms.{Whole, read_text}
+use Rattle.presentation_text.specs.DraftForms.{asked}
+use Rattle.presentation_text.specs.Presentations.{IsReadAs, IsRefused}
 use Rattle.presentation_text.specs.Lines.{AreLines, lines}
 use Rattle.presentation_text.specs.declared.lexing.Token.TheVariants.{Word}
 use Rattle.presentation_text.specs.Tokens.{AreTokens, IsWord, tokens}
@@ -55,3 +62,24 @@ pub record PrintedSumsLaw (p : ℕ) (generators : List Generator) : Type 0 where
 
 abbrev pub PrintedSumsAreReadBack : Type 0
 PrintedSumsAreReadBack = (p : ℕ) (generators : List Generator) → IsFieldPrime p → IsTable generators → HasWords generators → PrintedSumsLaw p generators
+
+-- The documents say the same, and their tails begin at the same place of the text.
+pub record SayTheSame (document other : Document) : Type 0 where
+  pub version : document.version ≡ other.version
+  pub field : document.field ≡ other.field
+  pub order : document.order ≡ other.order
+  pub generators : document.gens ≡ other.gens
+  pub weights : document.weights ≡ other.weights
+  pub relations : map terms_of document.rels ≡ map terms_of other.rels
+  pub asks : map asked document.asks ≡ map asked other.asks
+  pub tail : document.tail ≡ other.tail
+
+-- A text is accepted, and then all documents as which it may be read say the same; or it is refused, for one line and one kind; and never both.
+pub record DocumentsLaw (bytes : List ℕ) : Type 0 where
+  pub either : ((whole : Whole) × (read_text bytes ≡ Ok whole)) ⊎ ((fail : DocFail) × IsRefused bytes (At fail))
+  pub one_document : (document other : Document) → IsReadAs bytes document → IsReadAs bytes other → SayTheSame document other
+  pub one_fault : (fail other : DocFail) → IsRefused bytes (At fail) → IsRefused bytes (At other) → fail ≡ other
+  pub never_both : (document : Document) (fail : DocFail) → IsReadAs bytes document → IsRefused bytes (At fail) → ⊥
+
+abbrev pub DocumentsAreDetermined : Type 0
+DocumentsAreDetermined = (bytes : List ℕ) → DocumentsLaw bytes

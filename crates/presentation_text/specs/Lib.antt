@@ -22,4 +22,6 @@ pub mod Presentations
 pub mod Grammar
 pub mod DocumentText
 pub mod ReadBack
+pub mod DocumentDrafts
+pub mod WellFormed
 pub mod Laws

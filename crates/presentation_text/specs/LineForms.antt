@@ -150,20 +150,44 @@ parts_in (suc most) arity sum (token ∷ rest) = do
   others ← parts_in most arity (sum + (part.0).size) part.1
   Ok (part.0 ∷ others)
 
--- the parts in version 2, one at least
-unfoldable pub all_parts_in : ℕ → List Token → Result (List Part) Fault
-all_parts_in arity ts = do
-  part ← part_in arity 0 ts
-  others ← parts_in (length part.1) arity (part.0).size part.1
+-- the parts in version 2, one at least, where the sizes before add up to `sum`
+unfoldable pub all_parts_in : ℕ → ℕ → List Token → Result (List Part) Fault
+all_parts_in arity sum ts = do
+  part ← part_in arity sum ts
+  others ← parts_in (length part.1) arity (sum + (part.0).size) part.1
   Ok (part.0 ∷ others)
 
--- `gen NAME ARITY SYMMETRY`, or `gen NAME ARITY PART` with further parts in version 2
-unfoldable pub gen_line : Told → List Token → Result Told Fault
-gen_line told ts = refused (suc (length ts)) (first_row ((nat_le 12 (length told.generators), TooManyGens) ∷ [])) (do
+-- what stands against the name of a generator
+abbrev pub name_fault : List Generator → List ℕ → Option DocKind
+name_fault generators name = first_row ((nat_lt 16 (length name), NameBad) ∷ (is_known name generators, NameTaken) ∷ [])
+
+-- the name and the arity of a `gen` line
+unfoldable pub named_arity_in : List Generator → List Token → Reading (List ℕ × ℕ)
+named_arity_in generators ts = refused (suc (length ts)) (first_row ((nat_le 12 (length generators), TooManyGens) ∷ [])) (do
   w ← word_in ts
-  n ← refused (suc (length w.1)) (first_row ((nat_lt 16 (length w.0), NameBad) ∷ (is_known w.0 told.generators, NameTaken) ∷ [])) (number_in w.1)
-  parts ← refused (suc (length n.1)) (first_row ((not (is_arity n.0), ArityOut) ∷ [])) (if told.version == 2 then all_parts_in n.0 n.1 else symmetry_in n.0 n.1)
-  Ok (record told { generators = told.generators ++ record { name = w.0; arity = n.0; parts = parts } ∷ []; weights = told.weights ++ None ∷ []; section = 4 }))
+  n ← refused (suc (length w.1)) (name_fault generators w.0) (number_in w.1)
+  refused (suc (length n.1)) (first_row ((not (is_arity n.0), ArityOut) ∷ [])) (Ok ((w.0, n.0), n.1)))
+
+-- a symmetry in version 1, and parts in version 2
+abbrev pub inputs_in : ℕ → ℕ → List Token → Result (List Part) Fault
+inputs_in version arity ts = if version == 2 then all_parts_in arity 0 ts else symmetry_in arity ts
+
+-- the generator of a `gen` line: `NAME ARITY SYMMETRY`, or in version 2 `NAME ARITY PART` with any number of further parts
+unfoldable pub generator_in : ℕ → List Generator → List Token → Result Generator Fault
+generator_in version generators ts = do
+  named ← named_arity_in generators ts
+  parts ← inputs_in version (named.0).1 named.1
+  Ok (record { name = (named.0).0; arity = (named.0).1; parts = parts })
+
+-- a generator without a weight joins the others
+abbrev pub with_generator : Told → Generator → Told
+with_generator told generator = record told { generators = told.generators ++ generator ∷ []; weights = told.weights ++ None ∷ []; section = 4 }
+
+-- `gen GENERATOR`
+unfoldable pub gen_line : Told → List Token → Result Told Fault
+gen_line told ts = do
+  generator ← generator_in told.version told.generators ts
+  Ok (with_generator told generator)
 
 -- whether generator g has a weight already
 abbrev pub is_weighed : ℕ → List (Option ℕ) → Bool

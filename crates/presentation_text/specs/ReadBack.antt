@@ -47,7 +47,7 @@ pub record IsOfVersionOne (document : Document) : Type 0 where
   pub no_weight_order : document.order ≢ WeightPath
 
 -- A document as it may be read.
-pub record IsWellFormed (document : Document) : Type 0 where
+pub record IsWritable (document : Document) : Type 0 where
   pub version : (document.version ≡ 2) ⊎ ((document.version ≡ 1) × IsOfVersionOne document)
   pub field : IsFieldPrime document.field
   pub table : IsTable document.gens
@@ -77,8 +77,8 @@ pub record IsReadBack (document : Document) : Type 0 where
 
 -- A document that was read is well formed, and its text is read back, whatever its length.
 pub record ReadBackLaw (document : Document) : Type 0 where
-  pub well_formed : (bytes : List ℕ) → IsReadAs bytes document → IsWellFormed document
-  pub read_back : IsWellFormed document → IsReadBack document
+  pub well_formed : (bytes : List ℕ) → IsReadAs bytes document → IsWritable document
+  pub read_back : IsWritable document → IsReadBack document
 
 abbrev pub PrintedDocumentsAreReadBack : Type 0
 PrintedDocumentsAreReadBack = (document : Document) → ReadBackLaw document

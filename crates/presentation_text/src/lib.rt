@@ -33,7 +33,7 @@ pub use line_words::is_unknown;
 pub use lines::{counts, lines_are_defined, next_line};
 pub use opening::{is_word, read_table, skip_opening};
 pub use parts::{end_at, has_mark, mark_at, number_at, word_at};
-pub use presentations::read_document;
+pub use presentations::{read_document, texts_are_read_or_refused};
 pub use reading::{is_mark, read_tree, trees_are_read_once};
 pub use terms::{ElementAt, element_at};
 pub use trees::{refused_trees_begin, tree_at, trees_are_accepted, trees_are_refused_rightly};

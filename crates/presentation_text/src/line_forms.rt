@@ -1,8 +1,9 @@
-ghost use Rattle.std.specs.Prelude.{◌≡◌, ◌≤◌, ◌<◌, ◌+◌, ℕ, IfOk, IsTrue, Some, drop, length, MatchResult, Ok};
+ghost use Rattle.std.specs.Prelude.{◌≡◌, ◌≤◌, ◌<◌, ◌+◌, ℕ, IfOk, IsTrue, Some, drop, length, MatchResult, Ok, Err, None};
 ghost use Rattle.std.specs.Option.{is_some};
 ghost use Rattle.presentation_text.specs.DraftForms.{AskFits, GivesAsk, GivesDraft, IsSound, asked_kind, told_of};
 ghost use Rattle.presentation_text.specs.LineForms as spec;
 ghost use Rattle.presentation_text.specs.Readings.{StopsAs};
+ghost use Rattle.symmetric_trees.specs.Generators.{IsTable};
 ghost use Rattle.presentation_text.specs.declared.kinds.PartFail.TheVariants.{NoMemory};
 
 use crate::document::{Ask, AskKind, OrderName};
@@ -24,7 +25,9 @@ const MOST_GENERATORS: u16 = 12;
 
 const GREATEST_WEIGHT: u64 = 1_000_000;
 
-fn fail<T>(token: usize, kind: DocKind) -> Result<T, PartFail> {
+fn fail<T>(token: usize, kind: DocKind) -> Result<T, PartFail>
+    ensures { result ≡ Err (PartFail.At token kind) }
+{
     Err(PartFail::At { token, kind })
 }
 
@@ -34,6 +37,7 @@ fn fail<T>(token: usize, kind: DocKind) -> Result<T, PartFail> {
 pub(crate) fn field_line(draft: Draft, tokens: &[Token]) -> Result<Draft, PartFail>
     requires word { 1 ≤ length tokens.now }
     requires sound { IsSound draft }
+    requires first { draft.field ≡ None }
     ensures { GivesDraft tokens.now (spec.field_line (told_of draft) (drop 1 tokens.now)) result }
 {
     let number = number_at(tokens, 1)?;
@@ -147,8 +151,8 @@ fn part_at(arity: u8, sum: u8, tokens: &[Token], at: usize) -> Result<Part, Part
 // The parts of version 2, one at least, to the end of the line.
 fn parts_at(alloc: Global, arity: u8, tokens: &[Token], at: usize) -> Result<Items<Part>, PartFail>
     requires within { at ≤ length tokens.now }
-    ensures { MatchResult result (λ parts. spec.all_parts_in arity (drop at tokens.now) ≡ Ok parts)
-        (StopsAs tokens.now (spec.all_parts_in arity (drop at tokens.now))) }
+    ensures { MatchResult result (λ parts. spec.all_parts_in arity 0 (drop at tokens.now) ≡ Ok parts)
+        (StopsAs tokens.now (spec.all_parts_in arity 0 (drop at tokens.now))) }
 {
     let mut parts = Items::new(alloc);
     let mut sum = 0;
@@ -168,19 +172,39 @@ fn parts_at(alloc: Global, arity: u8, tokens: &[Token], at: usize) -> Result<Ite
     Ok(parts)
 }
 
+fn is_taken(table: &GenTable, name: &str) -> bool
+    requires table { IsTable table.now }
+    ensures { result ≡ spec.is_known name.now table.now }
+{
+    table.find(name).is_some()
+}
+
+// What stands against the name of a generator.
+fn name_fault(table: &GenTable, name: &str) -> Option<DocKind>
+    requires table { IsTable table.now }
+    ensures { result ≡ spec.name_fault table.now name.now }
+{
+    if name.len() > LONGEST_NAME {
+        return Some(DocKind::NameBad);
+    }
+    if is_taken(table, name) {
+        return Some(DocKind::NameTaken);
+    }
+    None
+}
+
 // The name and the arity of a `gen` line.
 fn named_arity<'a>(table: &GenTable, tokens: &'a [Token]) -> Result<(&'a Name, u8), PartFail>
     requires word { 1 ≤ length tokens.now }
+    ensures { MatchResult result (λ found. (spec.named_arity_in table.now (drop 1 tokens.now) ≡ Ok ((found.0.now, found.1), drop 3 tokens.now)) × (2 < length tokens.now))
+        (StopsAs tokens.now (spec.named_arity_in table.now (drop 1 tokens.now))) }
 {
     if table.len() >= MOST_GENERATORS {
         return fail(0, DocKind::TooManyGens);
     }
     let name = word_at(tokens, 1)?;
-    if name.as_str().len() > LONGEST_NAME {
-        return fail(1, DocKind::NameBad);
-    }
-    if table.find(name.as_str()).is_some() {
-        return fail(1, DocKind::NameTaken);
+    if let Some(kind) = name_fault(table, name.as_str()) {
+        return fail(1, kind);
     }
     let arity = number_at(tokens, 2)?;
     if arity < 2 || arity > 6 {
@@ -189,28 +213,66 @@ fn named_arity<'a>(table: &GenTable, tokens: &'a [Token]) -> Result<(&'a Name, u
     Ok((name, arity as u8))
 }
 
+// The parts that a symmetry is in version 1, or those of version 2.
+fn inputs_at(
+    alloc: Global,
+    version: u8,
+    arity: u8,
+    tokens: &[Token],
+    at: usize,
+) -> Result<Items<Part>, PartFail>
+    requires within { at ≤ length tokens.now }
+    ensures { MatchResult result (λ parts. spec.inputs_in version arity (drop at tokens.now) ≡ Ok parts)
+        (StopsAs tokens.now (spec.inputs_in version arity (drop at tokens.now))) }
+{
+    if version == 2 {
+        return parts_at(alloc, arity, tokens, at);
+    }
+    symmetry_at(alloc, arity, tokens, at)
+}
+
+// The generator of a `gen` line.
+fn generator_at(
+    alloc: Global,
+    version: u8,
+    table: &GenTable,
+    tokens: &[Token],
+) -> Result<Generator, PartFail>
+    requires word { 1 ≤ length tokens.now }
+    ensures { MatchResult result (λ generator. spec.generator_in version table.now (drop 1 tokens.now) ≡ Ok generator)
+        (StopsAs tokens.now (spec.generator_in version table.now (drop 1 tokens.now))) }
+{
+    let (name, arity) = named_arity(table, tokens)?;
+    let parts = inputs_at(alloc, version, arity, tokens, 3)?;
+    Ok(Generator {
+        name: name.copy(alloc)?,
+        arity,
+        parts,
+    })
+}
+
+// Why a generator against which nothing stands isn't added.
+fn out_of_memory(fail: GenFail) -> PartFail
+    requires { fail ≡ GenFail.NoMemory }
+    ensures { result ≡ NoMemory }
+{
+    match fail {
+        GenFail::NoMemory => PartFail::NoMemory,
+        _ => unreachable!(),
+    }
+}
+
 // The rest of a line `gen NAME ARITY SYMMETRY`, or in version 2 `gen NAME ARITY PART` with any number of further parts.
 pub(crate) fn gen_line(alloc: Global, draft: Draft, tokens: &[Token]) -> Result<Draft, PartFail>
     requires word { 1 ≤ length tokens.now }
     requires sound { IsSound draft }
     ensures { GivesDraft tokens.now (spec.gen_line (told_of draft) (drop 1 tokens.now)) result }
 {
-    let (name, arity) = named_arity(&draft.gens, tokens)?;
-    let parts = if draft.version == 2 {
-        parts_at(alloc, arity, tokens, 3)?
-    } else {
-        symmetry_at(alloc, arity, tokens, 3)?
-    };
-    let generator = Generator {
-        name: name.copy(alloc)?,
-        arity,
-        parts,
-    };
+    let generator = generator_at(alloc, draft.version, &draft.gens, tokens)?;
     let mut draft = draft;
     match draft.gens.add(alloc, generator) {
         Ok(()) => {}
-        Err(GenFail::NoMemory) => return Err(PartFail::NoMemory),
-        Err(_) => unreachable!(),
+        Err(fail) => return Err(out_of_memory(fail)),
     }
     draft.weights.push(None)?;
     draft.section = 4;
@@ -300,6 +362,7 @@ fn same_at(
 // A question joins the others.
 fn with_ask(draft: Draft, number: u32, kind: AskKind) -> Result<Draft, PartFail>
     requires sound { IsSound draft }
+    requires field { IsTrue (is_some draft.field) }
     requires fits { AskFits (spec.prime_of draft.field) draft.gens kind }
     ensures { MatchResult result (λ new. (told_of new ≡ spec.with_ask (told_of draft) number (asked_kind kind)) × IsSound new)
         (λ fail. fail ≡ NoMemory) }

@@ -72,6 +72,7 @@ fn is_out_of_order(draft: &Draft, word: &str) -> bool
 }
 
 // What stands against the word of a line.
+#[tactic(auto, unfolding(crate::specs::LineForms::word_fault))]
 pub(crate) fn word_fault(draft: &Draft, word: &str) -> Option<DocKind>
     ensures { result ≡ spec.word_fault (told_of draft.now) word.now }
 {

@@ -1,11 +1,16 @@
-ghost use Rattle.std.specs.Prelude.{◌≡◌, ◌≤◌, ◌<◌, ◌+◌, ◌^◌, ◌∷◌, IfOk, MatchResult, MatchOption, Some, None, length};
+ghost use Rattle.std.specs.Prelude.{◌≡◌, ◌≤◌, ◌+◌, ◌&&◌, Err, IfOk, MatchResult, None, drop, length, map};
 ghost use Rattle.std.specs.List.{All};
+ghost use Rattle.std.specs.Option.{is_some};
+ghost use Rattle.symmetric_trees.specs.Generators.{IsTable};
 ghost use Rattle.symmetric_sums.specs.Terms.{FitsOver};
-ghost use Rattle.presentation_text.specs.DraftForms.{AskFits, IsSound, told_of};
+ghost use Rattle.presentation_text.specs.DocumentDrafts.{HasBoth, IsBehind, IsPresentationRead, IsRestFrom, StopsAtLine, tail_of};
 ghost use Rattle.presentation_text.specs.DocumentForms as spec;
-ghost use Rattle.presentation_text.specs.Lines.{EndsWith, lines as lines_of};
-ghost use Rattle.presentation_text.specs.Presentations.{IsReadAs, IsRefused};
-ghost use Rattle.presentation_text.specs.ReadBack.{IsWellFormed};
+ghost use Rattle.presentation_text.specs.DraftForms.{AskFits, GivesDraft, IsSound, told_of};
+ghost use Rattle.presentation_text.specs.Laws.{DocumentsAreDetermined};
+ghost use Rattle.presentation_text.specs.LineForms.{rest_of_line, told_by_header, word_fault};
+ghost use Rattle.presentation_text.specs.Lines.{lines as lines_of};
+ghost use Rattle.presentation_text.specs.Presentations.{IsReadAs, IsRefused, Says, weight_or_none};
+ghost use Rattle.presentation_text.specs.ReadBack.{IsWritable};
 ghost use Rattle.presentation_text.specs.Tokens.{tokens as tokens_of};
 
 use crate::document::{Document, Tail};
@@ -43,7 +48,9 @@ struct ReadPresentation {
     left: usize,
 }
 
-fn fail<T>(line: u32, kind: DocKind) -> Result<T, ReadDocFail> {
+fn fail<T>(line: u32, kind: DocKind) -> Result<T, ReadDocFail>
+    ensures { result ≡ Err (ReadDocFail.At (record { line = line; kind = kind })) }
+{
     Err(ReadDocFail::At(DocFail { line, kind }))
 }
 
@@ -70,7 +77,12 @@ fn rest_of_line(
     number: u32,
     word: &str,
     tokens: &[Token],
-) -> Result<Draft, PartFail> {
+) -> Result<Draft, PartFail>
+    requires word { 1 ≤ length tokens.now }
+    requires sound { IsSound draft }
+    requires free { word_fault (told_of draft) word.now ≡ None }
+    ensures { GivesDraft tokens.now (rest_of_line (told_of draft) number word.now (drop 1 tokens.now)) result }
+{
     match word {
         "field" => field_line(draft, tokens),
         "order" => order_line(draft, tokens),
@@ -88,21 +100,27 @@ fn counted_line(
     draft: Draft,
     number: u32,
     line: &[u8],
-) -> Result<Behind, ReadDocFail> {
+) -> Result<Behind, ReadDocFail>
+    requires sound { IsSound draft }
+    ensures { MatchResult result (IsBehind draft (spec.counted_line (told_of draft) number (tokens_of line.now)))
+        (StopsAtLine (spec.counted_line (told_of draft) number (tokens_of line.now))) }
+{
     let found = match tokens(alloc, line) {
         Ok(found) => found,
         Err(_) => return Err(ReadDocFail::NoMemory),
     };
-    let Some(Token::Word(word)) = found.as_slice().get(0) else {
+    let tokens = found.as_slice();
+    let Some(Token::Word(word)) = tokens.get(0) else {
         return fail(number, DocKind::Directive);
     };
-    if let Some(kind) = word_fault(&draft, word.as_str()) {
+    let word = word.as_str();
+    if let Some(kind) = word_fault(&draft, word) {
         return fail(number, kind);
     }
-    if section_of(draft.version, word.as_str()) == 7 {
+    if section_of(draft.version, word) == 7 {
         return Ok(Behind::TailBegins(draft));
     }
-    match rest_of_line(alloc, draft, number, word.as_str(), found.as_slice()) {
+    match rest_of_line(alloc, draft, number, word, tokens) {
         Ok(draft) => Ok(Behind::GoesOn(draft)),
         Err(PartFail::At { kind, .. }) => fail(number, kind),
         Err(PartFail::NoMemory) => Err(ReadDocFail::NoMemory),
@@ -110,22 +128,29 @@ fn counted_line(
 }
 
 // The text behind the header.
-fn skip_header(alloc: Global, bytes: &[u8]) -> Result<BehindHeader<'_>, ReadDocFail> {
+fn skip_header(alloc: Global, bytes: &[u8]) -> Result<BehindHeader<'_>, ReadDocFail>
+    requires short { length bytes.now ≤ 16777216 }
+    ensures stands { IfOk result (λ header. IsRestFrom bytes.now 1 header.number header.rest.now) }
+    ensures read { MatchResult result
+        (λ header. spec.read_text bytes.now ≡ spec.lines_from (told_by_header header.version) header.number (lines_of header.rest.now))
+        (StopsAtLine (spec.read_text bytes.now)) }
+{
     let mut rest = bytes;
     let mut number = 1;
     while let Some((line, behind)) = next_line(rest) {
         if counts(line) {
-            return match tokens(alloc, line) {
-                Ok(found) => match version_of(found.as_slice()) {
-                    Some(version) => Ok(BehindHeader {
-                        version,
-                        rest: behind,
-                        number: number + 1,
-                    }),
-                    None => fail(number, DocKind::Header),
-                },
-                Err(_) => Err(ReadDocFail::NoMemory),
+            let found = match tokens(alloc, line) {
+                Ok(found) => found,
+                Err(_) => return Err(ReadDocFail::NoMemory),
             };
+            let Some(version) = version_of(found.as_slice()) else {
+                return fail(number, DocKind::Header);
+            };
+            return Ok(BehindHeader {
+                version,
+                rest: behind,
+                number: number + 1,
+            });
         }
         rest = behind;
         number += 1;
@@ -133,11 +158,23 @@ fn skip_header(alloc: Global, bytes: &[u8]) -> Result<BehindHeader<'_>, ReadDocF
     fail(number, DocKind::Header)
 }
 
+// Whether a field and an order stand.
+fn has_both(draft: &Draft) -> bool
+    ensures { result ≡ (is_some draft.now.field && is_some draft.now.order) }
+{
+    draft.field.is_some() && draft.order.is_some()
+}
+
 // The lines behind the header, up to the tail.
 fn read_presentation(
     alloc: Global,
     header: BehindHeader<'_>,
-) -> Result<ReadPresentation, ReadDocFail> {
+) -> Result<ReadPresentation, ReadDocFail>
+    requires few { header.number + length header.rest.now ≤ 16777217 }
+    ensures { MatchResult result
+        (IsPresentationRead header.entry.rest.now header.entry.number (spec.lines_from (told_by_header header.entry.version) header.entry.number (lines_of header.entry.rest.now)))
+        (StopsAtLine (spec.lines_from (told_by_header header.entry.version) header.entry.number (lines_of header.entry.rest.now))) }
+{
     let mut draft = Draft::new(alloc, header.version);
     let mut rest = header.rest;
     let mut number = header.number;
@@ -155,7 +192,7 @@ fn read_presentation(
         rest = behind;
         number += 1;
     }
-    if draft.field.is_none() || draft.order.is_none() {
+    if !has_both(&draft) {
         return fail(number, DocKind::Missing);
     }
     Ok(ReadPresentation {
@@ -166,11 +203,17 @@ fn read_presentation(
 }
 
 // The document of a presentation that ends so many bytes before the end of a text.
-fn document_of(
-    alloc: Global,
-    bytes: usize,
-    read: ReadPresentation,
-) -> Result<Document, AllocError> {
+fn document_of(alloc: Global, bytes: usize, read: ReadPresentation) -> Result<Document, AllocError>
+    requires both { HasBoth read.draft }
+    requires left { read.left ≤ bytes }
+    requires sound { IsSound read.draft }
+    ensures says { IfOk result (Says (told_of read.draft)) }
+    ensures tail { IfOk result (λ document. document.tail ≡ tail_of bytes read.left read.number) }
+    ensures fit { IfOk result (λ document. All (FitsOver document.field document.gens) document.rels) }
+    ensures asks { IfOk result (λ document. All (λ ask. AskFits document.field document.gens ask.kind) document.asks) }
+    ensures table { IfOk result (λ document. IsTable document.gens) }
+    ensures weights { IfOk result (λ document. length document.weights ≡ length document.gens) }
+{
     let ReadPresentation {
         draft,
         number,
@@ -210,7 +253,9 @@ fn document_of(
 }
 
 // The weight of each generator, 0 where none stands.
-fn all_weights(alloc: Global, weights: &Items<Option<u32>>) -> Result<Items<u32>, AllocError> {
+fn all_weights(alloc: Global, weights: &Items<Option<u32>>) -> Result<Items<u32>, AllocError>
+    ensures { IfOk result (λ all. all ≡ map weight_or_none weights.now) }
+{
     let mut all = Items::new(alloc);
     for weight in weights.as_slice() {
         all.push(weight.unwrap_or(0))?;
@@ -218,13 +263,38 @@ fn all_weights(alloc: Global, weights: &Items<Option<u32>>) -> Result<Items<u32>
     Ok(all)
 }
 
-/// The document that a text of at most 16,777,216 bytes says. ...
+/// The document that a text of at most 16,777,216 bytes says, up to the first line of its tail: a line that begins with `want`
+/// or `cert`. `tail` names that line and the place of its first byte; the lines from there on aren't read.
+///
+/// A line of blanks (space, tab, carriage return) alone and a line whose first other byte is `#` are passed over, but numbered.
+/// The others are, in this order: the header `operad 1` or `operad 2`, which is the version; `field P`, with P one of 3, 5, 7,
+/// 101, 32003 and 65537; `order NAME`, with NAME `path`, `pathshort`, `leafpath`, or in version 2 `weightpath`; generators,
+/// `gen NAME ARITY SYMMETRY` in version 1 with `sym`, `alt` or `reg`, and `gen NAME ARITY PART ..` in version 2, where each part is
+/// `sym`, `alt` or `free` and its size, mixed in version 2 with weights, `weight NAME W`; relations, `rel ELEMENT`; questions,
+/// `query ELEMENT` and `same ELEMENT = ELEMENT`; and the tail. A generator without a weight has the weight 0. Elements are those
+/// of `element_at`.
+///
+/// `At` names the first line that is refused and its kind; a line that is missing is the one behind the last. `Header`: the first
+/// line that isn't passed over is no header, or there is none. For each further line the first of these counts: `Directive`, no
+/// line begins so; `Missing`, no field stands and the line isn't `field`, or a field and no order, and the line is neither;
+/// `Directive`, the line's section is before that of the last line, or it is a second `field` or `order`; `Block`, it begins with
+/// `step`, `use`, `end`, `elem`, `row`, `relabel` or `red`, which stand in a tail alone. Then the first token that is refused
+/// counts, and where several kinds hold at it, the first of these: `TooManyRelations` at `rel` behind 1,000 relations;
+/// `TooManyGens` at `gen` behind 12 generators; `NumberLong` for more than 18 digits; `FieldUnknown`, `OrderUnknown`; `NameBad`
+/// for a generator's name of more than 16 bytes; `NameTaken`; `ArityOut` for an arity outside 2 to 6; `NameUnknown`;
+/// `WeightTaken` where the generator has a weight; `WeightOut` for one above 1,000,000; `PartsOut` for a size of 0, or one with
+/// which the sizes are more than the arity, or at the end of the line where they are less; those of a tree, as `tree_at` has
+/// them; `ArityOut` for a relation's tree that is a leaf; `MixedArity` for a tree of another arity than the first one of its
+/// element or of its `same` line; `Syntax` for any other token that can't stand there, or the end of the line before it is whole.
+/// At the end of the text `Missing` comes where no field or no order stands.
+///
+/// `NoMemory` comes for want of memory alone.
 pub fn read_document(alloc: Global, bytes: &[u8]) -> Result<Document, ReadDocFail>
     requires short { length bytes.now ≤ 16777216 }
     ensures document { MatchResult result (IsReadAs bytes.now) (IsRefused bytes.now) }
     ensures fit { IfOk result (λ document. All (FitsOver document.field document.gens) document.rels) }
     ensures asks { IfOk result (λ document. All (λ ask. AskFits document.field document.gens ask.kind) document.asks) }
-    ensures formed { IfOk result IsWellFormed }
+    ensures formed { IfOk result IsWritable }
 {
     let header = skip_header(alloc, bytes)?;
     let read = read_presentation(alloc, header)?;
@@ -233,3 +303,8 @@ pub fn read_document(alloc: Global, bytes: &[u8]) -> Result<Document, ReadDocFai
         Err(_) => Err(ReadDocFail::NoMemory),
     }
 }
+
+/// Law: a text is accepted, as documents that say the same, or refused, for one line and one kind.
+pub fn texts_are_read_or_refused()
+    ensures law { DocumentsAreDetermined }
+{}

@@ -1,0 +1,110 @@
+-- Reading the lines of a document one after the other.
+use Rattle.std.proofs.Common.{◌≡◌, ◌+◌, ℕ, zero, suc, Bool, true, false, ◌==◌, ◌&&◌, not, List, [], ◌∷◌, drop, Option, Some, None, Result, Ok, Err, add-one, sym, ap, ◌∙◌, refl, subst, length, get_or, ◌<◌, arith}
+use Rattle.std.specs.Option.{is_some}
+use Rattle.std.specs.Result.{IsErr, IsErrAnd, MatchResult}
+use Rattle.presentation_text.specs.DocumentDrafts.{StopsAtLine, tail_number}
+use Rattle.presentation_text.specs.DocumentForms.{Behind, LineFault, Whole, at_end, behind_header, counted_line, document_from, goes_on, lines_from, on_from, refused_at, tail_begins, unless_refused, version_of, word_line}
+use Rattle.presentation_text.specs.LineForms.{Told, rest_of_line, section_of, told_by_header, word_fault}
+use Rattle.presentation_text.specs.Lines.{counts}
+use Rattle.presentation_text.specs.Readings.{Fault}
+use Rattle.presentation_text.specs.Tokens.{tokens}
+use Rattle.presentation_text.specs.declared.kinds.DocKind.{DocKind}
+use Rattle.presentation_text.specs.declared.kinds.DocKind.TheVariants.{Header, Missing}
+use Rattle.presentation_text.specs.declared.kinds.ReadDocFail.{ReadDocFail}
+use Rattle.presentation_text.specs.declared.kinds.ReadDocFail.TheVariants.{At, NoMemory}
+use Rattle.presentation_text.specs.declared.lexing.Token.{Token}
+use Rattle.presentation_text.specs.declared.lexing.Token.TheVariants.{Word}
+
+-- ---- one line
+
+pub begun_by : (all slice : List Token) (token : Token) (word name : List ℕ) → slice ≡ all → 0 < length slice → token ≡ get_or slice 0 token → token ≡ Word word → name ≡ word
+    → all ≡ Word name ∷ drop 1 slice
+begun_by all [] token word name e l first f n = absurd (omega arith)
+begun_by all (t ∷ ts) token word name e l first f n = sym e ∙ ap (λ x. x ∷ ts) (sym first ∙ f ∙ ap Word (sym n))
+
+pub line_refused : (told : Told) (number : ℕ) (ts rest : List Token) (w : List ℕ) (kind : DocKind) → ts ≡ Word w ∷ rest → word_fault told w ≡ Some kind → counted_line told number ts ≡ Err (number, kind)
+unfolding word_line
+line_refused told number ts rest w kind e f = rw (e, f) refl
+
+pub line_begins_tail : (told : Told) (number : ℕ) (ts rest : List Token) (w : List ℕ) → ts ≡ Word w ∷ rest → word_fault told w ≡ None → section_of told.version w ≡ 7
+    → counted_line told number ts ≡ Ok tail_begins
+unfolding word_line
+line_begins_tail told number ts rest w e f g = let seventh : (section_of told.version w == 7) ≡ true = ap (λ n. n == 7) g in rw (e, f, seventh) refl
+
+pub line_goes_on : (told : Told) (number : ℕ) (ts rest : List Token) (w : List ℕ) → ts ≡ Word w ∷ rest → word_fault told w ≡ None → (section_of told.version w == 7) ≡ false
+    → counted_line told number ts ≡ refused_at number (rest_of_line told number w rest)
+unfolding word_line
+line_goes_on told number ts rest w e f g = rw (e, f, g) refl
+
+-- ---- what functions that stop at a line give
+
+pub line_fails : {A X : Type 0} (Given : A → Type 0) (reading : Result X LineFault) (r : Result A ReadDocFail) (line : ℕ) (kind : DocKind) → reading ≡ Err (line, kind)
+    → r ≡ Err (At (record { line = line; kind = kind })) → MatchResult r Given (StopsAtLine reading)
+line_fails Given reading r line kind e f = subst (λ x. MatchResult x Given (StopsAtLine reading)) (sym f) e
+
+pub line_stops : {A : Type 0} (Given : A → Type 0) (Stops : ReadDocFail → Type 0) (r : Result A ReadDocFail) (fail : ReadDocFail) → IsErr r → IsErrAnd r (λ e. e ≡ fail) → Stops fail
+    → MatchResult r Given Stops
+line_stops Given Stops (Ok x) fail h e stops = absurd e
+line_stops Given Stops (Err other) fail h e stops = subst Stops (sym e) stops
+
+-- what stops at its first line stops
+pub lines_stop : (on : Behind → Result Whole LineFault) (reading : Result Behind LineFault) (whole : Result Whole LineFault) (fail : ReadDocFail) → whole ≡ unless_refused on reading
+    → StopsAtLine reading fail → StopsAtLine whole fail
+lines_stop on reading whole (At fail) e h = e ∙ ap (unless_refused on) h
+lines_stop on reading whole NoMemory e h = tt
+
+-- what is read by the rest stops as it does
+pub stops_alike : {A B : Type 0} (one : Result A LineFault) (other : Result B LineFault) (fail : ReadDocFail) → ((fault : LineFault) → other ≡ Err fault → one ≡ Err fault)
+    → StopsAtLine other fail → StopsAtLine one fail
+stops_alike one other (At fail) alike h = alike (fail.line, fail.kind) h
+stops_alike one other NoMemory alike h = tt
+
+-- ---- the lines behind the header
+
+pub lines_passed : (told : Told) (number : ℕ) (all others : List (List ℕ)) (line : List ℕ) → all ≡ line ∷ others → counts line ≡ false → lines_from told number all ≡ lines_from told (number + 1) others
+unfolding lines_from
+lines_passed told number all others line e passed = rw (e, passed, add-one) refl
+
+pub lines_counted : (told : Told) (number : ℕ) (all others : List (List ℕ)) (line : List ℕ) → all ≡ line ∷ others → counts line ≡ true
+    → lines_from told number all ≡ unless_refused (on_from number (λ now. lines_from now (number + 1) others) told) (counted_line told number (tokens line))
+unfolding lines_from
+lines_counted told number all others line e counted = rw (e, counted, add-one) refl
+
+pub lines_go_on : (told now : Told) (number : ℕ) (all others : List (List ℕ)) (line : List ℕ) → all ≡ line ∷ others → counts line ≡ true → counted_line told number (tokens line) ≡ Ok (goes_on now)
+    → lines_from told number all ≡ lines_from now (number + 1) others
+lines_go_on told now number all others line e counted h =
+    lines_counted told number all others line e counted ∙ ap (unless_refused (on_from number (λ later. lines_from later (number + 1) others) told)) h
+
+pub lines_tail : (told : Told) (number : ℕ) (all others : List (List ℕ)) (line : List ℕ) → all ≡ line ∷ others → counts line ≡ true → counted_line told number (tokens line) ≡ Ok tail_begins
+    → lines_from told number all ≡ Ok (record { told = told; tail = Some number })
+lines_tail told number all others line e counted h =
+    lines_counted told number all others line e counted ∙ ap (unless_refused (on_from number (λ later. lines_from later (number + 1) others) told)) h
+
+pub tail_some : (left number : ℕ) → 0 < left → tail_number left number ≡ Some number
+tail_some zero number l = absurd (omega arith)
+tail_some (suc left) number l = refl
+
+pub lines_end : (told : Told) (number : ℕ) (all : List (List ℕ)) → all ≡ [] → lines_from told number all ≡ at_end told number
+unfolding lines_from
+lines_end told number all e = rw e refl
+
+pub end_missing : (told : Told) (number : ℕ) → (is_some told.field && is_some told.order) ≡ false → at_end told number ≡ Err (number, Missing)
+end_missing told number e = rw e refl
+
+pub end_whole : (told : Told) (number : ℕ) → (is_some told.field && is_some told.order) ≡ true → at_end told number ≡ Ok (record { told = told; tail = None })
+end_whole told number e = rw e refl
+
+-- ---- the header
+
+pub header_passed : (number : ℕ) (all others : List (List ℕ)) (line : List ℕ) → all ≡ line ∷ others → counts line ≡ false → document_from number all ≡ document_from (number + 1) others
+unfolding document_from
+header_passed number all others line e passed = rw (e, passed, add-one) refl
+
+pub header_counted : (number : ℕ) (all others : List (List ℕ)) (line : List ℕ) → all ≡ line ∷ others → counts line ≡ true
+    → document_from number all ≡ behind_header number (λ version. lines_from (told_by_header version) (number + 1) others) (version_of (tokens line))
+unfolding document_from
+header_counted number all others line e counted = rw (e, counted, add-one) refl
+
+pub header_missing : (number : ℕ) (all : List (List ℕ)) → all ≡ [] → document_from number all ≡ Err (number, Header)
+unfolding document_from
+header_missing number all e = rw e refl

@@ -1,0 +1,74 @@
+-- What is known where nothing stands against the word of a line.
+use Rattle.std.proofs.Common.{◌≡◌, ℕ, Bool, true, false, not, ◌&&◌, ◌||◌, ◌==◌, nat_lt, if◌then◌else◌, List, [], ◌∷◌, codes, Option, Some, None, sym, ap, ◌∙◌, refl, rules}
+use Rattle.std.specs.Option.{is_some}
+use Rattle.presentation_text.specs.LineForms.{Told, is, is_missing, is_out_of_order, section_of, word_fault}
+use Rattle.presentation_text.specs.Readings.{first_row}
+use Rattle.presentation_text.specs.declared.kinds.DocKind.{DocKind}
+use Rattle.presentation_text.proofs.Names.{not_true, other_name, same_name}
+
+no_row : (a b c d : Bool) (i j k l : DocKind) → first_row ((a, i) ∷ (b, j) ∷ (c, k) ∷ (d, l) ∷ []) ≡ None → (b ≡ false) × (c ≡ false)
+no_row true b c d i j k l e = absurd cc
+no_row false true c d i j k l e = absurd cc
+no_row false false true d i j k l e = absurd cc
+no_row false false false d i j k l e = (refl, refl)
+
+or_first : (a b : Bool) → (a || b) ≡ false → a ≡ false
+or_first true b e = absurd cc
+or_first false b e = refl
+
+or_middle : (a b c : Bool) → (a || b || c) ≡ false → b ≡ false
+or_middle true b c e = absurd cc
+or_middle false true c e = absurd cc
+or_middle false false c e = refl
+
+is_none : {X : Type 0} (found : Option X) → is_some found ≡ false → found ≡ None
+is_none None e = refl
+is_none (Some x) e = absurd cc
+
+not_both : (a b : Bool) → a ≡ true → (a && b) ≡ false → b ≡ false
+not_both true b e f = f
+not_both false b e f = absurd cc
+
+stands : (a b : Bool) → b ≡ false → (not a && not b) ≡ false → a ≡ true
+stands true b e f = refl
+stands false true e f = absurd cc
+stands false false e f = absurd cc
+
+both_stand : (a b c d : Bool) → c ≡ false → d ≡ false → ((not a && not d) || (a && not b && not c && not d)) ≡ false → (a ≡ true) × (b ≡ true)
+both_stand true true c d e f g = (refl, refl)
+both_stand true false true d e f g = absurd cc
+both_stand true false false true e f g = absurd cc
+both_stand true false false false e f g = absurd cc
+both_stand false b c true e f g = absurd cc
+both_stand false b c false e f g = absurd cc
+
+-- the word isn't missed, and is not out of order
+nothing_against : (told : Told) (w : List ℕ) → word_fault told w ≡ None → (is_missing told w ≡ false) × (is_out_of_order told w ≡ false)
+unfolding word_fault
+nothing_against told w e = no_row _ (is_missing told w) (is_out_of_order told w) _ _ _ _ _ e
+
+-- a `field` line is the first one
+pub first_field : (told : Told) (w : List ℕ) → word_fault told w ≡ None → w ≡ codes "field" → told.field ≡ None
+first_field told w e f =
+    let order = (nothing_against told w e).1 in
+    is_none told.field (not_both (is w (codes "field")) (is_some told.field) (same_name w (codes "field") f)
+    (or_middle (nat_lt 0 (section_of told.version w) && nat_lt (section_of told.version w) told.section) (is w (codes "field") && is_some told.field) (is w (codes "order") && is_some told.order) order))
+
+-- before any other line a field stands
+pub field_before : (told : Told) (w : List ℕ) → word_fault told w ≡ None → (w ≡ codes "field" → ⊥) → is_some told.field ≡ true
+field_before told w e other =
+    let missing = (nothing_against told w e).0 in
+    stands (is_some told.field) (is w (codes "field")) (other_name w (codes "field") other)
+    (or_first (not (is_some told.field) && not (is w (codes "field"))) (is_some told.field && not (is_some told.order) && not (is w (codes "order")) && not (is w (codes "field"))) missing)
+
+late_section : (a b : Bool) (section : ℕ) → (if a then 2 else (if b then 3 else section)) ≡ 7 → (a ≡ false) × (b ≡ false)
+late_section true b section e = absurd cc
+late_section false true section e = absurd cc
+late_section false false section e = (refl, refl)
+
+-- before a tail a field and an order stand
+pub both_before : (told : Told) (w : List ℕ) → word_fault told w ≡ None → section_of told.version w ≡ 7 → (is_some told.field ≡ true) × (is_some told.order ≡ true)
+both_before told w e section =
+    let missing = (nothing_against told w e).0 in
+    let other = late_section (is w (codes "field")) (is w (codes "order")) _ section in
+    both_stand (is_some told.field) (is_some told.order) (is w (codes "order")) (is w (codes "field")) other.1 other.0 missing
