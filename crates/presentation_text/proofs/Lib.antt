@@ -18,3 +18,7 @@ pub mod RelationLines
 pub mod DocumentLines
 pub mod DocumentReading
 pub mod OneDocument
+pub mod ElementFormsRead
+pub mod ElementFormsSums
+pub mod ElementFormsFurther
+pub mod ElementFormsWhole
