@@ -34,7 +34,7 @@ module _ (generators : List Generator) (demands : Demands) where
     others ← further_in most generators demands first.1
     Ok (first.0 ∷ others.0, others.1)
 
-  signed : (most : ℕ) (ts : List Token) (negative : Bool) → sign ts ≡ Some negative → further_in (suc most) generators demands ts ≡ behind_sign most negative ts
+  pub signed : (most : ℕ) (ts : List Token) (negative : Bool) → sign ts ≡ Some negative → further_in (suc most) generators demands ts ≡ behind_sign most negative ts
   unfolding further_in behind_sign
   signed most ts negative is = rw is refl
 

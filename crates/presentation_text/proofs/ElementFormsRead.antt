@@ -63,7 +63,7 @@ nothing_against demands (Ok (u, s)) t rest e =
     subst (λ (found : Tree ℕ × List Token). first_row (against demands found.0) ≡ None) none.1 none.0
 nothing_against demands (Err f) t rest e = absurd cc
 
-and-true : (a b : Bool) → (a && b) ≡ true → (a ≡ true) × (b ≡ true)
+pub and-true : (a b : Bool) → (a && b) ≡ true → (a ≡ true) × (b ≡ true)
 and-true true true e = (refl, refl)
 and-true true false e = absurd cc
 and-true false b e = absurd cc

@@ -22,3 +22,4 @@ pub mod ElementFormsRead
 pub mod ElementFormsSums
 pub mod ElementFormsFurther
 pub mod ElementFormsWhole
+pub mod ElementsAccepted

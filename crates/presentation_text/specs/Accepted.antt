@@ -1,7 +1,7 @@
 -- Which tokens reading accepts: exactly those of the grammar, within the limits.
-use Rattle.std.specs.Prelude.{ℕ, ◌≡◌, ◌≢◌, ◌≤◌, ◌↔◌, false, List, [], ◌∷◌, ◌++◌, Option, Some, Ok}
+use Rattle.std.specs.Prelude.{ℕ, ◌≡◌, ◌≢◌, ◌≤◌, ◌↔◌, Bool, true, false, List, [], ◌∷◌, ◌++◌, Option, Some, None, Ok}
 use Rattle.std.specs.List.{All}
-use Rattle.labelled_trees.specs.Trees.{Tree}
+use Rattle.labelled_trees.specs.Trees.{Tree, leaf, node}
 use Rattle.labelled_trees.specs.Leaves.{AllLeaves, leaf_count}
 use Rattle.labelled_trees.specs.Labelled.{IsNumbered}
 use Rattle.symmetric_trees.specs.Generators.{IsTable}
@@ -40,10 +40,21 @@ abbrev pub NotMarked : ℕ → List Token → Type 0
 NotMarked c [] = Unit {0}
 NotMarked c (token ∷ rest) = token ≢ Byte c
 
--- An element goes on as long as it can: behind 0 no '*' stands, and behind a term neither '+' nor '-'.
+-- a leaf without a coefficient: its number would be one before '*'
+abbrev pub is_bare_leaf : Option ℕ → Tree ℕ → Bool
+is_bare_leaf None (leaf n) = true
+is_bare_leaf None (node g r) = false
+is_bare_leaf (Some c) t = false
+
+-- whether the last term is a leaf without a coefficient; the answer for no terms is given
+abbrev pub ends_bare : Bool → List Written → Bool
+ends_bare bare [] = bare
+ends_bare bare (term ∷ terms) = ends_bare (is_bare_leaf term.coefficient term.tree) terms
+
+-- An element goes on as long as it can: behind a term neither '+' nor '-' stands, and no '*' behind a number that is no coefficient.
 abbrev pub EndsBefore : List Written → List Token → Type 0
 EndsBefore [] rest = NotMarked 42 rest
-EndsBefore (term ∷ terms) rest = NotMarked 43 rest × NotMarked 45 rest
+EndsBefore (term ∷ terms) rest = NotMarked 43 rest × NotMarked 45 rest × (ends_bare true (term ∷ terms) ≡ true → NotMarked 42 rest)
 
 -- the trees have one arity, which is as is asked
 pub record HaveDemandedArity (generators : List Generator) (least : ℕ) (arity : Option ℕ) (terms : List Written) : Type 0 where

@@ -2,6 +2,7 @@ ghost use Rattle.std.specs.Prelude.{◌≡◌, ◌≤◌, ◌<◌, ◌++◌, ◌
 ghost use Rattle.labelled_trees.specs.Meaning.{tree_of};
 ghost use Rattle.symmetric_trees.specs.Trees.{IsLabelled};
 ghost use Rattle.symmetric_sums.specs.Terms.{FitsOver, terms_of};
+ghost use Rattle.presentation_text.specs.Accepted.{ElementsAreAccepted};
 ghost use Rattle.presentation_text.specs.Elements as elements;
 ghost use Rattle.presentation_text.specs.ElementForms as spec;
 ghost use Rattle.presentation_text.specs.TreeForms.{demands_of};
@@ -238,3 +239,9 @@ pub fn element_at(
         ElementAt { sum, arity, next },
     )
 }
+
+/// Law: reading accepts an element exactly where the tokens begin with those of one whose trees have one arity, as is
+/// demanded, and go on with no further term.
+pub fn elements_are_accepted()
+    ensures law { ElementsAreAccepted }
+{}
