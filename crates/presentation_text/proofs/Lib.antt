@@ -22,4 +22,6 @@ pub mod ElementFormsRead
 pub mod ElementFormsSums
 pub mod ElementFormsFurther
 pub mod ElementFormsWhole
+pub mod ElementFronts
 pub mod ElementsAccepted
+pub mod TermsOnce
