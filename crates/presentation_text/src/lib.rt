@@ -39,4 +39,6 @@ pub use writing::{
 };
 
 #[cfg(test)]
+mod terms_tests;
+#[cfg(test)]
 mod tests;
