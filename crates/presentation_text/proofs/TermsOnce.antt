@@ -46,7 +46,7 @@ module _ (generators : List Generator) (table : IsTable generators) where
   term-once term other r s ft fu nr ns sign e =
       let number : term.coefficient ≡ other.coefficient = sym (coefficient-is generators term.coefficient term.tree r (λ _. nr)) ∙ ap coefficient e ∙ coefficient-is generators other.coefficient other.tree s (λ _. ns) in
       let behind : tree_tokens generators term.tree ++ r ≡ tree_tokens generators other.tree ++ s = sym (behind-is generators term.coefficient term.tree r) ∙ ap (behind_coefficient term.coefficient) e
-          ∙ ap (λ c. behind_coefficient c (term_tokens generators other ++ s)) number ∙ behind-is generators other.coefficient other.tree s in
+      ∙ ap (λ c. behind_coefficient c (term_tokens generators other ++ s)) number ∙ behind-is generators other.coefficient other.tree s in
       let one = read_once generators table term.tree other.tree r s ft.fits fu.fits behind in
       (same-written term other sign number one.0, one.1)
 
@@ -56,7 +56,7 @@ module _ (generators : List Generator) (table : IsTable generators) where
       → (further_tokens generators terms ≡ further_tokens generators others → terms ≡ others) → term ∷ terms ≡ other ∷ others
   terms-behind term other terms others ft fu sign e behind =
       let one = term-once term other (further_tokens generators terms) (further_tokens generators others) (All-head (λ (x : Written). IsPositive generators x.tree) term terms ft)
-          (All-head (λ (x : Written). IsPositive generators x.tree) other others fu) (further-no-star generators terms) (further-no-star generators others) sign e in
+      (All-head (λ (x : Written). IsPositive generators x.tree) other others fu) (further-no-star generators terms) (further-no-star generators others) sign e in
       ap (λ x. x ∷ terms) one.0 ∙ ap (λ xs. other ∷ xs) (behind one.1)
 
   further-once : (terms others : List Written) → ArePositive generators terms → ArePositive generators others → further_tokens generators terms ≡ further_tokens generators others → terms ≡ others
@@ -76,7 +76,7 @@ module _ (generators : List Generator) (table : IsTable generators) where
       let tree : IsPositive generators term.tree = All-head (λ (x : Written). IsPositive generators x.tree) term terms ft in
       let zero : is_nothing (element_tokens generators []) ≡ true = nothing-there [] tt in
       let more : is_nothing (element_tokens generators (term ∷ terms)) ≡ false =
-          something-there generators term.negative term.coefficient term.tree (further_tokens generators terms) tree.leaves in
+      something-there generators term.negative term.coefficient term.tree (further_tokens generators terms) tree.leaves in
       let apart : true ≡ false = sym zero ∙ ap is_nothing e ∙ more in
       absurd cc
 
@@ -89,8 +89,8 @@ module _ (generators : List Generator) (table : IsTable generators) where
       let front = term_tokens generators term ++ further_tokens generators terms in
       let other_front = term_tokens generators other ++ further_tokens generators others in
       let sign : term.negative ≡ other.negative = minus-there generators term.negative term.coefficient term.tree (further_tokens generators terms) ∙ ap (begins_with 45) e
-          ∙ sym (minus-there generators other.negative other.coefficient other.tree (further_tokens generators others)) in
+      ∙ sym (minus-there generators other.negative other.coefficient other.tree (further_tokens generators others)) in
       let fronts : front ≡ other_front = minus-behind term.negative front ∙ ap (λ ts. if term.negative then behind_one ts else ts) e
-          ∙ ap (λ b. if b then behind_one (element_tokens generators (other ∷ others)) else element_tokens generators (other ∷ others)) sign ∙ sym (minus-behind other.negative other_front) in
+      ∙ ap (λ b. if b then behind_one (element_tokens generators (other ∷ others)) else element_tokens generators (other ∷ others)) sign ∙ sym (minus-behind other.negative other_front) in
       terms-behind term other terms others ft fu sign fronts
       (further-once terms others (All-tail (λ (x : Written). IsPositive generators x.tree) term terms ft) (All-tail (λ (x : Written). IsPositive generators x.tree) other others fu))
