@@ -18,6 +18,11 @@ pub mod RelationLines
 pub mod DocumentLines
 pub mod DocumentReading
 pub mod OneDocument
+pub mod TreeFormsPlaces
+pub mod TreeFormsLeaves
+pub mod TreeFormsSteps
+pub mod TreesAcceptedTrees
+pub mod TreesAccepted
 pub mod ElementFormsRead
 pub mod ElementFormsSums
 pub mod ElementFormsFurther

@@ -32,8 +32,11 @@ pub(crate) fn mark_at(tokens: &[Token], at: usize, mark: u8) -> Result<usize, Pa
     requires within { at ≤ length tokens.now }
     ensures { spec.GivesBehind tokens.now (spec.mark_in mark (drop at tokens.now)) result }
 {
-    match token_at(tokens, at) {
-        Some(Token::Byte(byte)) => {
+    let Some(token) = token_at(tokens, at) else {
+        return Err(misfit(tokens, at));
+    };
+    match token {
+        Token::Byte(byte) => {
             if *byte == mark {
                 Ok(at + 1)
             } else {
@@ -62,8 +65,11 @@ pub(crate) fn number_at(tokens: &[Token], at: usize) -> Result<u64, PartFail>
     ensures { MatchResult result (λ number. (spec.number_in (drop at tokens.now) ≡ Ok (number, drop (at + 1) tokens.now)) × (at < length tokens.now))
         (spec.StopsAs tokens.now (spec.number_in (drop at tokens.now))) }
 {
-    match token_at(tokens, at) {
-        Some(Token::Number(number)) => Ok(*number),
+    let Some(token) = token_at(tokens, at) else {
+        return Err(misfit(tokens, at));
+    };
+    match token {
+        Token::Number(number) => Ok(*number),
         _ => Err(misfit(tokens, at)),
     }
 }
@@ -74,8 +80,11 @@ pub(crate) fn word_at(tokens: &[Token], at: usize) -> Result<&Name, PartFail>
     ensures { MatchResult result (λ word. (spec.word_in (drop at tokens.now) ≡ Ok (word.now, drop (at + 1) tokens.now)) × (at < length tokens.now))
         (spec.StopsAs tokens.now (spec.word_in (drop at tokens.now))) }
 {
-    match token_at(tokens, at) {
-        Some(Token::Word(word)) => Ok(word),
+    let Some(token) = token_at(tokens, at) else {
+        return Err(misfit(tokens, at));
+    };
+    match token {
+        Token::Word(word) => Ok(word),
         _ => Err(misfit(tokens, at)),
     }
 }
