@@ -11,9 +11,9 @@ use Rattle.presentation_text.specs.declared.lexing.Token.{Token}
 use Rattle.presentation_text.specs.declared.terms.ElementAt.{ElementAt}
 use Rattle.presentation_text.specs.declared.terms.TermRead.{TermRead}
 use Rattle.presentation_text.specs.Readings.{Fault, Reading, ◌>>=◌}
-use Rattle.presentation_text.specs.TreeForms.{demands_of}
+use Rattle.presentation_text.specs.TreeForms.{begins_with, demands_of}
 use Rattle.presentation_text.specs.Elements.{Written, said}
-use Rattle.presentation_text.specs.ElementForms.{behind_one, begins_with, is_nothing, term_in, further_in, element_in, IsElementOf, GivesElement, written, IsTermRead, GivesFurther}
+use Rattle.presentation_text.specs.ElementForms.{behind_one, is_nothing, term_in, further_in, element_in, IsElementOf, GivesElement, written, IsTermRead, GivesFurther}
 use Rattle.presentation_text.proofs.ElementFormsRead.{drop-behind_one, stops_with}
 use Rattle.presentation_text.proofs.ElementFormsSums.{said-append}
 

@@ -10,9 +10,10 @@ use Rattle.symmetric_trees.specs.Trees.{Fits}
 use Rattle.symmetric_trees.specs.declared.generators.Generator.{Generator}
 use Rattle.presentation_text.specs.declared.lexing.Token.{Token}
 use Rattle.presentation_text.specs.declared.lexing.Token.TheVariants.{Byte}
+use Rattle.presentation_text.specs.TreeForms.{begins_with}
 use Rattle.presentation_text.specs.TreeText.{tree_tokens}
 use Rattle.presentation_text.specs.Elements.{Written, term_tokens, mark, further_tokens, element_tokens}
-use Rattle.presentation_text.specs.ElementForms.{behind_one, begins_with, is_nothing, coefficient, behind_coefficient, sign}
+use Rattle.presentation_text.specs.ElementForms.{behind_one, is_nothing, coefficient, behind_coefficient, sign}
 use Rattle.presentation_text.specs.Accepted.{NotMarked}
 use Rattle.presentation_text.proofs.ElementFronts.{coefficient-is, behind-is, sign-is, sign-no-star, nothing-there, something-there, minus-there, minus-behind}
 use Rattle.presentation_text.proofs.TreeTokens.{read_once}

@@ -14,14 +14,10 @@ use Rattle.presentation_text.specs.declared.terms.ElementAt.{ElementAt}
 use Rattle.presentation_text.specs.declared.terms.TermRead.{TermRead}
 use Rattle.presentation_text.specs.declared.trees.Demands.{Demands}
 use Rattle.presentation_text.specs.Elements.{Written, said}
-use Rattle.presentation_text.specs.Readings.{Reading, ◌>>=◌, is_mark, StopsAs}
-use Rattle.presentation_text.specs.TreeForms.{whole_tree_in}
+use Rattle.presentation_text.specs.Readings.{Reading, ◌>>=◌, StopsAs}
+use Rattle.presentation_text.specs.TreeForms.{begins_with, whole_tree_in}
 
 -- ---- the front of tokens
-
-abbrev pub begins_with : ℕ → List Token → Bool
-begins_with c [] = false
-begins_with c (token ∷ rest) = is_mark c token
 
 -- the tokens behind the first one
 abbrev pub behind_one : List Token → List Token

@@ -5,12 +5,12 @@ ghost use Rattle.symmetric_sums.specs.Terms.{FitsOver, terms_of};
 ghost use Rattle.presentation_text.specs.Accepted.{ElementsAreAccepted};
 ghost use Rattle.presentation_text.specs.Elements as elements;
 ghost use Rattle.presentation_text.specs.ElementForms as spec;
-ghost use Rattle.presentation_text.specs.TreeForms.{demands_of};
+ghost use Rattle.presentation_text.specs.TreeForms.{begins_with, demands_of};
 
 use crate::kinds::PartFail;
 use crate::lexing::Token;
 use crate::parts::token_at;
-use crate::trees::{Demands, TreeRead, demanded_tree_at};
+use crate::trees::{Demands, TreeRead, demanded_tree_at, has_mark};
 use prime_field::Field;
 use std::alloc::{AllocError, Global};
 use symmetric_sums::{Sum, SumFail};
@@ -33,17 +33,6 @@ struct TermRead {
     negative: bool,
     coefficient: Option<u64>,
     tree: TreeRead,
-}
-
-// Whether this single byte stands at the place.
-fn has_mark(tokens: &[Token], at: usize, mark: u8) -> bool
-    requires within { at ≤ length tokens.now }
-    ensures { result ≡ spec.begins_with mark (drop at tokens.now) }
-{
-    match token_at(tokens, at) {
-        Some(Token::Byte(byte)) => *byte == mark,
-        _ => false,
-    }
 }
 
 // Whether the number 0 stands at the place, not followed by '*'.
@@ -91,7 +80,7 @@ fn sign_at(tokens: &[Token], at: usize) -> Option<bool>
 // Whether '-' stands at the place, and the place behind it; else the place itself.
 fn minus_at(tokens: &[Token], at: usize) -> (bool, usize)
     requires within { at ≤ length tokens.now }
-    ensures minus { result.0 ≡ spec.begins_with 45 (drop at tokens.now) }
+    ensures minus { result.0 ≡ begins_with 45 (drop at tokens.now) }
     ensures behind { drop result.1 tokens.now ≡ (if result.0 then spec.behind_one (drop at tokens.now) else drop at tokens.now) }
     ensures within { (at ≤ result.1) × (result.1 ≤ length tokens.now) }
 {

@@ -61,7 +61,7 @@ fn generator_named(table: &GenTable, name: &Name) -> Option<u16>
 }
 
 // Whether this single byte stands at the place.
-fn has_mark(tokens: &[Token], at: usize, mark: u8) -> bool
+pub(crate) fn has_mark(tokens: &[Token], at: usize, mark: u8) -> bool
     requires within { at ≤ length tokens.now }
     ensures { result ≡ spec.begins_with mark (drop at tokens.now) }
 {
