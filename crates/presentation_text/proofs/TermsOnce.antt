@@ -1,5 +1,5 @@
 -- Tokens are those of at most one list of terms, also where these are more than may be read.
-use Rattle.std.proofs.Common.{◌≡◌, ℕ, ◌<◌, Bool, true, false, List, [], ◌∷◌, ◌++◌, Option, Some, refl, ap, sym, ◌∙◌, subst}
+use Rattle.std.proofs.Common.{◌≡◌, ℕ, ◌<◌, Bool, true, false, List, [], ◌∷◌, ◌++◌, Option, Some, refl, ap, sym, ◌∙◌}
 use Rattle.std.specs.Prelude.{if◌then◌else◌}
 use Rattle.std.specs.List.{All}
 use Rattle.std.proofs.lemmas.List.Elements.{All-head, All-tail}
@@ -9,10 +9,9 @@ use Rattle.symmetric_trees.specs.Generators.{IsTable}
 use Rattle.symmetric_trees.specs.Trees.{Fits}
 use Rattle.symmetric_trees.specs.declared.generators.Generator.{Generator}
 use Rattle.presentation_text.specs.declared.lexing.Token.{Token}
-use Rattle.presentation_text.specs.declared.lexing.Token.TheVariants.{Byte}
 use Rattle.presentation_text.specs.TreeForms.{begins_with}
 use Rattle.presentation_text.specs.TreeText.{tree_tokens}
-use Rattle.presentation_text.specs.Elements.{Written, term_tokens, mark, further_tokens, element_tokens}
+use Rattle.presentation_text.specs.Elements.{Written, term_tokens, further_tokens, element_tokens}
 use Rattle.presentation_text.specs.ElementForms.{behind_one, is_nothing, coefficient, behind_coefficient, sign}
 use Rattle.presentation_text.specs.Accepted.{NotMarked}
 use Rattle.presentation_text.proofs.ElementFronts.{coefficient-is, behind-is, sign-is, sign-no-star, nothing-there, something-there, minus-there, minus-behind}
