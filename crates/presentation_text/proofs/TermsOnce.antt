@@ -1,18 +1,21 @@
 -- Tokens are those of at most one list of terms, also where these are more than may be read.
-use Rattle.std.proofs.Common.{◌≡◌, ℕ, ◌<◌, Bool, true, false, List, [], ◌∷◌, ◌++◌, Option, Some, refl, ap, sym, ◌∙◌}
+use Rattle.std.proofs.Common.{◌≡◌, ℕ, ◌<◌, Bool, true, false, List, [], ◌∷◌, ◌++◌, length, Option, Some, None, refl, ap, sym, ◌∙◌, subst, arith}
 use Rattle.std.specs.Prelude.{if◌then◌else◌}
 use Rattle.std.specs.List.{All}
-use Rattle.std.proofs.lemmas.List.Elements.{All-head, All-tail}
+use Rattle.std.proofs.lemmas.List.Elements.{All-nil, All-head, All-tail, All-weaker}
 use Rattle.labelled_trees.specs.Trees.{Tree}
 use Rattle.labelled_trees.specs.Leaves.{AllLeaves}
 use Rattle.symmetric_trees.specs.Generators.{IsTable}
-use Rattle.symmetric_trees.specs.Trees.{Fits}
+use Rattle.labelled_trees.proofs.Leaves.{by_leaf}
+use Rattle.labelled_trees.proofs.Numbered.{one_number, numbered_of_labelled}
+use Rattle.symmetric_trees.specs.Trees.{Fits, IsLabelled}
 use Rattle.symmetric_trees.specs.declared.generators.Generator.{Generator}
 use Rattle.presentation_text.specs.declared.lexing.Token.{Token}
 use Rattle.presentation_text.specs.TreeForms.{begins_with}
 use Rattle.presentation_text.specs.TreeText.{tree_tokens}
-use Rattle.presentation_text.specs.Elements.{Written, term_tokens, further_tokens, element_tokens}
+use Rattle.presentation_text.specs.Elements.{Written, term_tokens, further_tokens, element_tokens, IsElementTree, HaveArity}
 use Rattle.presentation_text.specs.ElementForms.{behind_one, is_nothing, coefficient, behind_coefficient, sign}
+use Rattle.presentation_text.specs.Laws.{ElementsAreReadOnce}
 use Rattle.presentation_text.specs.Accepted.{NotMarked}
 use Rattle.presentation_text.proofs.ElementFronts.{coefficient-is, behind-is, sign-is, sign-no-star, nothing-there, something-there, minus-there, minus-behind}
 use Rattle.presentation_text.proofs.TreeTokens.{read_once}
@@ -94,3 +97,32 @@ module _ (generators : List Generator) (table : IsTable generators) where
       ∙ ap (λ b. if b then behind_one (element_tokens generators (other ∷ others)) else element_tokens generators (other ∷ others)) sign ∙ sym (minus-behind other.negative other_front) in
       terms-behind term other terms others ft fu sign fronts
       (further-once terms others (All-tail (λ (x : Written). IsPositive generators x.tree) term terms ft) (All-tail (λ (x : Written). IsPositive generators x.tree) other others fu))
+
+-- ---- elements
+
+one_arity : (generators : List Generator) (m n : ℕ) (t : Tree ℕ) → IsLabelled generators m t → IsLabelled generators n t → m ≡ n
+one_arity generators m n t a b = one_number m n t (numbered_of_labelled a) (numbered_of_labelled b)
+
+positive : (generators : List Generator) (n : ℕ) (t : Tree ℕ) → IsElementTree generators n t → IsPositive generators t
+positive generators n t h = record { fits = h.labelled.fits; leaves = by_leaf t (λ i. 0 < i) (λ i l. (h.labelled.only i l).0) }
+
+all_positive : (generators : List Generator) (terms : List Written) (arity : Option ℕ) → HaveArity generators arity terms → ArePositive generators terms
+all_positive generators terms None none = subst (ArePositive generators) (sym none) (All-nil (λ (x : Written). IsPositive generators x.tree))
+all_positive generators terms (Some n) all =
+    All-weaker (λ (x : Written). IsElementTree generators n x.tree) (λ (x : Written). IsPositive generators x.tree) (λ x h. positive generators n x.tree h) terms all.1
+
+-- the terms have one arity
+arity_once : (generators : List Generator) (terms : List Written) (arity other : Option ℕ) → HaveArity generators arity terms → HaveArity generators other terms → arity ≡ other
+arity_once generators terms None None a b = refl
+arity_once generators terms None (Some n) a b = absurd (omega (arith, ap length a, b.0))
+arity_once generators terms (Some m) None a b = absurd (omega (arith, ap length b, a.0))
+arity_once generators [] (Some m) (Some n) a b = absurd (omega (arith, a.0))
+arity_once generators (term ∷ terms) (Some m) (Some n) a b =
+    let one = All-head (λ (x : Written). IsElementTree generators m x.tree) term terms a.1 in
+    let two = All-head (λ (x : Written). IsElementTree generators n x.tree) term terms b.1 in
+    ap Some (one_arity generators m n term.tree one.labelled two.labelled)
+
+pub elements-once : ElementsAreReadOnce
+elements-once generators table line terms others arity other a b =
+    let same : terms ≡ others = terms-once generators table terms others (all_positive generators terms arity a.arity_is) (all_positive generators others other b.arity_is) (sym a.spelled ∙ b.spelled) in
+    (same, arity_once generators others arity other (subst (HaveArity generators arity) same a.arity_is) b.arity_is)
