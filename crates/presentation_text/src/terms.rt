@@ -5,6 +5,7 @@ ghost use Rattle.symmetric_sums.specs.Terms.{FitsOver, terms_of};
 ghost use Rattle.presentation_text.specs.Accepted.{ElementsAreAccepted};
 ghost use Rattle.presentation_text.specs.Elements as elements;
 ghost use Rattle.presentation_text.specs.ElementForms as spec;
+ghost use Rattle.presentation_text.specs.Laws.{ElementsAreReadOnce};
 ghost use Rattle.presentation_text.specs.TreeForms.{begins_with, demands_of};
 
 use crate::kinds::PartFail;
@@ -233,4 +234,9 @@ pub fn element_at(
 /// demanded, and go on with no further term.
 pub fn elements_are_accepted()
     ensures law { ElementsAreAccepted }
+{}
+
+/// Law: tokens are those of at most one element.
+pub fn elements_are_read_once()
+    ensures law { ElementsAreReadOnce }
 {}
