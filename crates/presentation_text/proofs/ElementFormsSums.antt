@@ -42,11 +42,6 @@ pub never_differs : (coef : ℕ) (tree : program.Tree) (old new : List Term) (fa
 never_differs coef tree old new fail is added j =
     let refused : (new ≡ old) × (Joins coef tree old → ⊥) = subst (λ f. Added coef tree old (Err f) new) is added in refused.1 j
 
--- the sum without terms
-pub over-none : (p : ℕ) (generators : List Generator) (n : ℕ) (sum : List Term) → sum ≡ [] → IsSumOver p generators n sum
-over-none p generators n sum e = subst (IsSumOver p generators n) (sym e)
-    (record { residues = All-nil (λ (x : Term). x.coef < p); labelled = All-nil (λ (x : Term). IsLabelled generators n (tree_of x.tree)) })
-
 pub over-fits : (p : ℕ) (generators : List Generator) (n : ℕ) (sum : List Term) → IsSumOver p generators n sum → FitsOver p generators sum
 over-fits p generators n sum over = record {
   residues = over.residues;
