@@ -14,7 +14,7 @@ use Rattle.presentation_text.specs.declared.kinds.PartFail.{PartFail}
 use Rattle.presentation_text.specs.declared.lexing.Token.{Token}
 use Rattle.presentation_text.specs.declared.trees.Demands.{Demands}
 use Rattle.presentation_text.specs.declared.trees.TreeRead.{TreeRead}
-use Rattle.presentation_text.specs.Readings.{Fault, ◌>>=◌}
+use Rattle.presentation_text.specs.Readings.{Fault}
 use Rattle.presentation_text.specs.TreeForms.{has_each, differs, tree_in, whole_tree_in, IsTreeRead}
 use Rattle.presentation_text.specs.ElementForms.{behind_one, coefficient, behind_coefficient, term_in, IsTermRead}
 use Rattle.presentation_text.proofs.TreeFormsLeaves.{numbered-had}
