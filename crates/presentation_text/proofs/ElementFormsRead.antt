@@ -1,27 +1,26 @@
--- Reading an element: what the functions that read its parts give, put together.
-use Rattle.std.proofs.Common.{◌≡◌, ℕ, zero, suc, ◌+◌, ◌-◌, ◌<◌, ◌≤◌, Bool, true, false, List, [], ◌∷◌, length, drop, Option, Some, None, Result, Ok, Err, refl, ap, sym, ◌∙◌, subst, arith}
-use Rattle.std.specs.Prelude.{not, ◌&&◌, ◌==◌, nat_lt}
+-- Reading a term: what the functions that read its parts give, put together.
+use Rattle.std.proofs.Common.{◌≡◌, ℕ, zero, suc, ◌+◌, Bool, false, not, ◌&&◌, List, [], ◌∷◌, length, drop, Option, Some, Result, Ok, Err, refl, ap, sym, ◌∙◌, subst, arith}
+use Rattle.std.specs.Prelude.{nat_lt}
 use Rattle.std.specs.Result.{IsErr, IsErrAnd}
-use Rattle.std.proofs.lemmas.Bool.{eqb-true}
-use native.Mathlib.Decide.{dec_lt}
 use Rattle.labelled_trees.specs.Trees.{Tree}
-use Rattle.labelled_trees.specs.Leaves.{occurs, leaf_count}
+use Rattle.labelled_trees.specs.Leaves.{leaf_count}
 use Rattle.labelled_trees.specs.Labelled.{IsNumbered}
 use Rattle.labelled_trees.specs.Meaning.{tree_of}
-use Rattle.labelled_trees.proofs.Counts.{only_within}
 use Rattle.labelled_trees.proofs.Numbered.{labelled_of_numbered}
 use Rattle.symmetric_trees.specs.declared.generators.Generator.{Generator}
 use Rattle.symmetric_trees.specs.Trees.{Fits, IsLabelled}
-use Rattle.presentation_text.specs.declared.kinds.DocKind.{DocKind}
 use Rattle.presentation_text.specs.declared.kinds.DocKind.TheVariants.{Labels, ArityOut, MixedArity}
 use Rattle.presentation_text.specs.declared.kinds.PartFail.{PartFail}
-use Rattle.presentation_text.specs.declared.kinds.PartFail.TheVariants.{At, NoMemory}
 use Rattle.presentation_text.specs.declared.lexing.Token.{Token}
 use Rattle.presentation_text.specs.declared.trees.Demands.{Demands}
 use Rattle.presentation_text.specs.declared.trees.TreeRead.{TreeRead}
-use Rattle.presentation_text.specs.Readings.{Fault, Reading, ◌>>=◌, first_row, refused, StopsAs}
-use Rattle.presentation_text.specs.TreeForms.{has_each, differs, against, tree_in, whole_tree_in, IsTreeRead}
+use Rattle.presentation_text.specs.Readings.{Fault}
+use Rattle.presentation_text.specs.TreeForms.{has_each, differs, tree_in, whole_tree_in, IsTreeRead}
 use Rattle.presentation_text.specs.ElementForms.{behind_one, coefficient, behind_coefficient, term_in, IsTermRead}
+use Rattle.presentation_text.proofs.TreeFormsLeaves.{numbered-had}
+use Rattle.presentation_text.proofs.TreeFormsSteps.{judged}
+use Rattle.presentation_text.proofs.TreesAcceptedTrees.{bound}
+use Rattle.presentation_text.proofs.TreesAccepted.{NoneOfThree, none_held, unlike_leaves, same_arity}
 
 -- ---- places and faults
 
@@ -39,86 +38,20 @@ pub given_on : {A : Type 0} (Gives : Result A PartFail → Type 0) (r : Result A
 given_on Gives (Ok x) fail h e g = absurd e
 given_on Gives (Err f) fail h e g = subst (λ x. Gives (Err x)) (sym e) g
 
--- where every fault of one reading is one of another
-pub stops_with : {X Y : Type 0} (tokens : List Token) (r : Result X Fault) (s : Result Y Fault) (fail : PartFail) → ((e : Fault) → r ≡ Err e → s ≡ Err e) → StopsAs tokens r fail → StopsAs tokens s fail
-stops_with tokens r s (At token kind) f h = (f (length tokens - token, kind) h.0, h.1)
-stops_with tokens r s NoMemory f h = tt
-
 -- ---- a tree as it is demanded
 
-pub unrefused : {X : Type 0} (left : ℕ) (o : Option DocKind) (x y : X) → refused left o (Ok x) ≡ Ok y → (o ≡ None) × (x ≡ y)
-unrefused left None x y e = (refl, cc)
-unrefused left (Some kind) x y e = absurd cc
+-- none of the tests against a tree holds
+abbrev NothingAgainst : Demands → Tree ℕ → Type 0
+NothingAgainst demands t = NoneOfThree (not demands.loose && not (has_each (leaf_count t) t)) (nat_lt (leaf_count t) demands.least) (differs demands.arity (leaf_count t))
 
--- a list of rows of which none holds
-pub no_row : (test : Bool) (kind : DocKind) (rows : List (Bool × DocKind)) → first_row ((test, kind) ∷ rows) ≡ None → (test ≡ false) × (first_row rows ≡ None)
-no_row true kind rows e = absurd cc
-no_row false kind rows e = (refl, e)
-
--- what is read is as demanded
-pub nothing_against : (demands : Demands) (r : Reading (Tree ℕ)) (t : Tree ℕ) (rest : List Token)
-    → (r >>= (λ found. refused (suc (length found.1)) (first_row (against demands found.0)) (Ok found))) ≡ Ok (t, rest) → first_row (against demands t) ≡ None
-nothing_against demands (Ok (u, s)) t rest e =
-    let none = unrefused (suc (length s)) (first_row (against demands u)) (u, s) (t, rest) e in
-    subst (λ (found : Tree ℕ × List Token). first_row (against demands found.0) ≡ None) none.1 none.0
-nothing_against demands (Err f) t rest e = absurd cc
-
-pub and-true : (a b : Bool) → (a && b) ≡ true → (a ≡ true) × (b ≡ true)
-and-true true true e = (refl, refl)
-and-true true false e = absurd cc
-and-true false b e = absurd cc
-
-has_each-is : (n : ℕ) (t : Tree ℕ) → has_each n t ≡ true → (i : ℕ) → 0 < i → i ≤ n → occurs i t ≡ 1
-has_each-is zero t e i a b = absurd (omega arith)
-has_each-is (suc n) t e i a b =
-    let both = and-true (has_each n t) (occurs (suc n) t == 1) e in
-    by (has_each-is n t both.0 i a) both.1 (dec_lt i (suc n))
-  where
-    by : (i ≤ n → occurs i t ≡ 1) → (occurs (suc n) t == 1) ≡ true → Dec (i < suc n) → occurs i t ≡ 1
-    by before last (yes l) = before (omega (arith, l))
-    by before last (no l) =
-        let same : i ≡ suc n = omega (arith, l) in
-        subst (λ k. occurs k t ≡ 1) (sym same) (eqb-true (occurs (suc n) t) 1 last)
-
-numbered : (t : Tree ℕ) → has_each (leaf_count t) t ≡ true → IsNumbered (leaf_count t) t
-numbered t e = let each = has_each-is (leaf_count t) t e in record { each = each; only = only_within (leaf_count t) t refl each }
-
-strict : (loose each : Bool) → loose ≡ false → (not loose && not each) ≡ false → each ≡ true
-strict true each l e = absurd cc
-strict false true l e = refl
-strict false false l e = absurd cc
-
-same_arity : (arity : Option ℕ) (m n : ℕ) → arity ≡ Some n → differs arity m ≡ false → m ≡ n
-same_arity None m n e d = absurd cc
-same_arity (Some k) m n e d = let same : k ≡ n = cc in not_other (m == k) refl d
-  where
-    not_other : (b : Bool) → (m == k) ≡ b → not b ≡ false → m ≡ n
-    not_other true is f = eqb-true m k is ∙ cc
-    not_other false is f = absurd cc
-
--- the rows against a tree, from the second on
-abbrev arity_rows : Demands → Tree ℕ → List (Bool × DocKind)
-arity_rows demands t = (nat_lt (leaf_count t) demands.least, ArityOut) ∷ (differs demands.arity (leaf_count t), MixedArity) ∷ []
-
-abbrev pub none_against : Demands → Tree ℕ → Type 0
-none_against demands t = first_row (against demands t) ≡ None
-
-pub read_unopposed : (generators : List Generator) (demands : Demands) (ts : List Token) (t : Tree ℕ) (rest : List Token) → whole_tree_in generators demands ts ≡ Ok (t, rest) → none_against demands t
+nothing_against : (generators : List Generator) (demands : Demands) (ts : List Token) (t : Tree ℕ) (rest : List Token) → whole_tree_in generators demands ts ≡ Ok (t, rest) → NothingAgainst demands t
 unfolding whole_tree_in
-read_unopposed generators demands ts t rest read = nothing_against demands (tree_in generators 8 0 ts) t rest read
-
--- a tree that is read has the leaves 1 to n, each once
-pub read_numbered : (demands : Demands) (t : Tree ℕ) → demands.loose ≡ false → none_against demands t → IsNumbered (leaf_count t) t
-read_numbered demands t l none =
-    let row = no_row (not demands.loose && not (has_each (leaf_count t) t)) Labels (arity_rows demands t) none in
-    numbered t (strict demands.loose (has_each (leaf_count t) t) l row.0)
-
-pub read_of_arity : (demands : Demands) (t : Tree ℕ) → none_against demands t → (n : ℕ) → demands.arity ≡ Some n → leaf_count t ≡ n
-read_of_arity demands t none n known =
-    let first = no_row (not demands.loose && not (has_each (leaf_count t) t)) Labels (arity_rows demands t) none in
-    let second = no_row (nat_lt (leaf_count t) demands.least) ArityOut ((differs demands.arity (leaf_count t), MixedArity) ∷ []) first.1 in
-    let third = no_row (differs demands.arity (leaf_count t)) MixedArity [] second.1 in
-    same_arity demands.arity (leaf_count t) n known third.0
+nothing_against generators demands ts t rest read =
+    let found = bound (tree_in generators 8 0 ts) (judged demands) (t, rest) read in
+    let u = found.value.0 in
+    let tests = none_held (not demands.loose && not (has_each (leaf_count u) u)) (nat_lt (leaf_count u) demands.least) (differs demands.arity (leaf_count u)) Labels ArityOut MixedArity
+    (suc (length found.value.1)) found.value (t, rest) found.further in
+    subst (λ (pair : Tree ℕ × List Token). NothingAgainst demands pair.0) tests.1 tests.0
 
 -- ---- a term
 
@@ -142,11 +75,13 @@ module _ (generators : List Generator) (demands : Demands) (tokens : List Token)
   }
 
 module _ (generators : List Generator) (demands : Demands) (tokens : List Token) (begin : ℕ) (read : TreeRead) (is : IsTreeRead tokens (whole_tree_in generators demands (drop begin tokens)) read) where
-  none : none_against demands (tree_of read.tree)
-  none = read_unopposed generators demands (drop begin tokens) (tree_of read.tree) (drop read.end tokens) is.reading_is
+  nothing : NothingAgainst demands (tree_of read.tree)
+  nothing = nothing_against generators demands (drop begin tokens) (tree_of read.tree) (drop read.end tokens) is.reading_is
 
   pub term-labelled : demands.loose ≡ false → Fits generators (tree_of read.tree) → IsLabelled generators read.leaves (tree_of read.tree)
-  term-labelled l fits = labelled_of_numbered fits (subst (λ n. IsNumbered n (tree_of read.tree)) (sym is.leaves_are) (read_numbered demands (tree_of read.tree) l none))
+  term-labelled strict fits =
+      let each = unlike_leaves demands.loose (has_each (leaf_count (tree_of read.tree)) (tree_of read.tree)) nothing.first strict in
+      labelled_of_numbered fits (subst (λ n. IsNumbered n (tree_of read.tree)) (sym is.leaves_are) (numbered-had (tree_of read.tree) each))
 
   pub term-arity : (n : ℕ) → demands.arity ≡ Some n → read.leaves ≡ n
-  term-arity n known = is.leaves_are ∙ read_of_arity demands (tree_of read.tree) none n known
+  term-arity n known = is.leaves_are ∙ same_arity demands.arity (leaf_count (tree_of read.tree)) nothing.third n known

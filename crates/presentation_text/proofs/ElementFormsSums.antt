@@ -1,7 +1,7 @@
 -- The sum of the terms read so far, and what its terms say.
 use Rattle.std.proofs.Common.{◌≡◌, ℕ, ◌<◌, Bool, true, false, List, [], ◌∷◌, ◌++◌, Err, refl, ap, sym, subst}
 use Rattle.std.specs.Prelude.{if◌then◌else◌, ◌==◌}
-use Rattle.std.proofs.lemmas.List.Elements.{All-nil, All-push, All-weaker}
+use Rattle.std.proofs.lemmas.List.Elements.{All-push, All-weaker}
 use Rattle.labelled_trees.specs.Labelled.{IsNumbered}
 use Rattle.labelled_trees.specs.Meaning.{tree_of}
 use Rattle.labelled_trees.specs.declared.Tree as program
@@ -41,11 +41,6 @@ joins p generators n old coef tree over labelled = λ positive. (
 pub never_differs : (coef : ℕ) (tree : program.Tree) (old new : List Term) (fail : SumFail) → fail ≡ ArityDiffers → Added coef tree old (Err fail) new → Joins coef tree old → ⊥
 never_differs coef tree old new fail is added j =
     let refused : (new ≡ old) × (Joins coef tree old → ⊥) = subst (λ f. Added coef tree old (Err f) new) is added in refused.1 j
-
--- the sum without terms
-pub over-none : (p : ℕ) (generators : List Generator) (n : ℕ) (sum : List Term) → sum ≡ [] → IsSumOver p generators n sum
-over-none p generators n sum e = subst (IsSumOver p generators n) (sym e)
-    (record { residues = All-nil (λ (x : Term). x.coef < p); labelled = All-nil (λ (x : Term). IsLabelled generators n (tree_of x.tree)) })
 
 pub over-fits : (p : ℕ) (generators : List Generator) (n : ℕ) (sum : List Term) → IsSumOver p generators n sum → FitsOver p generators sum
 over-fits p generators n sum over = record {

@@ -14,7 +14,8 @@ use Rattle.presentation_text.specs.Readings.{Fault, Reading, ◌>>=◌}
 use Rattle.presentation_text.specs.TreeForms.{begins_with, demands_of}
 use Rattle.presentation_text.specs.Elements.{Written, said}
 use Rattle.presentation_text.specs.ElementForms.{behind_one, is_nothing, term_in, further_in, element_in, IsElementOf, GivesElement, written, IsTermRead, GivesFurther}
-use Rattle.presentation_text.proofs.ElementFormsRead.{drop-behind_one, stops_with}
+use Rattle.presentation_text.proofs.TreeFormsPlaces.{stops-on}
+use Rattle.presentation_text.proofs.ElementFormsRead.{drop-behind_one}
 use Rattle.presentation_text.proofs.ElementFormsSums.{said-append}
 
 module _ (generators : List Generator) (least : ℕ) (arity : Option ℕ) where
@@ -93,5 +94,5 @@ module _ (p : ℕ) (generators : List Generator) (least : ℕ) (arity : Option �
         sum_is = goes.sum_is ∙ ap (λ l. l ++ said p goes.terms) says ∙ sym (said-append p (written first ∷ []) goes.terms);
         arity_is = goes.arity_is ∙ ap Some read.leaves_are;
       }
-      element-reads (Err fail) stops = stops_with tokens (further first.tree.leaves) (element_in generators (demands_of least arity) (drop at tokens)) fail
-          (λ e is. whole ∙ further-stops generators least arity (drop begin tokens) (drop first.tree.end tokens) negative (written first) e read.reading_is (same ∙ is)) stops
+      element-reads (Err fail) stops = stops-on tokens (further first.tree.leaves) (element_in generators (demands_of least arity) (drop at tokens))
+          (λ e is. whole ∙ further-stops generators least arity (drop begin tokens) (drop first.tree.end tokens) negative (written first) e read.reading_is (same ∙ is)) fail stops

@@ -1,5 +1,5 @@
 -- Which elements reading accepts: those of the grammar that go on as long as they can.
-use Rattle.std.proofs.Common.{◌≡◌, ℕ, zero, suc, ◌<◌, ◌≤◌, Bool, true, false, List, [], ◌∷◌, ◌++◌, length, Option, Some, None, Result, Ok, Err, refl, ap, sym, ◌∙◌, subst, arith, append_assoc, length-append}
+use Rattle.std.proofs.Common.{◌≡◌, ℕ, zero, suc, ◌<◌, ◌≤◌, Bool, true, false, List, [], ◌∷◌, ◌++◌, length, Option, Some, None, Ok, refl, ap, sym, ◌∙◌, subst, arith, append_assoc, length-append}
 use Rattle.std.specs.Prelude.{if◌then◌else◌}
 use Rattle.std.specs.List.{All}
 use Rattle.std.proofs.lemmas.List.Elements.{All-nil, All-cons, All-head, All-tail, All-weaker}
@@ -14,27 +14,18 @@ use Rattle.symmetric_trees.specs.declared.generators.Generator.{Generator}
 use Rattle.presentation_text.specs.declared.lexing.Token.{Token}
 use Rattle.presentation_text.specs.declared.lexing.Token.TheVariants.{Byte}
 use Rattle.presentation_text.specs.declared.trees.Demands.{Demands}
-use Rattle.presentation_text.specs.Readings.{Fault, Reading, ◌>>=◌}
+use Rattle.presentation_text.specs.Readings.{Reading, ◌>>=◌}
 use Rattle.presentation_text.specs.TreeForms.{begins_with, demands_of, whole_tree_in}
 use Rattle.presentation_text.specs.TreeText.{tree_tokens}
 use Rattle.presentation_text.specs.Elements.{Written, coefficient_tokens, term_tokens, mark, further_tokens, element_tokens, IsElementTree}
 use Rattle.presentation_text.specs.ElementForms.{behind_one, is_nothing, coefficient, behind_coefficient, term_in, sign, further_in, element_in}
 use Rattle.presentation_text.specs.Accepted.{IsDemanded, TreesAreAccepted, NotMarked, is_bare_leaf, ends_bare, EndsBefore, HaveDemandedArity, AreDemanded, ElementsAreAccepted}
+use Rattle.presentation_text.proofs.TreesAcceptedTrees.{bound}
 use Rattle.presentation_text.proofs.ElementFormsFurther.{behind_sign, signed, unsigned}
 use Rattle.presentation_text.proofs.ElementFormsWhole.{from_first, first-is, nothing-is, further-reads}
 use Rattle.presentation_text.proofs.ElementFronts.{coefficient-spelled, bare-ends, coefficient-is, behind-is, sign-spelled, sign-is, no-sign, unsigned-ends, sign-no-star, nothing-spelled, nothing-there, something-there, minus-there, minus-behind, minus-spelled}
 
 -- ---- readings
-
--- two things are read, and so the first was
-pub record BothRead {A B : Type 0} (r : Result A Fault) (f : A → Result B Fault) (y : B) : Type 0 where
-  pub first : A
-  pub first_is : r ≡ Ok first
-  pub second_is : f first ≡ Ok y
-
-pub both-read : {A B : Type 0} (r : Result A Fault) (f : A → Result B Fault) (y : B) → (r >>= f) ≡ Ok y → BothRead r f y
-both-read (Ok x) f y e = record { first = x; first_is = refl; second_is = e }
-both-read (Err e) f y h = absurd cc
 
 abbrev read_pair : {X : Type 0} → X × List Token → Reading X
 read_pair found = Ok found
@@ -99,10 +90,10 @@ module _ (trees : TreesAreAccepted) (generators : List Generator) (table : IsTab
     pub term-spelled : (negative : Bool) (ts rest : List Token) (term : Written) → term_in generators demands negative ts ≡ Ok (term, rest) → TermSpelled negative ts rest term
     unfolding term_in
     term-spelled negative ts rest term e =
-        let both = both-read (whole_tree_in generators demands (behind_coefficient (coefficient ts) ts)) (λ found. read (term_as negative (coefficient ts) found.0) found.1) (term, rest) e in
-        let same = same-read (term_as negative (coefficient ts) both.first.0) term both.first.1 rest both.second_is in
-        let first = term-of negative ts both.first.1 both.first.0 both.first_is in
-        subst (λ x. TermSpelled negative ts x term) same.1 (subst (TermSpelled negative ts both.first.1) same.0 first)
+        let both = bound (whole_tree_in generators demands (behind_coefficient (coefficient ts) ts)) (λ found. read (term_as negative (coefficient ts) found.0) found.1) (term, rest) e in
+        let same = same-read (term_as negative (coefficient ts) both.value.0) term both.value.1 rest both.further in
+        let first = term-of negative ts both.value.1 both.value.0 both.first in
+        subst (λ x. TermSpelled negative ts x term) same.1 (subst (TermSpelled negative ts both.value.1) same.0 first)
 
     pub term-read : (ts rest : List Token) (term : Written) → ts ≡ term_tokens generators term ++ rest → IsDemanded generators demands term.tree
         → (is_bare_leaf term.coefficient term.tree ≡ true → NotMarked 42 rest) → term_in generators demands term.negative ts ≡ Ok (term, rest)
@@ -152,16 +143,16 @@ module _ (trees : TreesAreAccepted) (generators : List Generator) (table : IsTab
     sign-read : (most : ℕ) (negative : Bool) (ts rest : List Token) (terms : List Written) → behind_sign generators demands most negative ts ≡ Ok (terms, rest) → SignRead most negative ts rest terms
     unfolding behind_sign
     sign-read most negative ts rest terms e =
-        let one = both-read (term_in generators demands negative (behind_one ts))
+        let one = bound (term_in generators demands negative (behind_one ts))
         (λ first. further_in most generators demands first.1 >>= (λ others. read (first.0 ∷ others.0) others.1)) (terms, rest) e in
-        let two = both-read (further_in most generators demands one.first.1) (λ others. read (one.first.0 ∷ others.0) others.1) (terms, rest) one.second_is in
-        let same = same-read (one.first.0 ∷ two.first.0) terms two.first.1 rest two.second_is in
+        let two = bound (further_in most generators demands one.value.1) (λ others. read (one.value.0 ∷ others.0) others.1) (terms, rest) one.further in
+        let same = same-read (one.value.0 ∷ two.value.0) terms two.value.1 rest two.further in
         record {
-          first = one.first.0;
-          behind = one.first.1;
-          others = two.first.0;
-          first_is = one.first_is;
-          others_are = two.first_is ∙ ap (λ r. read two.first.0 r) same.1;
+          first = one.value.0;
+          behind = one.value.1;
+          others = two.value.0;
+          first_is = one.first;
+          others_are = two.first ∙ ap (λ r. read two.value.0 r) same.1;
           terms_are = same.0;
         }
 
@@ -237,16 +228,16 @@ module _ (trees : TreesAreAccepted) (generators : List Generator) (table : IsTab
     first-read : (negative : Bool) (ts rest : List Token) (terms : List Written) → from_first generators least arity negative ts ≡ Ok (terms, rest) → FirstRead negative ts rest terms
     unfolding from_first
     first-read negative ts rest terms e =
-        let one = both-read (term_in generators asked negative ts)
+        let one = bound (term_in generators asked negative ts)
         (λ first. further_in (length first.1) generators (asked_of (first.0).tree) first.1 >>= (λ others. read (first.0 ∷ others.0) others.1)) (terms, rest) e in
-        let two = both-read (further_in (length one.first.1) generators (asked_of (one.first.0).tree) one.first.1) (λ others. read (one.first.0 ∷ others.0) others.1) (terms, rest) one.second_is in
-        let same = same-read (one.first.0 ∷ two.first.0) terms two.first.1 rest two.second_is in
+        let two = bound (further_in (length one.value.1) generators (asked_of (one.value.0).tree) one.value.1) (λ others. read (one.value.0 ∷ others.0) others.1) (terms, rest) one.further in
+        let same = same-read (one.value.0 ∷ two.value.0) terms two.value.1 rest two.further in
         record {
-          first = one.first.0;
-          behind = one.first.1;
-          others = two.first.0;
-          first_is = one.first_is;
-          others_are = two.first_is ∙ ap (λ r. read two.first.0 r) same.1;
+          first = one.value.0;
+          behind = one.value.1;
+          others = two.value.0;
+          first_is = one.first;
+          others_are = two.first ∙ ap (λ r. read two.value.0 r) same.1;
           terms_are = same.0;
         }
 

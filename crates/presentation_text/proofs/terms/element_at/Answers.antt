@@ -3,7 +3,8 @@ use Rattle.symmetric_sums.specs.Terms.{terms_of}
 use Rattle.presentation_text.specs.Elements as elements
 use Rattle.presentation_text.specs.ElementForms as spec
 use Rattle.presentation_text.specs.TreeForms.{demands_of}
-use Rattle.presentation_text.proofs.ElementFormsRead.{given_on, stops_with}
+use Rattle.presentation_text.proofs.TreeFormsPlaces.{stops-on}
+use Rattle.presentation_text.proofs.ElementFormsRead.{given_on}
 use Rattle.presentation_text.proofs.ElementFormsWhole.{nothing-read, element-stops, element-reads}
 use Rattle.presentation_text.proofs.terms.element_at.Goals as goal
 
@@ -19,10 +20,10 @@ returns-in_err-first-clause-read c =
     let term = spec.term_in c.args.table.now demands from.result.0 (drop from.result.1 tokens) in
     let element = spec.element_in c.args.table.now demands (drop c.args.at tokens) in
     given_on (spec.GivesElement c.args.field tokens element) c.from_residual.result c.in_err-first.field-0.0 c.from_residual.ensures.0 c.from_residual.ensures.1
-    (stops_with tokens term element c.in_err-first.field-0.0
+    (stops-on tokens term element
     (element-stops c.args.field c.args.table.now c.args.least c.args.arity tokens c.args.at from.result.0 from.result.1 (sym c.is_nothing.ensures ∙ c.if-is_nothing.false)
     from.ensures.minus from.ensures.behind)
-    c.in_err-first.ensures.read)
+    c.in_err-first.field-0.0 c.in_err-first.ensures.read)
 
 pub returns-clause-read : goal.returns-clause-read
 returns-clause-read c =

@@ -1,7 +1,8 @@
 use Rattle.std.proofs.Common.{◌≡◌, ◌+◌, Some, None, drop, length, sym, ◌∙◌, subst, refl}
 use Rattle.presentation_text.specs.ElementForms as spec
 use Rattle.presentation_text.specs.TreeForms.{demands_of}
-use Rattle.presentation_text.proofs.ElementFormsRead.{given_on, stops_with}
+use Rattle.presentation_text.proofs.TreeFormsPlaces.{stops-on}
+use Rattle.presentation_text.proofs.ElementFormsRead.{given_on}
 use Rattle.presentation_text.proofs.ElementFormsSums.{over-fits}
 use Rattle.presentation_text.proofs.ElementFormsFurther.{way-start, way-stops, way-step, way-ends}
 use Rattle.presentation_text.proofs.terms.further_at.Goals as goal
@@ -21,9 +22,9 @@ returns-in_err-term-clause-read c =
     let term = spec.term_in c.args.table.now demands c.in-Some.negative (drop (next + 1) tokens) in
     let whole = spec.further_in (length (drop c.args.begun.next tokens)) c.args.table.now demands (drop c.args.begun.next tokens) in
     given_on (spec.GivesFurther c.args.field tokens whole c.args.begun) c.from_residual.result c.in_err-term.field-0.0 c.from_residual.ensures.0 c.from_residual.ensures.1
-    (stops_with tokens term whole c.in_err-term.field-0.0
+    (stops-on tokens term whole
     (way-stops c.args.table.now demands c.args.field tokens c.args.begun c.loop-negative.sum next c.loop-negative.invariant.way c.in-Some.negative sign)
-    c.in_err-term.ensures.read)
+    c.in_err-term.field-0.0 c.in_err-term.ensures.read)
 
 pub add-requires-clause-over : goal.add-requires-clause-over
 add-requires-clause-over c =

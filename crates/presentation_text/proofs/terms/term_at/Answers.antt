@@ -1,7 +1,8 @@
 use Rattle.std.proofs.Common.{drop}
 use Rattle.presentation_text.specs.ElementForms as spec
 use Rattle.presentation_text.specs.TreeForms.{whole_tree_in}
-use Rattle.presentation_text.proofs.ElementFormsRead.{given_on, stops_with, term-stops, term-reads, term-labelled, term-arity}
+use Rattle.presentation_text.proofs.TreeFormsPlaces.{stops-on}
+use Rattle.presentation_text.proofs.ElementFormsRead.{given_on, term-stops, term-reads, term-labelled, term-arity}
 use Rattle.presentation_text.proofs.terms.term_at.Goals as goal
 
 pub returns-in_err-tree-clause-read : goal.returns-in_err-tree-clause-read
@@ -11,9 +12,9 @@ returns-in_err-tree-clause-read c =
     let tree = whole_tree_in c.args.table.now c.args.demands (drop from.result.1 tokens) in
     let term = spec.term_in c.args.table.now c.args.demands c.args.negative (drop c.args.at tokens) in
     given_on (spec.GivesTerm tokens term) c.from_residual.result c.in_err-tree.field-0.0 c.from_residual.ensures.0 c.from_residual.ensures.1
-    (stops_with tokens tree term c.in_err-tree.field-0.0
+    (stops-on tokens tree term
     (term-stops c.args.table.now c.args.demands tokens c.args.negative c.args.at from.result.1 from.result.0 from.ensures.coefficient from.ensures.behind)
-    c.in_err-tree.ensures.read)
+    c.in_err-tree.field-0.0 c.in_err-tree.ensures.read)
 
 pub returns-clause-read : goal.returns-clause-read
 returns-clause-read c =
