@@ -30,3 +30,4 @@ pub mod ElementFormsWhole
 pub mod ElementFronts
 pub mod ElementsAccepted
 pub mod TermsOnce
+pub mod ReadBack

@@ -20,3 +20,4 @@ pub mod DraftForms
 pub mod DocumentForms
 pub mod Presentations
 pub mod Laws
+pub mod ReadBack

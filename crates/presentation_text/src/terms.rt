@@ -5,6 +5,7 @@ ghost use Rattle.symmetric_sums.specs.Terms.{FitsOver, terms_of};
 ghost use Rattle.presentation_text.specs.Accepted.{ElementsAreAccepted};
 ghost use Rattle.presentation_text.specs.Elements as elements;
 ghost use Rattle.presentation_text.specs.ElementForms as spec;
+ghost use Rattle.presentation_text.specs.ReadBack.{PrintedElementsAreRead};
 ghost use Rattle.presentation_text.specs.TreeForms.{begins_with, demands_of};
 
 use crate::kinds::PartFail;
@@ -182,11 +183,14 @@ fn further_at(
 
 /// The element that stands at a place among the tokens of a line: the number 0 alone, not followed by '*'; or '-' or
 /// nothing, a term, and any number of further terms with '+' or '-' before each. A term is `number *`, which may be left
-/// out, and a tree of an element. Each tree has at least `least` leaves (from 1 on), and the arity that is given, if one is;
-/// else that of the first tree.
+/// out, and a tree whose leaves are 1 to n, each once; a number that is followed by '*' is no leaf. Each tree has at least
+/// `least` leaves (from 1 on), and the arity that is given, if one is; else that of the first tree. So has the tree of a
+/// term of residue 0, which the sum leaves out.
 ///
-/// `At` names the first token that is refused, and the kind, as for a tree; an element ends before the first token that can't go on
-/// with it. `NoMemory` comes for want of memory alone. The sum fits the field and the table.
+/// `At` names the first token that is refused. Its kind is as for a tree; at the last token of a tree it is the first of
+/// these that holds: `Labels`; `ArityOut` for fewer than `least` leaves; `MixedArity` for another arity than is asked.
+/// An element ends before the first token that can't go on with it. `NoMemory` comes for want of memory alone.
+/// The sum fits the field and the table.
 pub fn element_at(
     alloc: Global,
     field: Field,
@@ -233,4 +237,9 @@ pub fn element_at(
 /// demanded, and go on with no further term.
 pub fn elements_are_accepted()
     ensures law { ElementsAreAccepted }
+{}
+
+/// Law: the text of a sum whose trees may be read is read back to the sum, whatever stands behind it that ends an element.
+pub fn printed_elements_are_read()
+    ensures law { PrintedElementsAreRead }
 {}
