@@ -183,9 +183,9 @@ fn further_at(
 
 /// The element that stands at a place among the tokens of a line: the number 0 alone, not followed by '*'; or '-' or
 /// nothing, a term, and any number of further terms with '+' or '-' before each. A term is `number *`, which may be left
-/// out, and a tree whose leaves are 1 to n, each once; a number that is followed by '*' is no leaf. Each tree has at least
-/// `least` leaves (from 1 on), and the arity that is given, if one is; else that of the first tree. So has the tree of a
-/// term of residue 0, which the sum leaves out.
+/// out, and a tree whose leaves are 1 to n, each once. So a number that begins a term and is followed by '*' is no leaf.
+/// Each tree has at least `least` leaves (from 1 on), and the arity that is given, if one is; else that of the first tree.
+/// That holds for the tree of a term of residue 0 too, which the sum leaves out.
 ///
 /// `At` names the first token that is refused. Its kind is as for a tree; at the last token of a tree it is the first of
 /// these that holds: `Labels`; `ArityOut` for fewer than `least` leaves; `MixedArity` for another arity than is asked.
