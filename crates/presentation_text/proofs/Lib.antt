@@ -23,6 +23,11 @@ pub mod TreeFormsLeaves
 pub mod TreeFormsSteps
 pub mod TreesAcceptedTrees
 pub mod TreesAccepted
+pub mod TreesStopForms
+pub mod TreesStopTrees
+pub mod TreesStopLimits
+pub mod TreesGoOn
+pub mod TreesStop
 pub mod ElementFormsRead
 pub mod ElementFormsSums
 pub mod ElementFormsFurther
