@@ -10,6 +10,11 @@ pub mod TreeFormsLeaves
 pub mod TreeFormsSteps
 pub mod TreesAcceptedTrees
 pub mod TreesAccepted
+pub mod TreesStopForms
+pub mod TreesStopTrees
+pub mod TreesStopLimits
+pub mod TreesGoOn
+pub mod TreesStop
 pub mod ElementFormsRead
 pub mod ElementFormsSums
 pub mod ElementFormsFurther
@@ -17,3 +22,4 @@ pub mod ElementFormsWhole
 pub mod ElementFronts
 pub mod ElementsAccepted
 pub mod TermsOnce
+pub mod ReadBack

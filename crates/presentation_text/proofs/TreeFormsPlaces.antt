@@ -1,5 +1,5 @@
 -- Stopping at a place among tokens.
-use Rattle.std.proofs.Common.{◌≡◌, ◌≤◌, ◌-◌, ℕ, List, [], ◌∷◌, Result, Ok, Err, length, drop, ap, sym, ◌∙◌, subst, length-drop}
+use Rattle.std.proofs.Common.{◌≡◌, ◌≤◌, ◌-◌, ℕ, List, [], Result, Ok, Err, length, drop, ap, sym, ◌∙◌, subst, length-drop}
 use Rattle.std.specs.Result.{IsErr, IsErrAnd}
 use Rattle.labelled_trees.specs.Trees.{Tree}
 use Rattle.presentation_text.specs.declared.kinds.DocKind.{DocKind}

@@ -1,12 +1,11 @@
 -- Steps of reading a tree: names, marks, and the inputs read so far.
 use Rattle.std.specs.Prelude.{if◌then◌else◌, nat_eq}
-use Rattle.std.proofs.Common.{◌≡◌, ℕ, zero, suc, ◌+◌, ◌-◌, ◌<◌, ◌≤◌, Bool, true, false, not, List, [], ◌∷◌, ◌++◌, length, get_or, drop, Option, Some, None, Result, Ok, Err, refl, ap, sym, ◌∙◌, subst, arith, length-append, length-drop}
+use Rattle.std.proofs.Common.{◌≡◌, ℕ, zero, suc, ◌+◌, ◌-◌, ◌<◌, ◌≤◌, Bool, true, false, not, List, [], ◌∷◌, ◌++◌, length, get_or, drop, Option, Some, None, Result, Ok, Err, refl, ap, sym, ◌∙◌, arith, length-append, length-drop}
 use Rattle.std.specs.List.{AllPairs, HoldsAt}
-use Rattle.std.specs.Result.{IsErr, IsErrAnd}
 use Rattle.std.specs.Str.{bytes_eq}
 use Rattle.std.proofs.lemmas.Bool.{false_from_ne_true}
 use Rattle.std.proofs.lemmas.Slice.Eq.{bytes_eq-Decides}
-use Rattle.labelled_trees.specs.Trees.{Tree, Row, leaf, node, none, more, row, width}
+use Rattle.labelled_trees.specs.Trees.{Tree, Row, node, none, more, row}
 use Rattle.labelled_trees.specs.Leaves.{leaf_count, leaf_count_row}
 use Rattle.labelled_trees.specs.Labelled as labelled
 use Rattle.labelled_trees.specs.Labelled.{FitsRow}
@@ -17,13 +16,12 @@ use Rattle.symmetric_trees.specs.declared.generators.Generator.{Generator}
 use Rattle.presentation_text.specs.declared.kinds.DocKind.{DocKind}
 use Rattle.presentation_text.specs.declared.kinds.DocKind.TheVariants.{InputCount, NameUnknown, TooDeep}
 use Rattle.presentation_text.specs.declared.kinds.PartFail.{PartFail}
-use Rattle.presentation_text.specs.declared.kinds.PartFail.TheVariants.{At, NoMemory}
 use Rattle.presentation_text.specs.declared.lexing.Token.{Token}
 use Rattle.presentation_text.specs.declared.lexing.Token.TheVariants.{Word, Number, Long, Byte, Bad}
 use Rattle.presentation_text.specs.declared.trees.Demands.{Demands}
 use Rattle.presentation_text.specs.declared.trees.TreeRead.{TreeRead}
-use Rattle.presentation_text.specs.Readings.{Fault, Reading, ◌>>=◌, is_mark, misplaced, misfit, mark_in, first_row, refused, StopsAs, GivesBehind}
-use Rattle.presentation_text.specs.TreeForms.{Inside, next_index, index_of, begins_with, before_in, close_in, input_in, row_in, leaf_in, node_in, begun_in, tree_in, against, whole_tree_in, GivesTree, IsTreeRead}
+use Rattle.presentation_text.specs.Readings.{Fault, Reading, ◌>>=◌, is_mark, misplaced, misfit, mark_in, first_row, refused, StopsAs}
+use Rattle.presentation_text.specs.TreeForms.{Inside, next_index, index_of, begins_with, before_in, close_in, input_in, row_in, leaf_in, node_in, begun_in, tree_in, against, whole_tree_in, IsTreeRead}
 use Rattle.std.proofs.lemmas.Bool.Decides.{nat_tests}
 use Rattle.presentation_text.proofs.TreeTokens.{arity_in}
 use Rattle.presentation_text.proofs.TreeFormsPlaces.{stops-on}
@@ -159,13 +157,17 @@ unfolding tree_in
 tree_in-deep generators zero seen w g rest e last = ap (λ i. node_in generators None seen i rest) e
 tree_in-deep generators (suc depth) seen w g rest e last = absurd (omega arith)
 
+pub tree_in-below : (generators : List Generator) (depth seen : ℕ) (w : List ℕ) (g : ℕ) (rest : List Token) → index_of w generators ≡ Some g
+    → tree_in generators (suc depth) seen (Word w ∷ rest) ≡ node_in generators (Some (tree_in generators depth)) seen (Some g) rest
+unfolding tree_in
+tree_in-below generators depth seen w g rest e = ap (λ i. node_in generators (Some (tree_in generators depth)) seen i rest) e
+
 pub tree_in-node : (generators : List Generator) (depth seen : ℕ) (w : List ℕ) (g : ℕ) (rest : List Token) → index_of w generators ≡ Some g → (depth ≡ 0 → ⊥)
     → tree_in generators depth seen (Word w ∷ rest) ≡ node_in generators (Some (tree_in generators (depth - 1))) seen (Some g) rest
-unfolding tree_in
 tree_in-node generators zero seen w g rest e more_deep = absurd (more_deep refl)
 tree_in-node generators (suc depth) seen w g rest e more_deep =
     let less : depth ≡ suc depth - 1 = omega arith in
-    ap (λ i. node_in generators (Some (tree_in generators depth)) seen i rest) e ∙ ap (λ k. node_in generators (Some (tree_in generators k)) seen (Some g) rest) less
+    tree_in-below generators depth seen w g rest e ∙ ap (λ k. node_in generators (Some (tree_in generators k)) seen (Some g) rest) less
 
 -- ---- the inputs read so far
 

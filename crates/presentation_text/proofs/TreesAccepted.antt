@@ -1,6 +1,6 @@
 -- Which whole trees are read.
-use Rattle.std.specs.Prelude.{nat_lt, nat_eq, ◌==◌}
-use Rattle.std.proofs.Common.{◌≡◌, ℕ, suc, ◌<◌, ◌≤◌, ◌↔◌, Bool, true, false, not, ◌&&◌, List, [], ◌∷◌, ◌++◌, length, Option, Some, None, Result, Ok, Err, refl, ap, sym, ◌∙◌, subst, arith}
+use Rattle.std.specs.Prelude.{nat_lt, ◌==◌}
+use Rattle.std.proofs.Common.{◌≡◌, ℕ, suc, ◌≤◌, Bool, true, false, not, ◌&&◌, List, [], ◌∷◌, ◌++◌, length, Option, Some, None, Ok, refl, ap, ◌∙◌, subst, arith}
 use Rattle.std.proofs.lemmas.Bool.Decides.{Decides-eqb, nat_tests}
 use Rattle.labelled_trees.specs.Trees.{Tree}
 use Rattle.labelled_trees.specs.Leaves.{leaf_count}
@@ -12,12 +12,12 @@ use Rattle.presentation_text.specs.declared.kinds.DocKind.{DocKind}
 use Rattle.presentation_text.specs.declared.kinds.DocKind.TheVariants.{Labels, ArityOut, MixedArity}
 use Rattle.presentation_text.specs.declared.lexing.Token.{Token}
 use Rattle.presentation_text.specs.declared.trees.Demands.{Demands}
-use Rattle.presentation_text.specs.Readings.{Fault, Reading, ◌>>=◌, first_row, refused}
-use Rattle.presentation_text.specs.TreeForms.{tree_in, has_each, differs, against, whole_tree_in}
+use Rattle.presentation_text.specs.Readings.{first_row, refused}
+use Rattle.presentation_text.specs.TreeForms.{tree_in, has_each, differs, whole_tree_in}
 use Rattle.presentation_text.specs.TreeText.{tree_tokens}
 use Rattle.presentation_text.proofs.TreeFormsLeaves.{has-each, numbered-had}
 use Rattle.presentation_text.proofs.TreeFormsSteps.{judged, whole-accepted}
-use Rattle.presentation_text.proofs.TreesAcceptedTrees.{Bound, bound, IsReadInside, tree_sound, tree_back}
+use Rattle.presentation_text.proofs.TreesAcceptedTrees.{bound, IsReadInside, tree_sound, tree_back}
 
 -- none of three rows holds
 pub record NoneOfThree (a b c : Bool) : Type 0 where

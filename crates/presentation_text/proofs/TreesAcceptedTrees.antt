@@ -1,21 +1,20 @@
 -- Trees inside a tree are read exactly where their tokens stand.
-use Rattle.std.specs.Prelude.{if◌then◌else◌, ◌==◌, nat_le, nat_lt}
-use Rattle.std.proofs.Common.{◌≡◌, ℕ, zero, suc, ◌+◌, ◌-◌, ◌<◌, ◌≤◌, max, Bool, true, false, not, List, [], ◌∷◌, ◌++◌, length, get_or, Option, Some, None, Result, Ok, Err, refl, ap, sym, ◌∙◌, subst, arith, append_assoc}
-use Rattle.std.specs.List.{HoldsAt}
+use Rattle.std.specs.Prelude.{if◌then◌else◌, nat_le, nat_lt}
+use Rattle.std.proofs.Common.{◌≡◌, ℕ, zero, suc, ◌+◌, ◌-◌, ◌<◌, ◌≤◌, max, Bool, true, false, not, List, [], ◌∷◌, ◌++◌, length, Option, Some, None, Result, Ok, Err, refl, ap, sym, ◌∙◌, subst, arith, append_assoc}
 use Rattle.std.specs.Str.{bytes_eq}
 use Rattle.std.proofs.lemmas.Bool.Decides.{Decides-eqb, nat_tests}
 use Rattle.std.proofs.lemmas.Slice.Eq.{bytes_eq-Decides}
-use Rattle.labelled_trees.specs.Trees.{Tree, Row, leaf, node, none, more, row, width}
+use Rattle.labelled_trees.specs.Trees.{Tree, Row, leaf, node, none, more, width}
 use Rattle.labelled_trees.specs.Leaves.{AllLeaves, AllRow, leaf_count, leaf_count_row}
 use Rattle.labelled_trees.specs.Labelled as labelled
-use Rattle.symmetric_trees.specs.Generators.{IsTable, IsNamed}
+use Rattle.symmetric_trees.specs.Generators.{IsTable}
 use Rattle.symmetric_trees.specs.Trees.{Fits}
 use Rattle.symmetric_trees.specs.declared.generators.Generator.{Generator}
 use Rattle.presentation_text.specs.declared.kinds.DocKind.{DocKind}
 use Rattle.presentation_text.specs.declared.kinds.DocKind.TheVariants.{InputCount, TooWide, Labels}
 use Rattle.presentation_text.specs.declared.lexing.Token.{Token}
 use Rattle.presentation_text.specs.declared.lexing.Token.TheVariants.{Word, Number, Long, Byte, Bad}
-use Rattle.presentation_text.specs.Readings.{Fault, Reading, ◌>>=◌, is_mark, misplaced, misfit, mark_in, first_row, refused}
+use Rattle.presentation_text.specs.Readings.{Fault, Reading, ◌>>=◌, is_mark, misplaced, mark_in, first_row, refused}
 use Rattle.presentation_text.specs.TreeForms.{Inside, next_index, index_of, begins_with, before_in, close_in, input_in, row_in, leaf_in, node_in, begun_in, tree_or_end_in, tree_in}
 use Rattle.presentation_text.specs.TreeText.{name_of, tree_tokens, row_tokens, more_tokens, nested, nested_row}
 use Rattle.presentation_text.proofs.TreeTokens.{arity_in, arity_in-least, in_table, name_of-is}
@@ -35,10 +34,10 @@ bound (Err fault) f y e = absurd cc
 both_ok : {A B : Type 0} (a c : A) (b d : B) → ◌≡◌ {A = Result (A × B) Fault} (Ok (a, b)) (Ok (c, d)) → ◌≡◌ {A = A × B} (a, b) (c, d)
 both_ok a c b d e = cc
 
-ok_left : {A B : Type 0} (a c : A) (b d : B) → ◌≡◌ {A = Result (A × B) Fault} (Ok (a, b)) (Ok (c, d)) → a ≡ c
+pub ok_left : {A B : Type 0} (a c : A) (b d : B) → ◌≡◌ {A = Result (A × B) Fault} (Ok (a, b)) (Ok (c, d)) → a ≡ c
 ok_left {A = A} {B = B} a c b d e = ap (λ (p : A × B). p.0) (both_ok a c b d e)
 
-ok_right : {A B : Type 0} (a c : A) (b d : B) → ◌≡◌ {A = Result (A × B) Fault} (Ok (a, b)) (Ok (c, d)) → b ≡ d
+pub ok_right : {A B : Type 0} (a c : A) (b d : B) → ◌≡◌ {A = Result (A × B) Fault} (Ok (a, b)) (Ok (c, d)) → b ≡ d
 ok_right {A = A} {B = B} a c b d e = ap (λ (p : A × B). p.1) (both_ok a c b d e)
 
 -- ---- marks
@@ -49,9 +48,6 @@ marked c (Word w) e = absurd cc
 marked c (Number n) e = absurd cc
 marked c Long e = absurd cc
 marked c Bad e = absurd cc
-
-is_marked : (c : ℕ) → is_mark c (Byte c) ≡ true
-is_marked c = (Decides-eqb c c).1 refl
 
 -- the byte before an input
 abbrev pub mark_of : Bool → ℕ
@@ -72,7 +68,7 @@ unrefused true b kind other_kind left token c rest other f e = absurd cc
 unrefused false true kind other_kind left token c rest other f e = let same : rest ≡ other = cc in let mark = f refl in cc
 unrefused false false kind other_kind left token c rest other f e = absurd cc
 
-before_in-front : (first : Bool) (ts rest : List Token) → before_in first ts ≡ Ok rest → ts ≡ Byte (mark_of first) ∷ rest
+pub before_in-front : (first : Bool) (ts rest : List Token) → before_in first ts ≡ Ok rest → ts ≡ Byte (mark_of first) ∷ rest
 before_in-front true ts rest e = mark_in-front 40 ts rest e
 before_in-front false [] rest e = absurd cc
 before_in-front false (token ∷ others) rest e = unrefused (is_mark 41 token) (is_mark 44 token) InputCount (misplaced token) (suc (length others)) token 44 others rest (marked 44 token) e
@@ -85,15 +81,15 @@ input_read : (a : Bool) (kind : DocKind) (left : ℕ) (reading : Reading (Tree �
 input_read true kind left reading found e = absurd cc
 input_read false kind left reading found e = e
 
-input_in-read : (inside : Inside) (seen : ℕ) (ts : List Token) (found : Tree ℕ × List Token) → input_in inside seen ts ≡ Ok found → inside seen ts ≡ Ok found
+pub input_in-read : (inside : Inside) (seen : ℕ) (ts : List Token) (found : Tree ℕ × List Token) → input_in inside seen ts ≡ Ok found → inside seen ts ≡ Ok found
 input_in-read inside seen [] found e = e
 input_in-read inside seen (token ∷ rest) found e = input_read (is_mark 41 token) InputCount (suc (length rest)) (inside seen (token ∷ rest)) found e
 
-before_in-back : (first : Bool) (rest : List Token) → before_in first (Byte (mark_of first) ∷ rest) ≡ Ok rest
+pub before_in-back : (first : Bool) (rest : List Token) → before_in first (Byte (mark_of first) ∷ rest) ≡ Ok rest
 before_in-back true rest = refl
 before_in-back false rest = refl
 
-close_in-back : (rest : List Token) → close_in (Byte 41 ∷ rest) ≡ Ok rest
+pub close_in-back : (rest : List Token) → close_in (Byte 41 ∷ rest) ≡ Ok rest
 close_in-back rest = refl
 
 -- ---- names
@@ -103,9 +99,9 @@ next_index-is None g e = absurd cc
 next_index-is (Some h) g e = (h, refl, cc)
 
 -- the generator with an index, and its name
-record IsHeld (generators : List Generator) (name : List ℕ) (g : ℕ) : Type 0 where
-  held : g < length generators
-  named : name_of generators g ≡ name
+pub record IsHeld (generators : List Generator) (name : List ℕ) (g : ℕ) : Type 0 where
+  pub held : g < length generators
+  pub named : name_of generators g ≡ name
 
 held_by : (b : Bool) (x : Generator) (xs : List Generator) (name : List ℕ) (g : ℕ) → (b ≡ true → x.name ≡ name) → ((h : ℕ) → index_of name xs ≡ Some h → IsHeld xs name h)
     → (if b then Some 0 else next_index (index_of name xs)) ≡ Some g → IsHeld (x ∷ xs) name g
@@ -115,11 +111,11 @@ held_by false x xs name g f further e =
     let inside = further next.0 next.1 in
     subst (IsHeld (x ∷ xs) name) (sym next.2) (record { held = omega (arith, inside.held); named = inside.named })
 
-index_held : (generators : List Generator) (name : List ℕ) (g : ℕ) → index_of name generators ≡ Some g → IsHeld generators name g
+pub index_held : (generators : List Generator) (name : List ℕ) (g : ℕ) → index_of name generators ≡ Some g → IsHeld generators name g
 index_held [] name g e = absurd cc
 index_held (x ∷ xs) name g e = held_by (bytes_eq x.name name) x xs name g ((bytes_eq-Decides x.name name).0) (λ h f. index_held xs name h f) e
 
-least_arity : (generators : List Generator) → IsTable generators → (g : ℕ) → g < length generators → 2 ≤ arity_in generators g
+pub least_arity : (generators : List Generator) → IsTable generators → (g : ℕ) → g < length generators → 2 ≤ arity_in generators g
 least_arity [] table g l = absurd (omega arith)
 least_arity (x ∷ xs) table g l = arity_in-least (x ∷ xs) table g x l
 
@@ -155,7 +151,7 @@ row_is generators none l = absurd (omega arith)
 row_is generators (more t r) l = ap (λ x. Byte 40 ∷ (tree_tokens generators t ++ x)) (more_is generators r)
 
 -- the tokens of a vertex, and those behind it
-node_tokens : (generators : List Generator) (g : ℕ) (r : Row ℕ) (rest : List Token) → 0 < width r
+pub node_tokens : (generators : List Generator) (g : ℕ) (r : Row ℕ) (rest : List Token) → 0 < width r
     → tree_tokens generators (node g r) ++ rest ≡ Word (name_of generators g) ∷ (inputs_tokens generators true r ++ Byte 41 ∷ rest)
 node_tokens generators g r rest some =
     ap (λ x. Word (name_of generators g) ∷ x) (append_assoc (Byte 40 ∷ row_tokens generators r) (Byte 41 ∷ []) rest ∙ ap (λ x. x ++ Byte 41 ∷ rest) (row_is generators r some))
@@ -300,7 +296,7 @@ is_upto a b l = grind (arith, nat_tests)
 leaf_back : (seen n : ℕ) (rest : List Token) → seen < 9 → n ≤ 99 → leaf_in seen n rest ≡ Ok (leaf n, rest)
 leaf_back seen n rest l small = all_passed (nat_le 9 seen) (nat_lt 99 n) TooWide Labels (suc (length rest)) (Ok (leaf n, rest)) (is_below 9 seen l) (is_upto 99 n small)
 
-tree_begins : (generators : List Generator) (t : Tree ℕ) (rest : List Token) → begins_with 41 (tree_tokens generators t ++ rest) ≡ false
+pub tree_begins : (generators : List Generator) (t : Tree ℕ) (rest : List Token) → begins_with 41 (tree_tokens generators t ++ rest) ≡ false
 tree_begins generators (leaf n) rest = refl
 tree_begins generators (node g r) rest = refl
 
@@ -311,7 +307,7 @@ max_right : (a b n : ℕ) → max a b ≤ n → b ≤ n
 max_right a b n h = omega arith
 
 module _ (generators : List Generator) (table : IsTable generators) where
-  index_back : (g : ℕ) → 2 ≤ arity_in generators g → index_of (name_of generators g) generators ≡ Some g
+  pub index_back : (g : ℕ) → 2 ≤ arity_in generators g → index_of (name_of generators g) generators ≡ Some g
   index_back g least =
       let held = in_table generators g (omega arith) in
       steps.index-some generators (name_of generators g) g table held (λ d. sym (name_of-is generators g d held))

@@ -1,5 +1,5 @@
 -- Which tokens reading accepts: exactly those of the grammar, within the limits.
-use Rattle.std.specs.Prelude.{ℕ, ◌≡◌, ◌≢◌, ◌≤◌, ◌↔◌, Bool, true, false, List, [], ◌∷◌, ◌++◌, Option, Some, None, Ok}
+use Rattle.std.specs.Prelude.{ℕ, ◌≡◌, ◌≢◌, ◌≤◌, ◌↔◌, Bool, true, false, List, [], ◌∷◌, ◌++◌, length, Option, Some, None, Ok, Err}
 use Rattle.std.specs.List.{All}
 use Rattle.labelled_trees.specs.Trees.{Tree, leaf, node}
 use Rattle.labelled_trees.specs.Leaves.{AllLeaves, leaf_count}
@@ -7,6 +7,8 @@ use Rattle.labelled_trees.specs.Labelled.{IsNumbered}
 use Rattle.symmetric_trees.specs.Generators.{IsTable}
 use Rattle.symmetric_trees.specs.Trees.{Fits}
 use Rattle.symmetric_trees.specs.declared.generators.Generator.{Generator}
+use Rattle.presentation_text.specs.declared.kinds.DocKind.{DocKind}
+use Rattle.presentation_text.specs.declared.kinds.DocKind.TheVariants.{Syntax, NumberLong, NameUnknown, InputCount, TooDeep, TooWide}
 use Rattle.presentation_text.specs.declared.lexing.Token.{Token}
 use Rattle.presentation_text.specs.declared.lexing.Token.TheVariants.{Byte}
 use Rattle.presentation_text.specs.declared.trees.Demands.{Demands}
@@ -32,6 +34,34 @@ pub record IsDemanded (generators : List Generator) (demands : Demands) (t : Tre
 abbrev pub TreesAreAccepted : Type 0
 TreesAreAccepted = (generators : List Generator) → IsTable generators → (demands : Demands) (ts rest : List Token) (t : Tree ℕ)
     → (whole_tree_in generators demands ts ≡ Ok (t, rest)) ↔ ((ts ≡ tree_tokens generators t ++ rest) × IsDemanded generators demands t)
+
+-- The tokens go on from those in front as the ones behind do: with their first token, or with nothing where there is none.
+abbrev pub GoOnAs : List Token → List Token → List Token → Type 0
+GoOnAs front [] ts = ts ≡ front
+GoOnAs front (token ∷ back) ts = (others : List Token) × (ts ≡ front ++ token ∷ others)
+
+-- The trees that a refusal rules out: for a token that can't stand there any tree over the table, for a limit those within it, and else
+-- those that are as demanded.
+abbrev pub IsRuledOut : List Generator → Demands → DocKind → Tree ℕ → Type 0
+IsRuledOut generators demands Syntax t = Fits generators t
+IsRuledOut generators demands NumberLong t = Fits generators t
+IsRuledOut generators demands NameUnknown t = Fits generators t
+IsRuledOut generators demands InputCount t = Fits generators t
+IsRuledOut generators demands TooDeep t = Fits generators t × (nested t ≤ 8)
+IsRuledOut generators demands TooWide t = Fits generators t × (leaf_count t ≤ 9)
+IsRuledOut generators demands kind t = IsDemanded generators demands t
+
+-- Reading refuses a token, or the end of the line, only where the tokens of no tree that is ruled out go on so.
+abbrev pub TreesAreRefusedRightly : Type 0
+TreesAreRefusedRightly = (generators : List Generator) → IsTable generators → (demands : Demands) (front back : List Token) (kind : DocKind)
+    → whole_tree_in generators demands (front ++ back) ≡ Err (length back, kind)
+    → (t : Tree ℕ) → IsRuledOut generators demands kind t → GoOnAs front back (tree_tokens generators t) → ⊥
+
+-- The tokens before the refused one are the first of a tree over the table.
+abbrev pub RefusedTreesBegin : Type 0
+RefusedTreesBegin = (generators : List Generator) → IsTable generators → (demands : Demands) (front back : List Token) (kind : DocKind)
+    → whole_tree_in generators demands (front ++ back) ≡ Err (length back, kind)
+    → (t : Tree ℕ) × (others : List Token) × Fits generators t × (tree_tokens generators t ≡ front ++ others)
 
 -- ---- elements
 

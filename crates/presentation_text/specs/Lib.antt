@@ -12,3 +12,4 @@ pub mod DraftForms
 pub mod DocumentForms
 pub mod Presentations
 pub mod Laws
+pub mod ReadBack

@@ -19,8 +19,13 @@ pub use kinds::{DocFail, DocKind, PartFail, ReadDocFail};
 pub use lexing::{Token, tokens, tokens_are_defined, words_are_words};
 pub use lines::{counts, lines_are_defined, next_line};
 pub use presentations::read_document;
-pub use terms::{ElementAt, element_at, elements_are_accepted, elements_are_read_once};
-pub use trees::{tree_at, trees_are_accepted, trees_are_read_once};
+pub use terms::{
+    ElementAt, element_at, elements_are_accepted, elements_are_read_once, printed_elements_are_read,
+};
+pub use trees::{
+    refused_trees_begin, tree_at, trees_are_accepted, trees_are_read_once,
+    trees_are_refused_rightly,
+};
 pub use writing::{
     print_sum, print_tree, printed_sums_are_read_back, printed_trees_are_read_back, write_number,
     write_sum, write_tree,

@@ -6,6 +6,7 @@ ghost use Rattle.presentation_text.specs.Accepted.{ElementsAreAccepted};
 ghost use Rattle.presentation_text.specs.Elements as elements;
 ghost use Rattle.presentation_text.specs.ElementForms as spec;
 ghost use Rattle.presentation_text.specs.Laws.{ElementsAreReadOnce};
+ghost use Rattle.presentation_text.specs.ReadBack.{PrintedElementsAreRead};
 ghost use Rattle.presentation_text.specs.TreeForms.{begins_with, demands_of};
 
 use crate::kinds::PartFail;
@@ -183,11 +184,14 @@ fn further_at(
 
 /// The element that stands at a place among the tokens of a line: the number 0 alone, not followed by '*'; or '-' or
 /// nothing, a term, and any number of further terms with '+' or '-' before each. A term is `number *`, which may be left
-/// out, and a tree of an element. Each tree has at least `least` leaves (from 1 on), and the arity that is given, if one is;
-/// else that of the first tree.
+/// out, and a tree whose leaves are 1 to n, each once. So a number that begins a term and is followed by '*' is no leaf.
+/// Each tree has at least `least` leaves (from 1 on), and the arity that is given, if one is; else that of the first tree.
+/// That holds for the tree of a term of residue 0 too, which the sum leaves out.
 ///
-/// `At` names the first token that is refused, and the kind, as for a tree; an element ends before the first token that can't go on
-/// with it. `NoMemory` comes for want of memory alone. The sum fits the field and the table.
+/// `At` names the first token that is refused. Its kind is as for a tree; at the last token of a tree it is the first of
+/// these that holds: `Labels`; `ArityOut` for fewer than `least` leaves; `MixedArity` for another arity than is asked.
+/// An element ends before the first token that can't go on with it. `NoMemory` comes for want of memory alone.
+/// The sum fits the field and the table.
 pub fn element_at(
     alloc: Global,
     field: Field,
@@ -239,4 +243,9 @@ pub fn elements_are_accepted()
 /// Law: tokens are those of at most one element.
 pub fn elements_are_read_once()
     ensures law { ElementsAreReadOnce }
+{}
+
+/// Law: the text of a sum whose trees may be read is read back to the sum, whatever stands behind it that ends an element.
+pub fn printed_elements_are_read()
+    ensures law { PrintedElementsAreRead }
 {}

@@ -76,6 +76,7 @@ fn reads_elements(rt: HostRuntime) -> Result<(), Fail> {
         ),
         ("l(1,2) * l(1,2)", "l(1,2)", Some(2), 6),
         ("m(1,3,2)", "m(1,3,2)", Some(3), 8),
+        ("2 * 1 * 1", "2*1", Some(1), 3),
     ] {
         let Ok(found) = read(alloc, line, 1, None)? else {
             return Err(Fail::from("an element"));

@@ -3,7 +3,7 @@ ghost use Rattle.labelled_trees.specs.Leaves.{leaf_count};
 ghost use Rattle.labelled_trees.specs.Meaning.{tree_of};
 ghost use Rattle.symmetric_trees.specs.Trees.{Fits};
 ghost use Rattle.symmetric_trees.specs.declared.generators.Generator.{Generator};
-ghost use Rattle.presentation_text.specs.Accepted.{TreesAreAccepted};
+ghost use Rattle.presentation_text.specs.Accepted.{RefusedTreesBegin, TreesAreAccepted, TreesAreRefusedRightly};
 ghost use Rattle.presentation_text.specs.Laws.{TreesAreReadOnce};
 ghost use Rattle.presentation_text.specs.Readings.{first_row, GivesBehind};
 ghost use Rattle.presentation_text.specs.TreeForms as spec;
@@ -304,4 +304,16 @@ pub fn trees_are_accepted()
 /// Law: over a table, tokens begin with those of at most one tree that fits, and so go on in one way.
 pub fn trees_are_read_once()
     ensures law { TreesAreReadOnce }
+{}
+
+/// Law: where reading refuses a token, no tree over the table goes on with it behind the tokens before; and where it
+/// refuses the end of the line, these are the tokens of none. If a limit is passed, this is said of the trees within it;
+/// and if leaf numbers or the arity are refused, of the trees that are as demanded.
+pub fn trees_are_refused_rightly()
+    ensures law { TreesAreRefusedRightly }
+{}
+
+/// Law: where reading refuses a token, or the end of the line, the tokens before begin a tree over the table.
+pub fn refused_trees_begin()
+    ensures law { RefusedTreesBegin }
 {}

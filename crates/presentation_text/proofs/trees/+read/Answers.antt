@@ -1,5 +1,4 @@
-use Rattle.std.specs.Prelude.{nat_eq}
-use Rattle.std.proofs.Common.{◌≡◌, ◌≤◌, ◌<◌, ◌+◌, ◌-◌, ◌++◌, ◌∷◌, [], Some, None, Ok, Err, length, drop, map, refl, ap, sym, ◌∙◌, subst, arith, length-drop}
+use Rattle.std.proofs.Common.{◌≡◌, ◌≤◌, ◌<◌, ◌+◌, ◌++◌, ◌∷◌, [], Some, None, Ok, Err, length, drop, map, ap, sym, ◌∙◌, subst, arith, length-drop}
 use Rattle.std.proofs.lemmas.List.{map-append}
 use Rattle.labelled_trees.specs.Meaning.{tree_of}
 use Rattle.labelled_trees.specs.Leaves.{leaf_count}
@@ -10,8 +9,8 @@ use Rattle.labelled_trees.proofs.ProgramTrees.{tree_of-node}
 use Rattle.symmetric_trees.specs.Trees.{Fits}
 use Rattle.presentation_text.specs.declared.kinds.DocKind.TheVariants.{InputCount, NameUnknown, TooDeep}
 use Rattle.presentation_text.specs.declared.lexing.Token.TheVariants.{Word, Number}
-use Rattle.presentation_text.specs.Readings.{misfit, StopsAs}
-use Rattle.presentation_text.specs.TreeForms.{before_in, input_in, leaf_in, node_in, tree_in, index_of, GivesTree}
+use Rattle.presentation_text.specs.Readings.{misfit}
+use Rattle.presentation_text.specs.TreeForms.{input_in, node_in, tree_in, index_of, GivesTree}
 use Rattle.presentation_text.proofs.TreeTokens.{arity_in, arity_in-get, arity_in-least}
 use Rattle.presentation_text.proofs.TreeFormsPlaces.{stops-misfit, stops-end, tree-fault, tree-handed_on}
 use Rattle.presentation_text.proofs.TreeFormsSteps as steps

@@ -1,4 +1,4 @@
-use Rattle.std.proofs.Common.{◌≡◌, ◌≤◌, ◌+◌, ◌*◌, length, map}
+use Rattle.std.proofs.Common.{◌+◌, ◌*◌, map}
 use Rattle.labelled_trees.specs.Meaning.{tree_of}
 use Rattle.presentation_text.specs.TreeForms.{tree_in}
 use Rattle.presentation_text.proofs.TreeFormsSteps.{IsReadSoFar}
