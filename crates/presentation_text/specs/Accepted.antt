@@ -93,6 +93,7 @@ pub record HaveDemandedArity (generators : List Generator) (least : ℕ) (arity 
   pub least_is : least ≤ n
   pub arity_is : (m : ℕ) → arity ≡ Some m → n ≡ m
 
+-- there are no terms, or their trees have one arity as is asked
 abbrev pub AreDemanded : List Generator → ℕ → Option ℕ → List Written → Type 0
 AreDemanded generators least arity [] = Unit {0}
 AreDemanded generators least arity (term ∷ terms) = HaveDemandedArity generators least arity (term ∷ terms)
