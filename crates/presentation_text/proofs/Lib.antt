@@ -36,3 +36,4 @@ pub mod ElementFronts
 pub mod ElementsAccepted
 pub mod TermsOnce
 pub mod ReadBack
+pub mod ElementsRefused

@@ -14,7 +14,7 @@ use Rattle.presentation_text.specs.declared.lexing.Token.TheVariants.{Byte}
 use Rattle.presentation_text.specs.declared.trees.Demands.{Demands}
 use Rattle.presentation_text.specs.Elements.{Written, element_tokens, IsElementTree}
 use Rattle.presentation_text.specs.ElementForms.{element_in}
-use Rattle.presentation_text.specs.TreeForms.{demands_of, whole_tree_in}
+use Rattle.presentation_text.specs.TreeForms.{begins_with, demands_of, whole_tree_in}
 use Rattle.presentation_text.specs.TreeText.{nested, tree_tokens}
 
 -- ---- trees
@@ -103,3 +103,15 @@ abbrev pub ElementsAreAccepted : Type 0
 ElementsAreAccepted = (generators : List Generator) → IsTable generators → (least : ℕ) (arity : Option ℕ) (ts rest : List Token) (terms : List Written)
     → (element_in generators (demands_of least arity) ts ≡ Ok (terms, rest))
     ↔ ((ts ≡ element_tokens generators terms ++ rest) × AreDemanded generators least arity terms × EndsBefore terms rest)
+
+-- The tokens go on from those in front as the ones behind do: with their first token, behind which '*' stands in both or in
+-- neither, or with nothing where there is none.
+abbrev pub GoOnLike : List Token → List Token → List Token → Type 0
+GoOnLike front [] ts = ts ≡ front
+GoOnLike front (token ∷ back) ts = (others : List Token) × (ts ≡ front ++ token ∷ others) × (begins_with 42 others ≡ begins_with 42 back)
+
+-- Reading refuses a token, or the end of the line, only where the tokens of no element go on so whose trees have one arity as demanded.
+abbrev pub ElementsAreRefusedRightly : Type 0
+ElementsAreRefusedRightly = (generators : List Generator) → IsTable generators → (least : ℕ) (arity : Option ℕ) (front back : List Token) (kind : DocKind)
+    → element_in generators (demands_of least arity) (front ++ back) ≡ Err (length back, kind)
+    → (terms : List Written) → AreDemanded generators least arity terms → GoOnLike front back (element_tokens generators terms) → ⊥

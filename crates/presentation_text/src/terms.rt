@@ -2,7 +2,7 @@ ghost use Rattle.std.specs.Prelude.{◌≡◌, ◌≤◌, ◌<◌, ◌++◌, ◌
 ghost use Rattle.labelled_trees.specs.Meaning.{tree_of};
 ghost use Rattle.symmetric_trees.specs.Trees.{IsLabelled};
 ghost use Rattle.symmetric_sums.specs.Terms.{FitsOver, terms_of};
-ghost use Rattle.presentation_text.specs.Accepted.{ElementsAreAccepted};
+ghost use Rattle.presentation_text.specs.Accepted.{ElementsAreAccepted, ElementsAreRefusedRightly};
 ghost use Rattle.presentation_text.specs.Elements as elements;
 ghost use Rattle.presentation_text.specs.ElementForms as spec;
 ghost use Rattle.presentation_text.specs.ReadBack.{PrintedElementsAreRead};
@@ -237,6 +237,12 @@ pub fn element_at(
 /// demanded, and go on with no further term.
 pub fn elements_are_accepted()
     ensures law { ElementsAreAccepted }
+{}
+
+/// Law: where reading refuses a token, no element with one arity as is demanded goes on with it behind the tokens before;
+/// and where it refuses the end of the line, these are the tokens of none. It may matter whether '*' stands behind the token.
+pub fn elements_are_refused_rightly()
+    ensures law { ElementsAreRefusedRightly }
 {}
 
 /// Law: the text of a sum whose trees may be read is read back to the sum, whatever stands behind it that ends an element.
