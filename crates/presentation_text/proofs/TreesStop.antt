@@ -24,7 +24,7 @@ use Rattle.presentation_text.proofs.TreesStopLimits.{Breaks, IsReadOrBreaks, tre
 
 -- ---- which trees are ruled out
 
-fits_ruled : (generators : List Generator) (demands : Demands) (kind : DocKind) (t : Tree ℕ) → IsRuledOut generators demands kind t → Fits generators t
+pub fits_ruled : (generators : List Generator) (demands : Demands) (kind : DocKind) (t : Tree ℕ) → IsRuledOut generators demands kind t → Fits generators t
 fits_ruled generators demands Syntax t h = h
 fits_ruled generators demands NumberLong t h = h
 fits_ruled generators demands NameUnknown t h = h
@@ -33,7 +33,7 @@ fits_ruled generators demands TooDeep t h = h.0
 fits_ruled generators demands TooWide t h = h.0
 fits_ruled generators demands kind t h = h.fits
 
-breaks_ruled : (generators : List Generator) (demands : Demands) (kind : DocKind) (t : Tree ℕ) → IsRuledOut generators demands kind t → (IsDemanded generators demands t → ⊥)
+pub breaks_ruled : (generators : List Generator) (demands : Demands) (kind : DocKind) (t : Tree ℕ) → IsRuledOut generators demands kind t → (IsDemanded generators demands t → ⊥)
     → Breaks kind 8 (nested t) (0 + leaf_count t) → ⊥
 breaks_ruled generators demands TooDeep t h other b = omega (arith, h.1, b)
 breaks_ruled generators demands TooWide t h other b = omega (arith, h.1, b)
@@ -41,7 +41,7 @@ breaks_ruled generators demands Labels t h other b = other h
 breaks_ruled generators demands kind t h other b = b
 
 -- what stands against a whole tree
-first_of_three : (a b c : Bool) (kind : DocKind) → first_row ((a, Labels) ∷ (b, ArityOut) ∷ (c, MixedArity) ∷ []) ≡ Some kind → (P : DocKind → Type 0) → (P Labels → ⊥) → (P ArityOut → ⊥) → (P MixedArity → ⊥) → P kind → ⊥
+pub first_of_three : (a b c : Bool) (kind : DocKind) → first_row ((a, Labels) ∷ (b, ArityOut) ∷ (c, MixedArity) ∷ []) ≡ Some kind → (P : DocKind → Type 0) → (P Labels → ⊥) → (P ArityOut → ⊥) → (P MixedArity → ⊥) → P kind → ⊥
 first_of_three true b c kind e P f g h p = let same : kind ≡ Labels = cc in f (subst P same p)
 first_of_three false true c kind e P f g h p = let same : kind ≡ ArityOut = cc in g (subst P same p)
 first_of_three false false true kind e P f g h p = let same : kind ≡ MixedArity = cc in h (subst P same p)

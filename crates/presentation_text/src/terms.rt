@@ -239,8 +239,10 @@ pub fn elements_are_accepted()
     ensures law { ElementsAreAccepted }
 {}
 
-/// Law: where reading refuses a token, no element with one arity as is demanded goes on with it behind the tokens before;
-/// and where it refuses the end of the line, these are the tokens of none. It may matter whether '*' stands behind the token.
+/// Law: where reading refuses a token, no element over the table goes on with it behind the tokens before; and where it
+/// refuses the end of the line, these are the tokens of none. If a limit is passed, this is said of the elements within
+/// it; and if leaf numbers or arities are refused, of those that are as demanded, and with '*' behind the token in both
+/// or in neither, since a number is a leaf or a coefficient by that.
 pub fn elements_are_refused_rightly()
     ensures law { ElementsAreRefusedRightly }
 {}
