@@ -110,7 +110,7 @@ module _ (generators : List Generator) (table : IsTable generators) where
   -- ---- whole trees
 
   module _ (demands : Demands) where
-    whole-bounded : (ts : List Token) (fault : Fault) → whole_tree_in generators demands ts ≡ Err fault → fault.0 ≤ length ts
+    pub whole-bounded : (ts : List Token) (fault : Fault) → whole_tree_in generators demands ts ≡ Err fault → fault.0 ≤ length ts
     whole-bounded ts fault e = ⊎_elim (λ inside. (local_tree generators 8 0).bounded ts fault inside) judged (stopped generators demands ts fault.0 fault.1 e)
       where
         judged : IsJudged generators demands ts fault.0 fault.1 → fault.0 ≤ length ts
@@ -134,7 +134,7 @@ module _ (generators : List Generator) (table : IsTable generators) where
 
     -- ---- terms
 
-    term-by-tree : (negative : Bool) (ts : List Token) (fault : Fault) → term_in generators demands negative ts ≡ Err fault → whole_tree_in generators demands (behind_coefficient (coefficient ts) ts) ≡ Err fault
+    pub term-by-tree : (negative : Bool) (ts : List Token) (fault : Fault) → term_in generators demands negative ts ≡ Err fault → whole_tree_in generators demands (behind_coefficient (coefficient ts) ts) ≡ Err fault
     unfolding term_in
     term-by-tree negative ts fault e = only_first (whole_tree_in generators demands (behind_coefficient (coefficient ts) ts))
         (λ (found : Tree ℕ × List Token). written_pair negative (coefficient ts) found) fault e
@@ -143,7 +143,7 @@ module _ (generators : List Generator) (table : IsTable generators) where
     unfolding term_in
     tree-stops negative ts fault e = rw e refl
 
-    term-bounded : (negative : Bool) (ts : List Token) (fault : Fault) → term_in generators demands negative ts ≡ Err fault → fault.0 ≤ length ts
+    pub term-bounded : (negative : Bool) (ts : List Token) (fault : Fault) → term_in generators demands negative ts ≡ Err fault → fault.0 ≤ length ts
     term-bounded negative ts fault e =
         let l = whole-bounded (behind_coefficient (coefficient ts) ts) fault (term-by-tree negative ts fault e) in
         omega (arith, l, shorter-coefficient (coefficient ts) ts)
@@ -193,11 +193,11 @@ module _ (generators : List Generator) (table : IsTable generators) where
         tree-stops negative (front ++ token ∷ beyond) (suc (length beyond), kind) (ap (λ (d : Option ℕ). whole_tree_in generators demands (behind_coefficient d (front ++ token ∷ beyond))) same ∙ tree)
 
     -- a term is read, and something behind it is refused
-    record TermThenStops (negative : Bool) (ts : List Token) (stops : Written → List Token → Type 0) : Type 0 where
-      first : Written
-      behind : List Token
-      first_is : term_in generators demands negative ts ≡ Ok (first, behind)
-      others_stop : stops first behind
+    pub record TermThenStops (negative : Bool) (ts : List Token) (stops : Written → List Token → Type 0) : Type 0 where
+      pub first : Written
+      pub behind : List Token
+      pub first_is : term_in generators demands negative ts ≡ Ok (first, behind)
+      pub others_stop : stops first behind
 
     -- the tokens of a term that was read, before the refused token
     record TermBefore (negative : Bool) (front : List Token) (token : Token) (back beyond : List Token) (first : Written) (behind : List Token) : Type 0 where
@@ -221,14 +221,14 @@ module _ (generators : List Generator) (table : IsTable generators) where
           again = ap (λ (b : Bool). term_in generators demands b (front ++ token ∷ beyond)) (sym one.sign) ∙ read;
         }
 
-    term-length : (negative : Bool) (ts behind : List Token) (first : Written) → term_in generators demands negative ts ≡ Ok (first, behind) → length behind < length ts
+    pub term-length : (negative : Bool) (ts behind : List Token) (first : Written) → term_in generators demands negative ts ≡ Ok (first, behind) → length behind < length ts
     term-length negative ts behind first is =
         let one : TermSpelled all_accepted generators table demands negative ts behind first = term-spelled all_accepted generators table demands negative ts behind first is in
         omega (arith, ap length one.spelled, length-append (term_tokens generators first) behind, length-append (coefficient_tokens first.coefficient) (tree_tokens generators first.tree), some_tokens generators first.tree)
 
     -- ---- further terms
 
-    sign-either : (most : ℕ) (negative : Bool) (ts : List Token) (fault : Fault) → behind_sign generators demands most negative ts ≡ Err fault
+    pub sign-either : (most : ℕ) (negative : Bool) (ts : List Token) (fault : Fault) → behind_sign generators demands most negative ts ≡ Err fault
         → (term_in generators demands negative (behind_one ts) ≡ Err fault) ⊎ TermThenStops negative (behind_one ts) (λ first behind. further_in most generators demands behind ≡ Err fault)
     unfolding behind_sign
     sign-either most negative ts fault e = by_term (term_in generators demands negative (behind_one ts)) refl e
@@ -249,11 +249,11 @@ module _ (generators : List Generator) (table : IsTable generators) where
     unfolding behind_sign
     sign-further-stops most negative ts behind first fault is stops = rw is (rw stops refl)
 
-    none-further : (ts : List Token) (fault : Fault) → further_in 0 generators demands ts ≡ Err fault → ⊥
+    pub none-further : (ts : List Token) (fault : Fault) → further_in 0 generators demands ts ≡ Err fault → ⊥
     unfolding further_in
     none-further ts fault e = cc
 
-    further-bounded : (most : ℕ) (ts : List Token) (fault : Fault) → further_in most generators demands ts ≡ Err fault → fault.0 ≤ length ts
+    pub further-bounded : (most : ℕ) (ts : List Token) (fault : Fault) → further_in most generators demands ts ≡ Err fault → fault.0 ≤ length ts
     further-bounded zero ts fault e = absurd (none-further ts fault e)
     further-bounded (suc most) ts fault e = by_sign (sign ts) refl (λ behind f. further-bounded most behind fault f)
       where
@@ -321,10 +321,10 @@ module _ (generators : List Generator) (table : IsTable generators) where
     abbrev asked_of : Tree ℕ → Demands
     asked_of t = demands_of least (Some (leaf_count t))
 
-    abbrev FirstThenStops : Bool → List Token → Fault → Type 0
+    abbrev pub FirstThenStops : Bool → List Token → Fault → Type 0
     FirstThenStops negative ts fault = TermThenStops asked negative ts (λ first behind. further_in (length behind) generators (asked_of first.tree) behind ≡ Err fault)
 
-    first-either : (negative : Bool) (ts : List Token) (fault : Fault) → from_first generators least arity negative ts ≡ Err fault → (term_in generators asked negative ts ≡ Err fault) ⊎ FirstThenStops negative ts fault
+    pub first-either : (negative : Bool) (ts : List Token) (fault : Fault) → from_first generators least arity negative ts ≡ Err fault → (term_in generators asked negative ts ≡ Err fault) ⊎ FirstThenStops negative ts fault
     unfolding from_first
     first-either negative ts fault e = by_term (term_in generators asked negative ts) refl e
       where
@@ -339,7 +339,7 @@ module _ (generators : List Generator) (table : IsTable generators) where
           others_stop = only_first (further_in (length found.1) generators (asked_of (found.0).tree) found.1) (λ (others : List Written × List Token). (found.0 ∷ others.0, others.1)) fault f;
         })
 
-    first-bounded : (negative : Bool) (ts : List Token) (fault : Fault) → from_first generators least arity negative ts ≡ Err fault → fault.0 ≤ length ts
+    pub first-bounded : (negative : Bool) (ts : List Token) (fault : Fault) → from_first generators least arity negative ts ≡ Err fault → fault.0 ≤ length ts
     first-bounded negative ts fault e = ⊎_elim
         (λ term. term-bounded asked negative ts fault term)
         (λ (one : FirstThenStops negative ts fault).

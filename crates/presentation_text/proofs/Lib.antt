@@ -37,3 +37,4 @@ pub mod ElementsAccepted
 pub mod TermsOnce
 pub mod ReadBack
 pub mod ElementsRefused
+pub mod ElementsBegin

@@ -135,3 +135,9 @@ abbrev pub ElementsAreRefusedRightly : Type 0
 ElementsAreRefusedRightly = (generators : List Generator) → IsTable generators → (least : ℕ) (arity : Option ℕ) (front back : List Token) (kind : DocKind)
     → element_in generators (demands_of least arity) (front ++ back) ≡ Err (length back, kind)
     → (terms : List Written) → AreRuledOut generators least arity kind terms → GoOnLike kind front back (element_tokens generators terms) → ⊥
+
+-- The tokens before the refused one are the first of an element over the table.
+abbrev pub RefusedElementsBegin : Type 0
+RefusedElementsBegin = (generators : List Generator) → IsTable generators → (least : ℕ) (arity : Option ℕ) (front back : List Token) (kind : DocKind)
+    → element_in generators (demands_of least arity) (front ++ back) ≡ Err (length back, kind)
+    → (terms : List Written) × (others : List Token) × All (λ term. Fits generators term.tree) terms × (element_tokens generators terms ≡ front ++ others)

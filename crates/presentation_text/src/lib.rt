@@ -33,7 +33,7 @@ pub use presentations::read_document;
 pub use reading::{is_mark, read_tree, trees_are_read_once};
 pub use terms::{
     ElementAt, element_at, elements_are_accepted, elements_are_refused_rightly,
-    printed_elements_are_read,
+    printed_elements_are_read, refused_elements_begin,
 };
 pub use trees::{refused_trees_begin, tree_at, trees_are_accepted, trees_are_refused_rightly};
 pub use writing::{
