@@ -1,9 +1,8 @@
 -- The tokens before the refused one are the first of an element over the table.
-use Rattle.std.proofs.Common.{◌≡◌, ⊎_elim, ℕ, zero, suc, ◌+◌, ◌<◌, ◌≤◌, Bool, true, false, List, [], ◌∷◌, ◌++◌, length, Option, Some, None, Ok, Err, refl, ap, sym, ◌∙◌, subst, arith, append_assoc, append-nil, length-append}
+use Rattle.std.proofs.Common.{◌≡◌, ⊎_elim, ℕ, zero, suc, ◌≤◌, Bool, true, false, List, [], ◌∷◌, ◌++◌, length, Option, Some, None, Ok, Err, refl, ap, sym, ◌∙◌, arith, append_assoc, append-nil}
 use Rattle.std.specs.Prelude.{if◌then◌else◌}
 use Rattle.std.specs.List.{All}
 use Rattle.std.proofs.lemmas.List.Elements.{All-nil, All-cons}
-use Rattle.labelled_trees.specs.Trees.{Tree}
 use Rattle.labelled_trees.specs.Leaves.{leaf_count}
 use Rattle.symmetric_trees.specs.Generators.{IsTable}
 use Rattle.symmetric_trees.specs.Trees.{Fits}
@@ -14,14 +13,13 @@ use Rattle.presentation_text.specs.declared.lexing.Token.TheVariants.{Byte}
 use Rattle.presentation_text.specs.declared.trees.Demands.{Demands}
 use Rattle.presentation_text.specs.Readings.{Reading}
 use Rattle.presentation_text.specs.TreeForms.{begins_with, demands_of, whole_tree_in}
-use Rattle.presentation_text.specs.TreeText.{tree_tokens}
 use Rattle.presentation_text.specs.Elements.{Written, coefficient_tokens, term_tokens, mark, further_tokens, element_tokens}
 use Rattle.presentation_text.specs.ElementForms.{behind_one, is_nothing, coefficient, behind_coefficient, term_in, sign, further_in, element_in}
 use Rattle.presentation_text.specs.Accepted.{RefusedElementsBegin}
 use Rattle.presentation_text.proofs.TreesAccepted.{all_accepted}
 use Rattle.presentation_text.proofs.TreesStopForms.{within}
 use Rattle.presentation_text.proofs.TreesStop.{all_begin}
-use Rattle.presentation_text.proofs.ElementFormsFurther.{behind_sign, signed, unsigned}
+use Rattle.presentation_text.proofs.ElementFormsFurther.{signed, unsigned}
 use Rattle.presentation_text.proofs.ElementFormsWhole.{from_first, first-is, nothing-is}
 use Rattle.presentation_text.proofs.ElementFronts.{coefficient-spelled, sign-spelled, minus-spelled}
 use Rattle.presentation_text.proofs.ElementsAccepted.{TermSpelled, term-spelled}

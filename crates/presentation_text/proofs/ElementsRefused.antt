@@ -1,5 +1,5 @@
 -- Elements are refused rightly: reading stops by what stands before the refused token, by that token, and by whether '*' comes next.
-use Rattle.std.proofs.Common.{◌≡◌, ◌⊎◌, inl, inr, ⊎_elim, ℕ, zero, suc, ◌+◌, ◌<◌, ◌≤◌, Bool, true, false, not, ◌&&◌, List, [], ◌∷◌, ◌++◌, length, Option, Some, None, Result, Ok, Err, refl, ap, sym, ◌∙◌, subst, arith, append_assoc, append-nil, length-append}
+use Rattle.std.proofs.Common.{◌≡◌, ◌⊎◌, inl, inr, ⊎_elim, ℕ, zero, suc, ◌+◌, ◌<◌, ◌≤◌, Bool, true, false, not, ◌&&◌, List, [], ◌∷◌, ◌++◌, length, Option, Some, None, Ok, Err, refl, ap, sym, ◌∙◌, subst, arith, append_assoc, append-nil, length-append}
 use Rattle.std.specs.Prelude.{if◌then◌else◌, nat_le, nat_lt}
 use Rattle.labelled_trees.specs.Trees.{Tree, leaf, node}
 use Rattle.labelled_trees.specs.Leaves.{leaf_count}
@@ -22,7 +22,7 @@ use Rattle.presentation_text.specs.Accepted.{IsDemanded, AreDemanded, NotMarked,
 use Rattle.presentation_text.proofs.TreeFormsSteps.{tree_in-number, whole-stops, whole-refused}
 use Rattle.presentation_text.proofs.TreesAcceptedTrees.{IsReadInside, tree_sound}
 use Rattle.presentation_text.proofs.TreesAccepted.{all_accepted}
-use Rattle.presentation_text.proofs.TreesStopForms.{IsReadFrom, IsWithin, within}
+use Rattle.presentation_text.proofs.TreesStopForms.{IsReadFrom, within}
 use Rattle.presentation_text.proofs.TreesStopTrees.{local_tree}
 use Rattle.presentation_text.proofs.TreesGoOn.{only_first}
 use Rattle.presentation_text.proofs.TreesStop.{fits_ruled, breaks_ruled, first_of_three, IsJudged, stopped, same_front}
