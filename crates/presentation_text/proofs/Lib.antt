@@ -23,3 +23,5 @@ pub mod ElementFronts
 pub mod ElementsAccepted
 pub mod TermsOnce
 pub mod ReadBack
+pub mod ElementsRefused
+pub mod ElementsBegin

@@ -24,6 +24,7 @@ abbrev pub behind_one : List Token → List Token
 behind_one [] = []
 behind_one (token ∷ rest) = rest
 
+-- a number of value 0
 abbrev pub is_zero : Token → Bool
 is_zero (Number n) = n == 0
 is_zero token = false
@@ -35,6 +36,7 @@ is_nothing (token ∷ rest) = is_zero token && not (begins_with 42 rest)
 
 -- ---- a term
 
+-- a number that begins the tokens, where '*' comes next
 abbrev pub coefficient_of : Token → List Token → Option ℕ
 coefficient_of (Number n) rest = if begins_with 42 rest then Some n else None
 coefficient_of token rest = None
@@ -57,15 +59,17 @@ term_in generators demands negative ts = do
 
 -- ---- an element
 
--- the sign before a further term: whether it is '-'
+-- whether a sign is '-'; nothing for any other token
 abbrev pub sign_of : Token → Option Bool
 sign_of (Byte c) = if c == 43 then Some false else (if c == 45 then Some true else None)
 sign_of token = None
 
+-- the sign before a further term: whether it is '-'
 abbrev pub sign : List Token → Option Bool
 sign [] = None
 sign (token ∷ rest) = sign_of token
 
+-- one answer where no sign stands, and one for each sign
 abbrev pub if_signed : {X : Type 0} → Option Bool → X → (Bool → X) → X
 if_signed None none signed = none
 if_signed (Some negative) none signed = signed negative

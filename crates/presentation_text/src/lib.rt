@@ -20,7 +20,8 @@ pub use lexing::{Token, tokens, tokens_are_defined, words_are_words};
 pub use lines::{counts, lines_are_defined, next_line};
 pub use presentations::read_document;
 pub use terms::{
-    ElementAt, element_at, elements_are_accepted, elements_are_read_once, printed_elements_are_read,
+    ElementAt, element_at, elements_are_accepted, elements_are_read_once,
+    elements_are_refused_rightly, printed_elements_are_read, refused_elements_begin,
 };
 pub use trees::{
     refused_trees_begin, tree_at, trees_are_accepted, trees_are_read_once,
