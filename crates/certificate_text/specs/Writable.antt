@@ -6,7 +6,7 @@ use Rattle.symmetric_trees.specs.declared.generators.Generator.{Generator}
 use Rattle.symmetric_sums.specs.declared.instance.Rule.{Rule}
 use Rattle.symmetric_sums.specs.declared.instance.Rule.TheVariants.{Rel, Swap, Step}
 use Rattle.presentation_text.specs.Accepted.{IsDemanded}
-use Rattle.presentation_text.specs.ReadBack.{IsSaidOver}
+use Rattle.presentation_text.specs.PrintedElements.{IsSaidOver}
 use Rattle.presentation_text.specs.TreeForms.{any_arity}
 use Rattle.certificate_text.specs.Plain.{PlainUse, PlainStep, PlainBlock}
 use Rattle.certificate_text.specs.UseText.{greatest_cited}

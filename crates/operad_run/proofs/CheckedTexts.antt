@@ -12,7 +12,8 @@ use Rattle.symmetric_trees.specs.declared.generators.Generator.{Generator}
 use Rattle.symmetric_sums.specs.Terms.{terms_of}
 use Rattle.symmetric_sums.specs.Membership.{IsElement}
 use Rattle.presentation_text.specs.Presentations.{IsReadAs}
-use Rattle.presentation_text.specs.ReadBack.{IsSaidOver, IsWritable as IsWritableDocument}
+use Rattle.presentation_text.specs.PrintedElements.{IsSaidOver}
+use Rattle.presentation_text.specs.ReadBack.{IsWritable as IsWritableDocument}
 use Rattle.presentation_text.specs.declared.document.Document.{Document}
 use Rattle.certificate_text.specs.Plain.{plain_block, plain_step}
 use Rattle.certificate_text.specs.Tails.{AreReadAs}

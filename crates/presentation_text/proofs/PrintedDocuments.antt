@@ -32,11 +32,13 @@ use Rattle.presentation_text.specs.Grammar.{numbered_tokens, Adds, a_relation, a
 use Rattle.presentation_text.specs.Laws.{IsReadBack}
 use Rattle.presentation_text.specs.LineForms.{Told, Asked, query as a_query_of, same as a_pair_of}
 use Rattle.presentation_text.specs.Lines.{HasNoFeed, lines}
-use Rattle.presentation_text.specs.ReadBack.{IsSaidTerm, IsSaidOver, IsSaidRelation, IsSaidAsk}
+use Rattle.presentation_text.specs.ReadBack.{IsSaidRelation, IsSaidAsk}
+use Rattle.presentation_text.specs.PrintedElements.{IsSaidTerm, IsSaidOver}
 use Rattle.presentation_text.specs.SumText.{sum_text, IsPrintable}
 use Rattle.presentation_text.specs.TreeText.{HasWords}
 use Rattle.presentation_text.specs.Tokens.{tokens}
 use Rattle.presentation_text.proofs.LineTexts.{no_feed-word}
+use Rattle.presentation_text.proofs.PrintedElements.{printable, trees-of, demanded}
 use Rattle.presentation_text.proofs.PrintedFeeds.{no_feed-sum}
 use Rattle.presentation_text.proofs.PrintedStages.{Reach, reach-end, reach-line, stage, IsVersion, stands-rel, stands-query, stands-same}
 use Rattle.presentation_text.proofs.PrintedSums.{read_back}
@@ -52,21 +54,6 @@ field_small p (inr (inr (inr (inr (inr (inr e)))))) = absurd e
 
 -- ---- sums that an element may say
 
-printable : (p : ℕ) (generators : List Generator) (n : ℕ) (e : List (ℕ × Tree ℕ)) → IsSaidOver p generators n e → IsPrintable p generators e
-printable p generators n e h k d l =
-    let term = h k d l in
-    let tree = term.tree in
-    (term.nonzero, term.residue, tree.labelled.fits, by_leaf _ (λ i. (0 < i) × (i < 10 ^ 18)) (λ i o. let w = tree.labelled.only i o in (w.0, omega (arith, w.1, tree.narrow))))
-
--- what holds of the tree of each pair holds of that of each term
-trees_alike : (P : Tree ℕ → Type 0) (terms : List Written) (e : List (ℕ × Tree ℕ)) → map (λ term. term.tree) terms ≡ map (λ (x : ℕ × Tree ℕ). x.1) e → All (λ x. P x.1) e → All (λ term. P term.tree) terms
-trees_alike P [] e same h k d l = absurd (omega (arith, l))
-trees_alike P (term ∷ terms) [] same h k d l = cc
-trees_alike P (term ∷ terms) (x ∷ e) same h zero d l = let tree : term.tree ≡ x.1 = cc in subst P (sym tree) (h 0 x (omega arith))
-trees_alike P (term ∷ terms) (x ∷ e) same h (suc k) d l =
-    let further : map (λ term. term.tree) terms ≡ map (λ (x : ℕ × Tree ℕ). x.1) e = cc in
-    trees_alike P terms e further (λ j c s. h (suc j) c (omega (arith, s))) k d (omega (arith, l))
-
 -- the text of the sum has the tokens of these terms, which say it and are as demanded
 pub record IsPrintedAs (p : ℕ) (generators : List Generator) (n : ℕ) (e : List (ℕ × Tree ℕ)) : Type 0 where
   pub terms : List Written
@@ -74,10 +61,6 @@ pub record IsPrintedAs (p : ℕ) (generators : List Generator) (n : ℕ) (e : Li
   pub says : said p terms ≡ e
   pub trees : All (λ term. IsElementTree generators n term.tree) terms
   pub feed : HasNoFeed (sum_text p generators e)
-
-pub demanded : (generators : List Generator) (n least : ℕ) (known : Option ℕ) (terms : List Written) → least ≤ n → ((m : ℕ) → known ≡ Some m → n ≡ m) → All (λ term. IsElementTree generators n term.tree) terms → AreDemanded generators least known terms
-demanded generators n least known [] few same h = tt
-demanded generators n least known (term ∷ terms) few same h = record { n = n; trees = h; least_is = few; arity_is = same }
 
 some_leaf : (generators : List Generator) (t : Tree ℕ) → Fits generators t → 0 < leaf_count t
 some_leaf generators (leaf a) h = omega arith
@@ -94,7 +77,7 @@ demanded_once generators n known (term ∷ terms) same h =
     let own = h 0 term (omega arith) in
     let count = leaf_count-labelled (arity (parts_at generators)) n term.tree own.labelled in
     let some = some_leaf generators term.tree own.labelled.fits in
-    demanded generators n 1 known (term ∷ terms) (omega (arith, count, some)) same h
+    demanded generators 1 n known (term ∷ terms) (omega (arith, count, some)) same h
 
 some_apart : (a b : ℕ) → Some a ≡ Some b → a ≡ b
 some_apart a b e = cc
@@ -114,7 +97,7 @@ module _ (p : ℕ) (generators : List Generator) (prime : IsFieldPrime p) (table
         terms = back.terms;
         read = back.read;
         says = back.same;
-        trees = trees_alike (IsElementTree generators n) back.terms e back.trees (λ k d l. (h k d l).tree);
+        trees = trees-of generators n back.terms e back.trees (λ k d l. (h k d l).tree);
         feed = no_feed-sum p generators words (field_small p prime) e may;
       }
 
@@ -140,7 +123,7 @@ module _ (p : ℕ) (generators : List Generator) (prime : IsFieldPrime p) (table
         (refl, refl) (no_feed-word (codes "rel") (refl, refl)) (printed.feed, tt) (ap (λ ts. Word (codes "rel") ∷ ts) (append-nil (tokens (sum_text p generators e)) ∙ printed.read))
         (stands-rel p order generators weights done [] s version v early (element_tokens generators printed.terms))
         (subst (λ x. Adds told n (Word (codes "rel") ∷ element_tokens generators printed.terms) (now (done ++ x ∷ []) [] 5)) printed.says
-        (a_relation printed.terms (omega (arith, few)) (demanded generators own.0 2 None printed.terms own.1 (λ m no_one. cc) printed.trees)))
+        (a_relation printed.terms (omega (arith, few)) (demanded generators 2 own.0 None printed.terms own.1 (λ m no_one. cc) printed.trees)))
         (reach-relations rest (suc n) (done ++ e ∷ []) rels 5 (omega arith) (let l = length-append done (e ∷ []) in omega (arith, l, few)) (λ k d l. said_all (suc k) d (omega (arith, l)))
         (λ m t u. subst (λ rs. Reach P (now rs [] t) (numbered_tokens m (lines rest))) (sym moved) (on m t u))))
 

@@ -16,7 +16,7 @@ use Rattle.symmetric_trees.specs.Trees.{Fits, IsLabelled}
 use Rattle.symmetric_trees.specs.declared.generators.Generator.{Generator}
 use Rattle.presentation_text.specs.TreeForms.{has_each}
 
-both : (a b : Bool) → (a && b) ≡ true → (a ≡ true) × (b ≡ true)
+pub both : (a b : Bool) → (a && b) ≡ true → (a ≡ true) × (b ≡ true)
 both true b e = (refl, e)
 both false b e = absurd cc
 

@@ -20,12 +20,12 @@ use Rattle.presentation_text.proofs.TreeFormsSteps.{judged, whole-accepted}
 use Rattle.presentation_text.proofs.TreesAcceptedTrees.{bound, IsReadInside, tree_sound, tree_back}
 
 -- none of three rows holds
-record NoneOfThree (a b c : Bool) : Type 0 where
-  first : a ≡ false
-  second : b ≡ false
-  third : c ≡ false
+pub record NoneOfThree (a b c : Bool) : Type 0 where
+  pub first : a ≡ false
+  pub second : b ≡ false
+  pub third : c ≡ false
 
-none_held : {X : Type 0} (a b c : Bool) (kind_a kind_b kind_c : DocKind) (left : ℕ) (x y : X)
+pub none_held : {X : Type 0} (a b c : Bool) (kind_a kind_b kind_c : DocKind) (left : ℕ) (x y : X)
     → refused left (first_row ((a, kind_a) ∷ (b, kind_b) ∷ (c, kind_c) ∷ [])) (Ok x) ≡ Ok y → NoneOfThree a b c × (x ≡ y)
 none_held true b c kind_a kind_b kind_c left x y e = absurd cc
 none_held false true c kind_a kind_b kind_c left x y e = absurd cc
@@ -40,7 +40,7 @@ no_rows false false false kind_a kind_b kind_c none = refl
 
 -- ---- the tests against a tree
 
-unlike_leaves : (loose each : Bool) → (not loose && not each) ≡ false → loose ≡ false → each ≡ true
+pub unlike_leaves : (loose each : Bool) → (not loose && not each) ≡ false → loose ≡ false → each ≡ true
 unlike_leaves true each e f = absurd cc
 unlike_leaves false true e f = refl
 unlike_leaves false false e f = absurd cc
@@ -60,7 +60,7 @@ equal_if : (b : Bool) (P : Type 0) → (b ≡ true → P) → not b ≡ false �
 equal_if true P f e = f refl
 equal_if false P f e = absurd cc
 
-same_arity : (asked : Option ℕ) (n : ℕ) → differs asked n ≡ false → (m : ℕ) → asked ≡ Some m → n ≡ m
+pub same_arity : (asked : Option ℕ) (n : ℕ) → differs asked n ≡ false → (m : ℕ) → asked ≡ Some m → n ≡ m
 same_arity None n e m f = absurd cc
 same_arity (Some k) n e m f = let is : k ≡ m = cc in equal_if (n == k) (n ≡ k) ((Decides-eqb n k).0) e ∙ is
 

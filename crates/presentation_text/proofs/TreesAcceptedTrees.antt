@@ -49,9 +49,6 @@ marked c (Number n) e = absurd cc
 marked c Long e = absurd cc
 marked c Bad e = absurd cc
 
-is_marked : (c : ℕ) → is_mark c (Byte c) ≡ true
-is_marked c = (Decides-eqb c c).1 refl
-
 -- the byte before an input
 abbrev pub mark_of : Bool → ℕ
 mark_of true = 40

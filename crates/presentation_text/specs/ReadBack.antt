@@ -14,22 +14,12 @@ use Rattle.presentation_text.specs.declared.document.OrderName.TheVariants.{Weig
 use Rattle.presentation_text.specs.DocumentForms.{Whole, read_text}
 use Rattle.presentation_text.specs.DocumentText.{document_text}
 use Rattle.presentation_text.specs.DraftForms.{asked_kind}
-use Rattle.presentation_text.specs.Elements.{IsElementTree}
+use Rattle.presentation_text.specs.PrintedElements.{IsSaidOver}
 use Rattle.presentation_text.specs.LineForms.{Told}
 use Rattle.presentation_text.specs.Presentations.{IsReadAs, weight_or_none}
 use Rattle.presentation_text.specs.TreeText.{HasWords}
 
 -- ---- what may stand in a document
-
--- a term that an element of arity n may say: a residue modulo p other than 0, and a tree that may be read
-pub record IsSaidTerm (p : ℕ) (generators : List Generator) (n : ℕ) (term : ℕ × Tree ℕ) : Type 0 where
-  pub nonzero : 0 < term.0
-  pub residue : term.0 < p
-  pub tree : IsElementTree generators n term.1
-
--- a sum that an element of arity n may say
-abbrev pub IsSaidOver : ℕ → List Generator → ℕ → List (ℕ × Tree ℕ) → Type 0
-IsSaidOver p generators n = All (IsSaidTerm p generators n)
 
 -- a sum that a relation may say
 abbrev pub IsSaidRelation : ℕ → List Generator → List (ℕ × Tree ℕ) → Type 0

@@ -4,13 +4,14 @@ ghost use Rattle.labelled_trees.specs.Meaning.{tree_of};
 ghost use Rattle.symmetric_trees.specs.Trees.{Fits};
 ghost use Rattle.symmetric_trees.specs.declared.generators.Generator.{Generator};
 ghost use Rattle.presentation_text.specs.Accepted.{RefusedTreesBegin, TreesAreAccepted, TreesAreRefusedRightly};
+ghost use Rattle.presentation_text.specs.Laws.{TreesAreReadOnce};
 ghost use Rattle.presentation_text.specs.Readings.{first_row, GivesBehind};
 ghost use Rattle.presentation_text.specs.TreeForms as spec;
 ghost use Rattle.presentation_text.specs.declared.lexing.Token.{Token};
 
 use crate::kinds::{DocKind, PartFail};
 use crate::lexing::Token;
-use crate::parts::{mark_at, misfit, token_at};
+use crate::parts::{has_mark, mark_at, misfit, token_at};
 use labelled_trees::Tree;
 use sqlite_items::Items;
 use std::alloc::Global;
@@ -58,20 +59,6 @@ fn generator_named(table: &GenTable, name: &Name) -> Option<u16>
     let generator = table.find(name.as_str())?;
     prove!(generator < table.len());
     Some(generator)
-}
-
-// Whether this single byte stands at the place.
-fn has_mark(tokens: &[Token], at: usize, mark: u8) -> bool
-    requires within { at ≤ length tokens.now }
-    ensures { result ≡ spec.begins_with mark (drop at tokens.now) }
-{
-    let Some(token) = token_at(tokens, at) else {
-        return false;
-    };
-    match token {
-        Token::Byte(byte) => *byte == mark,
-        _ => false,
-    }
 }
 
 // The place behind '(' before the first input, or behind ',' before a further one.
@@ -298,6 +285,11 @@ pub fn tree_at(
 /// arity that is asked.
 pub fn trees_are_accepted()
     ensures law { TreesAreAccepted }
+{}
+
+/// Law: over a table, tokens begin with those of at most one tree that fits, and so go on in one way.
+pub fn trees_are_read_once()
+    ensures law { TreesAreReadOnce }
 {}
 
 /// Law: where reading refuses a token, no tree over the table goes on with it behind the tokens before; and where it

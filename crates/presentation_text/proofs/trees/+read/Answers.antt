@@ -23,7 +23,7 @@ input_within-returns-then-has_mark-clause-read t c =
     let ts = drop c.args.at tokens in
     let inside = tree_in c.args.table.now c.args.depth in
     tree-fault tokens c.args.at InputCount (input_in inside c.args.seen ts) c.fail.result c.requires.within
-    (steps.input_in-closed inside c.args.seen ts (sym c.has_mark.ensures ∙ c.if-has_mark.true)) c.fail.ensures
+    (steps.input_in-closed inside c.args.seen ts (sym c.has_mark.ensures.exact ∙ c.if-has_mark.true)) c.fail.ensures
 
 pub tree_within-returns-in_default-clause-read : goal.tree_within-returns-in_default-clause-read
 tree_within-returns-in_default-clause-read t c =
