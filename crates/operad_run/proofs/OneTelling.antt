@@ -5,7 +5,7 @@ use Rattle.std.specs.Fmt.{decimal}
 use Rattle.prime_field.specs.Primes.{IsFieldPrime}
 use Rattle.presentation_text.specs.DocumentForms.{LineFault, read_text}
 use Rattle.presentation_text.specs.Presentations.{IsReadAs}
-use Rattle.presentation_text.specs.ReadBack.{PrintedDocumentsAreReadBack}
+use Rattle.presentation_text.specs.ReadBack.{ReadDocumentsAreWritable}
 use Rattle.presentation_text.specs.declared.document.Ask.{Ask}
 use Rattle.presentation_text.specs.declared.document.Document as document_of
 use Rattle.presentation_text.specs.declared.document.Tail.{Tail}
@@ -73,7 +73,7 @@ pub free_or_wide : (bytes : List ℕ) (n : ℕ) (document : document_of.Document
 free_or_wide bytes n document text free within h =
     never_wide n document.asks h.number (subst (λ asks. IsFirstWide n asks h.number) (sym (same_documents bytes document h.document free.read h.free.read).asks) h.wide) within
 
-module _ (printed : PrintedDocumentsAreReadBack) (bytes : List ℕ) (n : ℕ) where
+module _ (writable : ReadDocumentsAreWritable) (bytes : List ℕ) (n : ℕ) where
   same_asks : (document other : document_of.Document) → IsFree bytes document → IsFree bytes other → document.asks ≡ other.asks
   same_asks document other h g = (same_documents bytes document other h.read g.read).asks
 
@@ -89,7 +89,7 @@ module _ (printed : PrintedDocumentsAreReadBack) (bytes : List ℕ) (n : ℕ) wh
       ∙ sym g.text_is
 
   positive : (document : document_of.Document) → IsReadAs bytes document → 0 < document.field
-  positive document h = field_positive document.field ((printed document).well_formed bytes h).field
+  positive document h = field_positive document.field (writable bytes document h).field
 
   one_text : (text other : List ℕ) → IsAnswered bytes n text → IsAnswered bytes n other → text ≡ other
   one_text text other h g =
@@ -136,5 +136,5 @@ module _ (printed : PrintedDocumentsAreReadBack) (bytes : List ℕ) (n : ℕ) wh
   one_telling Done WriteFault text others h g = absurd g
   one_telling Done NoMemory text others h g = absurd g
 
-pub answers_determined : PrintedDocumentsAreReadBack → AnswersAreDetermined
-answers_determined printed bytes n status other text others h g = one_telling printed bytes n status other text others h g
+pub answers_determined : ReadDocumentsAreWritable → AnswersAreDetermined
+answers_determined writable bytes n status other text others h g = one_telling writable bytes n status other text others h g

@@ -36,7 +36,7 @@ pub record IsOfVersionOne (document : Document) : Type 0 where
   pub no_weights : All (λ weight. weight ≡ 0) document.weights
   pub no_weight_order : document.order ≢ WeightPath
 
--- A document as it may be read.
+-- A document that may be written and read back: it is as one that is read.
 pub record IsWritable (document : Document) : Type 0 where
   pub version : (document.version ≡ 2) ⊎ ((document.version ≡ 1) × IsOfVersionOne document)
   pub field : IsFieldPrime document.field
@@ -65,10 +65,10 @@ pub record IsReadBack (document : Document) : Type 0 where
   pub reading_is : read_text (document_text document) ≡ Ok (record { told = told; tail = None })
   pub again : SayAgain told document
 
--- A document that was read is well formed, and its text is read back, whatever its length.
-pub record ReadBackLaw (document : Document) : Type 0 where
-  pub well_formed : (bytes : List ℕ) → IsReadAs bytes document → IsWritable document
-  pub read_back : IsWritable document → IsReadBack document
+-- A document that was read may be written.
+abbrev pub ReadDocumentsAreWritable : Type 0
+ReadDocumentsAreWritable = (bytes : List ℕ) (document : Document) → IsReadAs bytes document → IsWritable document
 
+-- The text of a writable document is read back to the same, whatever its length.
 abbrev pub PrintedDocumentsAreReadBack : Type 0
-PrintedDocumentsAreReadBack = (document : Document) → ReadBackLaw document
+PrintedDocumentsAreReadBack = (document : Document) → IsWritable document → IsReadBack document

@@ -3,7 +3,7 @@ ghost use Rattle.std.specs.List.{All, flat_map};
 ghost use Rattle.symmetric_sums.specs.Terms.{FitsOver, terms_of};
 ghost use Rattle.presentation_text.specs.DocumentText as text;
 ghost use Rattle.presentation_text.specs.DraftForms.{AskFits};
-ghost use Rattle.presentation_text.specs.ReadBack.{PrintedDocumentsAreReadBack};
+ghost use Rattle.presentation_text.specs.ReadBack.{PrintedDocumentsAreReadBack, ReadDocumentsAreWritable};
 
 use crate::document::{Ask, AskKind, Document, OrderName};
 use crate::writing::{write_number, write_sum};
@@ -236,8 +236,13 @@ pub fn print_document(alloc: Global, document: &Document) -> Result<Vec<u8>, All
     Ok(out)
 }
 
-/// Law: a document that was read is well formed, and the text of a well-formed document is read back to the same, apart from
-/// the numbers of lines and the tail.
+/// Law: a document that was read may be written.
+pub fn read_documents_are_writable()
+    ensures law { ReadDocumentsAreWritable }
+{}
+
+/// Law: the text of a writable document is read back to the same, apart from the numbers of lines and the tail, whatever its
+/// length.
 pub fn printed_documents_are_read_back()
     ensures law { PrintedDocumentsAreReadBack }
 {}

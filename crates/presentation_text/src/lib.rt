@@ -16,7 +16,9 @@ mod trees;
 mod writing;
 
 pub use document::{Ask, AskKind, Document, OrderName, Tail};
-pub use document_writing::{print_document, printed_documents_are_read_back};
+pub use document_writing::{
+    print_document, printed_documents_are_read_back, read_documents_are_writable,
+};
 pub use kinds::{DocFail, DocKind, PartFail, ReadDocFail};
 pub use lexing::{Token, tokens, tokens_are_defined, words_are_words};
 pub use line_words::is_unknown;

@@ -2,6 +2,10 @@ use Rattle.std.proofs.Common.{◌∙◌, length}
 use Rattle.presentation_text.specs.DocumentDrafts.{tail_number}
 use Rattle.presentation_text.specs.DraftForms.{told_of}
 use Rattle.presentation_text.proofs.DocumentFormsRest.{is_tail, rest_joined}
+use Rattle.presentation_text.proofs.ElementsAccepted.{elements_accepted}
+use Rattle.presentation_text.proofs.ToldLines.{documents_well}
+use Rattle.presentation_text.proofs.TreesAccepted.{all_accepted}
+use Rattle.presentation_text.proofs.WritableDocuments.{written_document}
 use Rattle.presentation_text.proofs.presentations.read_document.Goals as goal
 
 pub returns-in-Ok-clause-document : goal.returns-in-Ok-clause-document
@@ -17,3 +21,10 @@ returns-in-Ok-clause-document c =
           is_tail c.args.bytes.now found.rest read.left read.number c.in-Ok.document.tail
           (rest_joined c.args.bytes.now header.rest.now found.rest 1 header.number read.number c.in_ok-header.ensures.stands found.stands) found.left_is c.in-Ok.ensures.tail;
     }
+
+pub returns-in-Ok-clause-formed : goal.returns-in-Ok-clause-formed
+returns-in-Ok-clause-formed c =
+    let read = c.in_ok-read.read in
+    let found = c.in_ok-read.ensures in
+    written_document (told_of read.draft) c.in-Ok.document
+    (documents_well (elements_accepted all_accepted) c.args.bytes.now (record { told = told_of read.draft; tail = tail_number read.left read.number }) (c.in_ok-header.ensures.read ∙ found.reading_is)) c.in-Ok.ensures.says
