@@ -1,61 +1,140 @@
 use super::*;
+use prime_field::Field;
+use sqlite_items::Items;
 use std::alloc::{AllocError, Global};
 use std::test::*;
+use symmetric_trees::{GenTable, Generator, Name, Part, PartKind};
 
-fn kind_at(alloc: Global, text: &str) -> (u32, Option<DocKind>) {
-    match read_document(alloc, text.as_bytes()) {
-        Ok(_) => (0, None),
-        Err(ReadDocFail::At(fail)) => (fail.line, Some(fail.kind)),
-        Err(ReadDocFail::NoMemory) => (9999, None),
-    }
+const MOST_BYTES: usize = 16_777_216;
+
+// A table with one generator `l`, of arity 2, whose inputs change the sign when they change places.
+fn table(alloc: Global) -> Result<GenTable, AllocError> {
+    let mut table = GenTable::new(alloc);
+    let part = Part {
+        kind: PartKind::Alt,
+        size: 2,
+    };
+    let generator = Generator {
+        name: Name::new(alloc, "l")?,
+        arity: 2,
+        parts: Items::from_slice(alloc, &[part])?,
+    };
+    let _ = table.add(alloc, generator);
+    Ok(table)
 }
 
 #[test]
-fn refuses_lines(rt: HostRuntime) -> Result<(), Fail> {
-    let skew = "operad 1\nfield 101\norder path\ngen l 2 alt\n";
-    for (line, kind) in [
-        ("query l(1,2)", None),
-        ("query 0", None),
-        ("query 000", None),
-        ("query l(1,1)", Some(DocKind::Labels)),
-        ("query l(1,2) + l(l(1,2),3)", Some(DocKind::MixedArity)),
-        ("query l(1,2,3)", Some(DocKind::InputCount)),
-        ("query l()", Some(DocKind::InputCount)),
-        ("query l(1,)", Some(DocKind::InputCount)),
-        ("query l(1)", Some(DocKind::InputCount)),
-        ("query l)", Some(DocKind::Syntax)),
-        ("query k(1,2)", Some(DocKind::NameUnknown)),
-        (
-            "query 1234567890123456789*l(1,2)",
-            Some(DocKind::NumberLong),
-        ),
-        ("gen l 2 sym", Some(DocKind::NameTaken)),
-        ("rel 1", Some(DocKind::ArityOut)),
-        ("rel 2", Some(DocKind::Labels)),
-        ("qery l(1,2)", Some(DocKind::Directive)),
-        ("query l(1,2", Some(DocKind::Syntax)),
-        ("query l(l(l(l(l(l(l(1", Some(DocKind::Syntax)),
-        ("query l(l(l(l(l(l(l(l(l(1", Some(DocKind::TooDeep)),
-        ("step l(1,2)", Some(DocKind::Block)),
-        ("query 0*l(1,2) + 1", Some(DocKind::MixedArity)),
-        ("query -0", Some(DocKind::Labels)),
-        ("query 0 + 1", Some(DocKind::Syntax)),
-        ("same l(1,2) = 0", None),
-        ("same 0 = l(1,2)", None),
-        ("same l(1,2) = 1", Some(DocKind::MixedArity)),
-        ("same l(1,2)", Some(DocKind::Syntax)),
-        ("weight l 1", Some(DocKind::Directive)),
-        ("field 101", Some(DocKind::Directive)),
-    ] {
-        let text = alloc_text(rt.alloc(), skew, line)?;
-        let found = kind_at(rt.alloc(), text.as_str());
-        assert_eq!(rt; found.1, kind);
+fn lines_of_a_text(rt: HostRuntime) -> Result<(), Fail> {
+    let mut rest: &[u8] = b"a\n\nb";
+    for wanted in ["a", "", "b"] {
+        let (line, behind) = next_line(rest).ok_or("no line")?;
+        assert_eq!(rt; line, wanted.as_bytes());
+        rest = behind;
     }
+    assert!(rt; next_line(rest).is_none());
+    assert!(rt; !counts(b"  # c"));
+    assert!(rt; !counts(b" \t\r"));
+    assert!(rt; counts(b"a"));
     Ok(())
 }
 
-fn alloc_text(alloc: Global, front: &str, line: &str) -> Result<String, AllocError> {
-    let mut text = String::from_str(alloc, front)?;
-    text.push_str(line)?;
-    Ok(text)
+#[test]
+fn tokens_of_a_line(rt: HostRuntime) -> Result<(), Fail> {
+    let alloc = rt.alloc();
+    assert_eq!(rt; tokens(alloc, b"l(1,2) + l(l(1,2),3)")?.len(), 18);
+    let long = tokens(alloc, b"1234567890123456789")?;
+    assert!(rt; matches!(long.as_slice(), [Token::Long]));
+    let stray = tokens(alloc, b"_x")?;
+    assert!(rt; matches!(stray.as_slice(), [Token::Bad, Token::Word(_)]));
+    Ok(())
+}
+
+#[test]
+fn parts_of_a_line_are_read(rt: HostRuntime) -> Result<(), Fail> {
+    let alloc = rt.alloc();
+    let field = Field::of(101).ok_or("101 is listed")?;
+    let table = table(alloc)?;
+    let line = tokens(alloc, b"l(1,2) + l(l(1,2),3)")?;
+    let (tree, next) = tree_at(alloc, &table, &line, 0, false)
+        .ok()
+        .ok_or("no tree")?;
+    assert_eq!(rt; next, 6);
+    assert_eq!(rt;
+        print_tree(alloc, &table, &tree)?.as_slice(),
+        b"l(1,2)".as_slice()
+    );
+    let fault = element_at(alloc, field, &table, &line, 0, 1, None).err();
+    let wanted = PartFail::At {
+        token: 17,
+        kind: DocKind::MixedArity,
+    };
+    assert!(rt; fault == Some(wanted));
+    Ok(())
+}
+
+#[test]
+fn a_tree_may_have_free_leaves(rt: HostRuntime) -> Result<(), Fail> {
+    let alloc = rt.alloc();
+    let table = table(alloc)?;
+    let line = tokens(alloc, b"l(0,99)")?;
+    assert!(rt; tree_at(alloc, &table, &line, 0, true).is_ok());
+    let fault = tree_at(alloc, &table, &line, 0, false).err();
+    let wanted = PartFail::At {
+        token: 5,
+        kind: DocKind::Labels,
+    };
+    assert!(rt; fault == Some(wanted));
+    Ok(())
+}
+
+// The document that a text is, if it is one.
+fn document_of(alloc: Global, text: &[u8]) -> Option<Document> {
+    if text.len() > MOST_BYTES {
+        return None;
+    }
+    read_document(alloc, text).ok()
+}
+
+#[test]
+fn a_document_is_read(rt: HostRuntime) -> Result<(), Fail> {
+    let alloc = rt.alloc();
+    let text: &[u8] =
+        b"# two\noperad 2\nfield 7\norder weightpath\ngen b 3 sym 2 free 1\nweight b 5\ngen l 2 alt 2\nrel l(1,2)\n\nsame 0 = l(2,1)\n want 3\nend end\n";
+    let document = document_of(alloc, text).ok_or("no document")?;
+    assert_eq!(rt; document.version, 2);
+    assert_eq!(rt; document.field.prime(), 7);
+    assert_eq!(rt; document.order, OrderName::WeightPath);
+    assert_eq!(rt; document.weights.as_slice(), [5, 0].as_slice());
+    assert_eq!(rt; document.gens.find("l"), Some(1));
+    assert_eq!(rt; document.rels.len(), 1);
+    let [ask] = document.asks.as_slice() else {
+        return Err("not one question")?;
+    };
+    assert_eq!(rt; ask.line, 10);
+    let tail = document.tail.ok_or("no tail")?;
+    assert_eq!(rt; tail.line, 11);
+    assert_eq!(rt;
+        text[tail.from..].as_slice(),
+        b" want 3\nend end\n".as_slice()
+    );
+    Ok(())
+}
+
+#[test]
+fn a_document_is_printed(rt: HostRuntime) -> Result<(), Fail> {
+    let alloc = rt.alloc();
+    let text: &[u8] =
+        b"operad  2\nfield 7\n#\norder weightpath\ngen b 3 sym 2 free 1\nweight b 05\ngen l 2 alt 2\nweight l 0\nrel 1*l(1,2)\nquery 6*l(1,2) + 2*l(2,1)\nsame 7*1=l(2,1)\ncert\n";
+    let wanted: &[u8] =
+        b"operad 2\nfield 7\norder weightpath\ngen b 3 sym 2 free 1\nweight b 5\ngen l 2 alt 2\nrel l(1,2)\nquery -l(1,2) + 2*l(2,1)\nsame 0 = l(2,1)\n";
+    if let Some(document) = document_of(alloc, text) {
+        assert_eq!(rt; print_document(alloc, &document)?.as_slice(), wanted);
+    }
+    let old: &[u8] = b"operad 1\nfield 101\norder path\ngen m 2 sym\ngen l 2 alt\ngen p 3 reg\n";
+    if let Some(document) = document_of(alloc, old) {
+        assert_eq!(rt; print_document(alloc, &document)?.as_slice(), old);
+    }
+    assert!(rt; document_of(alloc, text).is_some());
+    assert!(rt; document_of(alloc, old).is_some());
+    Ok(())
 }
