@@ -113,10 +113,7 @@ fn a_document_is_read(rt: HostRuntime) -> Result<(), Fail> {
     assert_eq!(rt; ask.line, 10);
     let tail = document.tail.ok_or("no tail")?;
     assert_eq!(rt; tail.line, 11);
-    assert_eq!(rt;
-        text[tail.from..].as_slice(),
-        b" want 3\nend end\n".as_slice()
-    );
+    assert_eq!(rt; &text[tail.from..], b" want 3\nend end\n".as_slice());
     Ok(())
 }
 
@@ -124,7 +121,7 @@ fn a_document_is_read(rt: HostRuntime) -> Result<(), Fail> {
 fn a_document_is_printed(rt: HostRuntime) -> Result<(), Fail> {
     let alloc = rt.alloc();
     let text: &[u8] =
-        b"operad  2\nfield 7\n#\norder weightpath\ngen b 3 sym 2 free 1\nweight b 05\ngen l 2 alt 2\nweight l 0\nrel 1*l(1,2)\nquery 6*l(1,2) + 2*l(2,1)\nsame 7*1=l(2,1)\ncert\n";
+        b"operad  2\nfield 7\n#\norder weightpath\ngen b 3 sym 2 free 1\nweight b 05\ngen l 2 alt 2\nweight l 0\nrel 1*l(1,2)\nquery 6*l(1,2) + 2*l(2,1)\nsame 7*l(1,2)=l(2,1)\ncert\n";
     let wanted: &[u8] =
         b"operad 2\nfield 7\norder weightpath\ngen b 3 sym 2 free 1\nweight b 5\ngen l 2 alt 2\nrel l(1,2)\nquery -l(1,2) + 2*l(2,1)\nsame 0 = l(2,1)\n";
     if let Some(document) = document_of(alloc, text) {
