@@ -20,7 +20,7 @@ use Rattle.presentation_text.specs.SumText.{is_negative, magnitude, factor_text,
 use Rattle.presentation_text.specs.Laws.{PrintedSumsAreReadBack}
 use Rattle.presentation_text.proofs.TokenLaws.{tokens-single, tokens-blank}
 use Rattle.presentation_text.proofs.PrintedTokens.{tokens-decimal, tokens-tree_text}
-use Rattle.presentation_text.proofs.ElementsOnce.{IsPositive, ArePositive, terms_once}
+use Rattle.presentation_text.proofs.TermsOnce.{IsPositive, ArePositive, terms-once}
 
 -- ---- printed terms, as written ones
 
@@ -155,7 +155,7 @@ apart : (p : ℕ) (generators : List Generator) → IsFieldPrime p → IsTable g
     → sum_text p generators e ≡ sum_text p generators f → e ≡ f
 apart p generators prime table words e f he hf text =
     let small = small_prime p prime in
-    let terms : all_written p e ≡ all_written p f = terms_once generators table (all_written p e) (all_written p f) (are_positive p generators e he) (are_positive p generators f hf)
+    let terms : all_written p e ≡ all_written p f = terms-once generators table (all_written p e) (all_written p f) (are_positive p generators e he) (are_positive p generators f hf)
     (sym (tokens-sum p generators words small e he) ∙ ap tokens text ∙ tokens-sum p generators words small f hf) in
     sym (same p generators e he) ∙ ap (said p) terms ∙ same p generators f hf
 

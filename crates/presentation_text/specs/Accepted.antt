@@ -1,12 +1,14 @@
 -- Which tokens reading accepts: exactly those of the grammar, within the limits.
-use Rattle.std.specs.Prelude.{ℕ, ◌≡◌, ◌≢◌, ◌≤◌, ◌↔◌, false, List, [], ◌∷◌, ◌++◌, Option, Some, Ok}
+use Rattle.std.specs.Prelude.{ℕ, ◌≡◌, ◌≢◌, ◌≤◌, ◌↔◌, Bool, true, false, List, [], ◌∷◌, ◌++◌, length, Option, Some, None, Ok, Err}
 use Rattle.std.specs.List.{All}
-use Rattle.labelled_trees.specs.Trees.{Tree}
+use Rattle.labelled_trees.specs.Trees.{Tree, leaf, node}
 use Rattle.labelled_trees.specs.Leaves.{AllLeaves, leaf_count}
 use Rattle.labelled_trees.specs.Labelled.{IsNumbered}
 use Rattle.symmetric_trees.specs.Generators.{IsTable}
 use Rattle.symmetric_trees.specs.Trees.{Fits}
 use Rattle.symmetric_trees.specs.declared.generators.Generator.{Generator}
+use Rattle.presentation_text.specs.declared.kinds.DocKind.{DocKind}
+use Rattle.presentation_text.specs.declared.kinds.DocKind.TheVariants.{Syntax, NumberLong, NameUnknown, InputCount, TooDeep, TooWide}
 use Rattle.presentation_text.specs.declared.lexing.Token.{Token}
 use Rattle.presentation_text.specs.declared.lexing.Token.TheVariants.{Byte}
 use Rattle.presentation_text.specs.declared.trees.Demands.{Demands}
@@ -33,6 +35,34 @@ abbrev pub TreesAreAccepted : Type 0
 TreesAreAccepted = (generators : List Generator) → IsTable generators → (demands : Demands) (ts rest : List Token) (t : Tree ℕ)
     → (whole_tree_in generators demands ts ≡ Ok (t, rest)) ↔ ((ts ≡ tree_tokens generators t ++ rest) × IsDemanded generators demands t)
 
+-- The tokens go on from those in front as the ones behind do: with their first token, or with nothing where there is none.
+abbrev pub GoOnAs : List Token → List Token → List Token → Type 0
+GoOnAs front [] ts = ts ≡ front
+GoOnAs front (token ∷ back) ts = (others : List Token) × (ts ≡ front ++ token ∷ others)
+
+-- The trees that a refusal rules out: for a token that can't stand there any tree over the table, for a limit those within it, and else
+-- those that are as demanded.
+abbrev pub IsRuledOut : List Generator → Demands → DocKind → Tree ℕ → Type 0
+IsRuledOut generators demands Syntax t = Fits generators t
+IsRuledOut generators demands NumberLong t = Fits generators t
+IsRuledOut generators demands NameUnknown t = Fits generators t
+IsRuledOut generators demands InputCount t = Fits generators t
+IsRuledOut generators demands TooDeep t = Fits generators t × (nested t ≤ 8)
+IsRuledOut generators demands TooWide t = Fits generators t × (leaf_count t ≤ 9)
+IsRuledOut generators demands kind t = IsDemanded generators demands t
+
+-- Reading refuses a token, or the end of the line, only where the tokens of no tree that is ruled out go on so.
+abbrev pub TreesAreRefusedRightly : Type 0
+TreesAreRefusedRightly = (generators : List Generator) → IsTable generators → (demands : Demands) (front back : List Token) (kind : DocKind)
+    → whole_tree_in generators demands (front ++ back) ≡ Err (length back, kind)
+    → (t : Tree ℕ) → IsRuledOut generators demands kind t → GoOnAs front back (tree_tokens generators t) → ⊥
+
+-- The tokens before the refused one are the first of a tree over the table.
+abbrev pub RefusedTreesBegin : Type 0
+RefusedTreesBegin = (generators : List Generator) → IsTable generators → (demands : Demands) (front back : List Token) (kind : DocKind)
+    → whole_tree_in generators demands (front ++ back) ≡ Err (length back, kind)
+    → (t : Tree ℕ) × (others : List Token) × Fits generators t × (tree_tokens generators t ≡ front ++ others)
+
 -- ---- elements
 
 -- the tokens don't begin with this single byte
@@ -40,10 +70,21 @@ abbrev pub NotMarked : ℕ → List Token → Type 0
 NotMarked c [] = Unit {0}
 NotMarked c (token ∷ rest) = token ≢ Byte c
 
--- An element goes on as long as it can: behind 0 no '*' stands, and behind a term neither '+' nor '-'.
+-- a leaf without a coefficient: its number would be one before '*'
+abbrev pub is_bare_leaf : Option ℕ → Tree ℕ → Bool
+is_bare_leaf None (leaf n) = true
+is_bare_leaf None (node g r) = false
+is_bare_leaf (Some c) t = false
+
+-- whether the last term is a leaf without a coefficient; the answer for no terms is given
+abbrev pub ends_bare : Bool → List Written → Bool
+ends_bare bare [] = bare
+ends_bare bare (term ∷ terms) = ends_bare (is_bare_leaf term.coefficient term.tree) terms
+
+-- An element goes on as long as it can: behind a term neither '+' nor '-' stands, and no '*' behind a number that is no coefficient.
 abbrev pub EndsBefore : List Written → List Token → Type 0
 EndsBefore [] rest = NotMarked 42 rest
-EndsBefore (term ∷ terms) rest = NotMarked 43 rest × NotMarked 45 rest
+EndsBefore (term ∷ terms) rest = NotMarked 43 rest × NotMarked 45 rest × (ends_bare true (term ∷ terms) ≡ true → NotMarked 42 rest)
 
 -- the trees have one arity, which is as is asked
 pub record HaveDemandedArity (generators : List Generator) (least : ℕ) (arity : Option ℕ) (terms : List Written) : Type 0 where
@@ -52,6 +93,7 @@ pub record HaveDemandedArity (generators : List Generator) (least : ℕ) (arity 
   pub least_is : least ≤ n
   pub arity_is : (m : ℕ) → arity ≡ Some m → n ≡ m
 
+-- there are no terms, or their trees have one arity as is asked
 abbrev pub AreDemanded : List Generator → ℕ → Option ℕ → List Written → Type 0
 AreDemanded generators least arity [] = Unit {0}
 AreDemanded generators least arity (term ∷ terms) = HaveDemandedArity generators least arity (term ∷ terms)

@@ -1,29 +1,30 @@
 -- Reading an element: what may stand at each token, and what is refused.
-use Rattle.std.specs.Prelude.{ℕ, zero, suc, ◌≡◌, ◌≤◌, Bool, true, false, not, ◌&&◌, ◌==◌, if◌then◌else◌, List, [], ◌∷◌, length, drop, Option, Some, None, Result, Ok, Err}
-use Rattle.labelled_trees.specs.Trees.{Tree}
+use Rattle.std.specs.Prelude.{ℕ, zero, suc, ◌≡◌, ◌≤◌, Bool, true, false, not, ◌&&◌, ◌==◌, if◌then◌else◌, List, [], ◌∷◌, ◌++◌, length, drop, Option, Some, None, Result, Ok, Err}
+use Rattle.std.specs.List.{All}
 use Rattle.labelled_trees.specs.Leaves.{leaf_count}
+use Rattle.labelled_trees.specs.Meaning.{tree_of}
+use Rattle.symmetric_trees.specs.Trees.{IsLabelled}
 use Rattle.symmetric_trees.specs.declared.generators.Generator.{Generator}
-use Rattle.symmetric_sums.specs.Terms.{terms_of}
+use Rattle.symmetric_sums.specs.Terms.{HaveResidues, terms_of}
+use Rattle.symmetric_sums.specs.declared.term.Term.{Term}
 use Rattle.presentation_text.specs.declared.kinds.PartFail.{PartFail}
 use Rattle.presentation_text.specs.declared.lexing.Token.{Token}
-use Rattle.presentation_text.specs.declared.lexing.Token.TheVariants.{Word, Number, Long, Byte, Bad}
+use Rattle.presentation_text.specs.declared.lexing.Token.TheVariants.{Number, Byte}
 use Rattle.presentation_text.specs.declared.terms.ElementAt.{ElementAt}
+use Rattle.presentation_text.specs.declared.terms.TermRead.{TermRead}
 use Rattle.presentation_text.specs.declared.trees.Demands.{Demands}
 use Rattle.presentation_text.specs.Elements.{Written, said}
-use Rattle.presentation_text.specs.Readings.{Fault, Reading, ◌>>=◌, is_mark, StopsAs}
-use Rattle.presentation_text.specs.TreeForms.{whole_tree_in}
+use Rattle.presentation_text.specs.Readings.{Reading, ◌>>=◌, StopsAs}
+use Rattle.presentation_text.specs.TreeForms.{begins_with, whole_tree_in}
 
 -- ---- the front of tokens
-
-abbrev pub begins_with : ℕ → List Token → Bool
-begins_with c [] = false
-begins_with c (token ∷ rest) = is_mark c token
 
 -- the tokens behind the first one
 abbrev pub behind_one : List Token → List Token
 behind_one [] = []
 behind_one (token ∷ rest) = rest
 
+-- a number of value 0
 abbrev pub is_zero : Token → Bool
 is_zero (Number n) = n == 0
 is_zero token = false
@@ -35,6 +36,7 @@ is_nothing (token ∷ rest) = is_zero token && not (begins_with 42 rest)
 
 -- ---- a term
 
+-- a number that begins the tokens, where '*' comes next
 abbrev pub coefficient_of : Token → List Token → Option ℕ
 coefficient_of (Number n) rest = if begins_with 42 rest then Some n else None
 coefficient_of token rest = None
@@ -57,15 +59,17 @@ term_in generators demands negative ts = do
 
 -- ---- an element
 
--- the sign before a further term: whether it is '-'
+-- whether a sign is '-'; nothing for any other token
 abbrev pub sign_of : Token → Option Bool
 sign_of (Byte c) = if c == 43 then Some false else (if c == 45 then Some true else None)
 sign_of token = None
 
+-- the sign before a further term: whether it is '-'
 abbrev pub sign : List Token → Option Bool
 sign [] = None
 sign (token ∷ rest) = sign_of token
 
+-- one answer where no sign stands, and one for each sign
 abbrev pub if_signed : {X : Type 0} → Option Bool → X → (Bool → X) → X
 if_signed None none signed = none
 if_signed (Some negative) none signed = signed negative
@@ -97,6 +101,45 @@ arity_of_first [] = None
 arity_of_first (term ∷ terms) = Some (leaf_count term.tree)
 
 -- ---- what functions give
+
+-- a term that was read, as a written one
+abbrev pub written : TermRead → Written
+written term = record { negative = term.negative; coefficient = term.coefficient; tree = tree_of term.tree.tree }
+
+-- A term that was read for the tokens from a place on, and the place behind it, are as reading gives them.
+pub record IsTermRead (tokens : List Token) (reading : Reading Written) (found : TermRead) : Type 0 where
+  pub reading_is : reading ≡ Ok (written found, drop found.tree.end tokens)
+  pub within : found.tree.end ≤ length tokens
+  pub leaves_are : found.tree.leaves ≡ leaf_count (tree_of found.tree.tree)
+
+-- a function gave the term that reading gives, or it stops as reading does
+abbrev pub GivesTerm : List Token → Reading Written → Result TermRead PartFail → Type 0
+GivesTerm tokens reading (Ok found) = IsTermRead tokens reading found
+GivesTerm tokens reading (Err fail) = StopsAs tokens reading fail
+
+-- the numbers are residues, and the trees have the arity n
+pub record IsSumOver (p : ℕ) (generators : List Generator) (n : ℕ) (sum : List Term) : Type 0 where
+  pub residues : HaveResidues p sum
+  pub labelled : All (λ term. IsLabelled generators n (tree_of term.tree)) sum
+
+-- the terms read so far fit the field and the table, and have one arity
+pub record IsUnderWay (p : ℕ) (generators : List Generator) (element : ElementAt) : Type 0 where
+  pub n : ℕ
+  pub arity_is : element.arity ≡ Some n
+  pub over : IsSumOver p generators n element.sum
+
+-- The element goes on behind another one: it says that one's sum and then the written terms.
+pub record GoesOn (p : ℕ) (tokens : List Token) (reading : Reading (List Written)) (before found : ElementAt) : Type 0 where
+  pub terms : List Written
+  pub reading_is : reading ≡ Ok (terms, drop found.next tokens)
+  pub within : found.next ≤ length tokens
+  pub sum_is : terms_of found.sum ≡ terms_of before.sum ++ said p terms
+  pub arity_is : found.arity ≡ before.arity
+
+-- a function went on with the element as reading does, or it stops as reading does
+abbrev pub GivesFurther : ℕ → List Token → Reading (List Written) → ElementAt → Result ElementAt PartFail → Type 0
+GivesFurther p tokens reading before (Ok found) = GoesOn p tokens reading before found
+GivesFurther p tokens reading before (Err fail) = StopsAs tokens reading fail
 
 -- The element says the written terms modulo p, and has the arity of the first one.
 pub record IsElementOf (p : ℕ) (tokens : List Token) (reading : Reading (List Written)) (found : ElementAt) : Type 0 where

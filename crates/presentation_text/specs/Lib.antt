@@ -22,3 +22,4 @@ pub mod Presentations
 pub mod DocumentDrafts
 pub mod WellFormed
 pub mod Laws
+pub mod ReadBack

@@ -30,6 +30,11 @@ index_of name (x ∷ xs) = if bytes_eq x.name name then Some 0 else next_index (
 
 -- ---- inputs
 
+-- this single byte comes next
+abbrev pub begins_with : ℕ → List Token → Bool
+begins_with c [] = false
+begins_with c (token ∷ rest) = is_mark c token
+
 -- How a tree is read of which so many leaves of the whole tree stand before.
 abbrev pub Inside : Type 0
 Inside = ℕ → List Token → Reading (Tree ℕ)

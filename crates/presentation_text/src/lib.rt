@@ -29,14 +29,16 @@ pub use lexing::{Token, tokens, tokens_are_defined, words_are_words};
 pub use line_fail::LineFail;
 pub use lines::{counts, lines_are_defined, next_line};
 pub use opening::{is_word, read_table, skip_opening};
-pub use presentations::{read_document, texts_are_read_or_refused};
+pub use presentations::{accepted_texts_are_well_formed, read_document, texts_are_read_or_refused};
 pub use reading::{is_mark, read_tree, trees_are_read_once};
-pub use terms::{ElementAt, element_at};
-pub use trees::tree_at;
+pub use terms::{ElementAt, element_at, elements_are_accepted, printed_elements_are_read};
+pub use trees::{refused_trees_begin, tree_at, trees_are_accepted, trees_are_refused_rightly};
 pub use writing::{
     print_sum, print_tree, printed_sums_are_read_back, printed_trees_are_read_back, write_number,
     write_sum, write_tree,
 };
 
+#[cfg(test)]
+mod terms_tests;
 #[cfg(test)]
 mod tests;

@@ -1,10 +1,12 @@
-ghost use Rattle.std.specs.Prelude.{◌≡◌, ◌≤◌, ◌<◌, ◌+◌, ◌↔◌, IfOk, IsTrue, Some, drop, length, slice_get};
+ghost use Rattle.std.specs.Prelude.{◌≡◌, ◌≤◌, ◌<◌, ◌+◌, ◌^◌, IfOk, IfSome, List, Some, Err, drop, length};
 ghost use Rattle.labelled_trees.specs.Leaves.{leaf_count};
 ghost use Rattle.labelled_trees.specs.Meaning.{tree_of};
-ghost use Rattle.symmetric_trees.specs.Generators.{IsTable};
 ghost use Rattle.symmetric_trees.specs.Trees.{Fits};
-ghost use Rattle.presentation_text.specs.Readings.{mark_in, GivesBehind};
+ghost use Rattle.symmetric_trees.specs.declared.generators.Generator.{Generator};
+ghost use Rattle.presentation_text.specs.Accepted.{RefusedTreesBegin, TreesAreAccepted, TreesAreRefusedRightly};
+ghost use Rattle.presentation_text.specs.Readings.{first_row, GivesBehind};
 ghost use Rattle.presentation_text.specs.TreeForms as spec;
+ghost use Rattle.presentation_text.specs.declared.lexing.Token.{Token};
 
 use crate::kinds::{DocKind, PartFail};
 use crate::lexing::Token;
@@ -42,16 +44,32 @@ const MOST_LEAVES: u8 = 9;
 
 const GREATEST_LEAF: u64 = 99;
 
-fn fail<T>(token: usize, kind: DocKind) -> Result<T, PartFail> {
+fn fail<T>(token: usize, kind: DocKind) -> Result<T, PartFail>
+    ensures { result ≡ Err (PartFail.At token kind) }
+{
     Err(PartFail::At { token, kind })
 }
 
-// Whether this single byte stands at the place.
-fn has_mark(tokens: &[Token], at: usize, mark: u8) -> bool
-    requires within { at ≤ length tokens.now }
+// The index of the generator with this name.
+fn generator_named(table: &GenTable, name: &Name) -> Option<u16>
+    ensures index { result ≡ spec.index_of name.now table.now }
+    ensures held { IfSome result (λ index. index < length table.now) }
 {
-    match token_at(tokens, at) {
-        Some(Token::Byte(byte)) => *byte == mark,
+    let generator = table.find(name.as_str())?;
+    prove!(generator < table.len());
+    Some(generator)
+}
+
+// Whether this single byte stands at the place.
+pub(crate) fn has_mark(tokens: &[Token], at: usize, mark: u8) -> bool
+    requires within { at ≤ length tokens.now }
+    ensures { result ≡ spec.begins_with mark (drop at tokens.now) }
+{
+    let Some(token) = token_at(tokens, at) else {
+        return false;
+    };
+    match token {
+        Token::Byte(byte) => *byte == mark,
         _ => false,
     }
 }
@@ -81,7 +99,14 @@ fn behind_inputs(tokens: &[Token], at: usize) -> Result<usize, PartFail>
     mark_at(tokens, at, b')')
 }
 
-fn leaf(at: usize, number: u64, seen: u8) -> Result<TreeRead, PartFail> {
+// A leaf at a place.
+fn leaf(at: usize, number: u64, seen: u8) -> Result<TreeRead, PartFail>
+    requires room { at + 1 < 2 ^ 64 }
+    ensures read { (tokens : List Token) → at < length tokens → spec.GivesTree tokens (spec.leaf_in seen number (drop (at + 1) tokens)) result }
+    ensures narrow { IfOk result (λ found. seen + found.leaves ≤ 9) }
+    ensures fits { (generators : List Generator) → IfOk result (λ found. Fits generators (tree_of found.tree)) }
+    ensures further { IfOk result (λ found. at < found.end) }
+{
     if seen >= MOST_LEAVES {
         return fail(at, DocKind::TooWide);
     }
@@ -112,9 +137,12 @@ fn tree_within(
     ensures fits { IfOk result (λ found. Fits table.now (tree_of found.tree)) }
     ensures further { IfOk result (λ found. at < found.end) }
 {
-    match token_at(tokens, at) {
-        Some(Token::Number(number)) => leaf(at, *number, seen),
-        Some(Token::Word(name)) => match table.find(name.as_str()) {
+    let Some(token) = token_at(tokens, at) else {
+        return Err(misfit(tokens, at));
+    };
+    match token {
+        Token::Number(number) => leaf(at, *number, seen),
+        Token::Word(name) => match generator_named(table, name) {
             Some(generator) => {
                 if depth == 0 {
                     return fail(at, DocKind::TooDeep);
@@ -187,9 +215,21 @@ fn vertex_within(
     })
 }
 
+// Whether the leaves carry 1 to their number, each once.
+fn is_numbered(table: &GenTable, tree: &Tree) -> bool
+    requires fits { Fits table.now (tree_of tree.now) }
+    ensures { result ≡ spec.has_each (leaf_count (tree_of tree.now)) (tree_of tree.now) }
+{
+    arity_of(tree, table).is_some()
+}
+
 // What stands against a whole tree at its last token.
-fn against(table: &GenTable, demands: Demands, found: &TreeRead) -> Option<DocKind> {
-    if !demands.loose && arity_of(&found.tree, table).is_none() {
+fn against(table: &GenTable, demands: Demands, found: &TreeRead) -> Option<DocKind>
+    requires fits { Fits table.now (tree_of found.now.tree) }
+    requires leaves { found.now.leaves ≡ leaf_count (tree_of found.now.tree) }
+    ensures { result ≡ first_row (spec.against demands (tree_of found.now.tree)) }
+{
+    if !demands.loose && !is_numbered(table, &found.tree) {
         return Some(DocKind::Labels);
     }
     if found.leaves < demands.least {
@@ -252,3 +292,22 @@ pub fn tree_at(
     let found = demanded_tree_at(alloc, table, demands, tokens, at)?;
     Ok((found.tree, found.end))
 }
+
+/// Law: reading accepts a tree exactly where tokens begin with those of a tree over the table that is as it is
+/// demanded: within the limits, with leaves that carry 1 to some number, each once, unless they are free, and with the
+/// arity that is asked.
+pub fn trees_are_accepted()
+    ensures law { TreesAreAccepted }
+{}
+
+/// Law: where reading refuses a token, no tree over the table goes on with it behind the tokens before; and where it
+/// refuses the end of the line, these are the tokens of none. If a limit is passed, this is said of the trees within it;
+/// and if leaf numbers or the arity are refused, of the trees that are as demanded.
+pub fn trees_are_refused_rightly()
+    ensures law { TreesAreRefusedRightly }
+{}
+
+/// Law: where reading refuses a token, or the end of the line, the tokens before begin a tree over the table.
+pub fn refused_trees_begin()
+    ensures law { RefusedTreesBegin }
+{}

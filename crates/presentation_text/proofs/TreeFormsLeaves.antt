@@ -1,0 +1,49 @@
+-- Testing that the leaves of a tree carry 1 to n, each once.
+use Rattle.std.specs.Prelude.{is_some}
+use Rattle.std.specs.Option.{IfSome, IfNone}
+use Rattle.std.proofs.Common.{◌≡◌, ◌≤◌, ◌<◌, ℕ, zero, suc, true, false, ◌&&◌, ◌==◌, Bool, List, Option, Some, None, refl, sym, subst, arith}
+use Rattle.std.proofs.lemmas.Bool.{false_from_ne_true}
+use Rattle.std.proofs.lemmas.Bool.Decides.{Decides-eqb}
+use native.Mathlib.Decide.{dec_lt}
+use Rattle.labelled_trees.specs.Trees.{Tree}
+use Rattle.labelled_trees.specs.Leaves.{leaf_count, occurs}
+use Rattle.labelled_trees.specs.Labelled.{IsNumbered}
+use Rattle.labelled_trees.proofs.Counts.{only_within, leaf_count-labelled}
+use Rattle.labelled_trees.proofs.Numbered.{labelled_of_numbered}
+use Rattle.operad_ideals.specs.Laws.{arity}
+use Rattle.symmetric_trees.specs.Generators.{parts_at}
+use Rattle.symmetric_trees.specs.Trees.{Fits, IsLabelled}
+use Rattle.symmetric_trees.specs.declared.generators.Generator.{Generator}
+use Rattle.presentation_text.specs.TreeForms.{has_each}
+
+pub both : (a b : Bool) → (a && b) ≡ true → (a ≡ true) × (b ≡ true)
+both true b e = (refl, e)
+both false b e = absurd cc
+
+by_place : (n : ℕ) (t : Tree ℕ) (i : ℕ) → i ≤ suc n → Dec (n < i) → (i ≤ n → occurs i t ≡ 1) → occurs (suc n) t ≡ 1 → occurs i t ≡ 1
+by_place n t i b (yes l) before last = let same : suc n ≡ i = omega arith in subst (λ j. occurs j t ≡ 1) same last
+by_place n t i b (no l) before last = before (omega (arith, l))
+
+pub each-had : (n : ℕ) (t : Tree ℕ) → has_each n t ≡ true → (i : ℕ) → 0 < i → i ≤ n → occurs i t ≡ 1
+each-had zero t e i a b = absurd (omega arith)
+each-had (suc n) t e i a b =
+    let parts = both (has_each n t) (occurs (suc n) t == 1) e in
+    by_place n t i b (dec_lt n i) (λ l. each-had n t parts.0 i a l) ((Decides-eqb (occurs (suc n) t) 1).0 parts.1)
+
+pub has-each : (n : ℕ) (t : Tree ℕ) → ((i : ℕ) → 0 < i → i ≤ n → occurs i t ≡ 1) → has_each n t ≡ true
+has-each zero t each = refl
+has-each (suc n) t each =
+    let before : has_each n t ≡ true = has-each n t (λ i a b. each i a (omega (arith, b))) in
+    let last : (occurs (suc n) t == 1) ≡ true = (Decides-eqb (occurs (suc n) t) 1).1 (each (suc n) (omega arith) (omega arith)) in
+    rw (before, last) refl
+
+pub numbered-had : (t : Tree ℕ) → has_each (leaf_count t) t ≡ true → IsNumbered (leaf_count t) t
+numbered-had t e = record { each = each-had (leaf_count t) t e; only = only_within (leaf_count t) t refl (each-had (leaf_count t) t e) }
+
+-- whether a tree has an arity
+pub labelled-tested : (generators : List Generator) (t : Tree ℕ) (found : Option ℕ) → Fits generators t → IfSome found (λ n. IsLabelled generators n t)
+    → IfNone found ((n : ℕ) → IsLabelled generators n t → ⊥) → is_some found ≡ has_each (leaf_count t) t
+labelled-tested generators t (Some n) fits h k =
+    let labelled : IsLabelled generators n t = h in
+    sym (has-each (leaf_count t) t (λ i a b. labelled.each i a (subst (λ m. i ≤ m) (leaf_count-labelled (arity (parts_at generators)) n t labelled) b)))
+labelled-tested generators t None fits h k = sym (false_from_ne_true (has_each (leaf_count t) t) (λ e. k (leaf_count t) (labelled_of_numbered fits (numbered-had t e))))

@@ -1,0 +1,14 @@
+use Rattle.std.proofs.Common.{◌-◌, length}
+use Rattle.presentation_text.specs.ElementForms.{IsUnderWay}
+use Rattle.presentation_text.specs.TreeForms.{demands_of}
+use Rattle.presentation_text.proofs.ElementFormsFurther.{OnTheWay}
+use Rattle.presentation_text.proofs.terms.further_at.Given as goal
+
+abbrev pub invariant-loop-negative : goal.invariant-loop-negative
+invariant-loop-negative l = record {
+  way : OnTheWay l.table (demands_of l.least l.arity) l.field l.tokens l.fn.begun l.sum l.next;
+  under_way : IsUnderWay l.field l.table (record { sum = l.sum; arity = l.arity; next = l.next });
+}
+
+abbrev pub decreases-loop-negative : goal.decreases-loop-negative
+decreases-loop-negative l = length l.tokens - l.next
