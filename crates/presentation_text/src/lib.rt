@@ -39,6 +39,8 @@ pub use writing::{
 };
 
 #[cfg(test)]
+mod presentations_tests;
+#[cfg(test)]
 mod terms_tests;
 #[cfg(test)]
 mod tests;
