@@ -47,7 +47,7 @@ module _ (generators : List Generator) (demands : Demands) where
   unfolding behind_sign
   sign-reads most ts rest negative term is = rw is (one_more term (further_in most generators demands rest))
 
-  sign-stops : (most : ℕ) (ts : List Token) (negative : Bool) (e : Fault) → term_in generators demands negative (behind_one ts) ≡ Err e → behind_sign most negative ts ≡ Err e
+  pub sign-stops : (most : ℕ) (ts : List Token) (negative : Bool) (e : Fault) → term_in generators demands negative (behind_one ts) ≡ Err e → behind_sign most negative ts ≡ Err e
   unfolding behind_sign
   sign-stops most ts negative e is = rw is refl
 

@@ -38,7 +38,7 @@ same-written a b n c t =
 same-some : (a b : Bool) → Some a ≡ Some b → a ≡ b
 same-some a b e = cc
 
-further-no-star : (generators : List Generator) (terms : List Written) → NotMarked 42 (further_tokens generators terms)
+pub further-no-star : (generators : List Generator) (terms : List Written) → NotMarked 42 (further_tokens generators terms)
 further-no-star generators [] = tt
 further-no-star generators (term ∷ terms) = sign-no-star term.negative (term_tokens generators term ++ further_tokens generators terms)
 

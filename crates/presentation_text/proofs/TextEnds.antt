@@ -1,10 +1,8 @@
 -- The last bytes of a text.
-use Rattle.std.proofs.Common.{◌≡◌, ℕ, suc, ◌-◌, ◌≤◌, Bool, true, false, ◌==◌, if◌then◌else◌, List, [], ◌∷◌, ◌++◌, length, map, drop, take, refl, ap, sym, ◌∙◌, subst, append_assoc, append-nil, length-append, length-drop, arith}
-use Rattle.std.proofs.lemmas.List.{length-map, take-append-drop, take_all}
+use Rattle.std.proofs.Common.{◌≡◌, ℕ, suc, ◌-◌, ◌≤◌, Bool, true, false, ◌==◌, if◌then◌else◌, List, [], ◌∷◌, ◌++◌, length, drop, take, refl, ap, sym, ◌∙◌, subst, append_assoc, append-nil, length-append, length-drop, arith}
+use Rattle.std.proofs.lemmas.List.{take-append-drop, take_all}
 use Rattle.std.proofs.Math.Seq.{drop-append_seam}
 use Rattle.presentation_text.specs.Lines.{EndsWith, in_front, lines}
-use Rattle.presentation_text.specs.Opening.{token_lines}
-use Rattle.presentation_text.specs.Tokens.{tokens}
 
 pub ends_itself : (text : List ℕ) → EndsWith text text
 ends_itself text = record { before = []; text_is = refl }
@@ -45,13 +43,9 @@ some_lines : (b : Bool) (c : ℕ) (cs : List ℕ) → (if b then [] ∷ lines cs
 some_lines true c cs e = cc
 some_lines false c cs e = some_front c (lines cs) e
 
-no_lines : (ls : List (List ℕ)) → map tokens ls ≡ [] → ls ≡ []
-no_lines [] e = refl
-no_lines (l ∷ ls) e = cc
-
 -- a text with bytes has lines
-pub lines_of_some : (c : ℕ) (cs : List ℕ) → token_lines (c ∷ cs) ≡ [] → ⊥
-lines_of_some c cs e = some_lines (c == 10) c cs (no_lines (lines (c ∷ cs)) e)
+pub lines_of_some : (c : ℕ) (cs : List ℕ) → lines (c ∷ cs) ≡ [] → ⊥
+lines_of_some c cs e = some_lines (c == 10) c cs e
 
 front_few : (c n : ℕ) (ls : List (List ℕ)) → length ls ≤ n → length (in_front c ls) ≤ suc n
 front_few c n [] h = omega arith
@@ -61,10 +55,7 @@ lines_few : (b : Bool) (c : ℕ) (cs : List ℕ) → length (lines cs) ≤ lengt
 lines_few true c cs h = omega (arith, h)
 lines_few false c cs h = front_few c (length cs) (lines cs) h
 
-few_lines : (text : List ℕ) → length (lines text) ≤ length text
+-- a text has no more lines than bytes
+pub few_lines : (text : List ℕ) → length (lines text) ≤ length text
 few_lines [] = omega arith
 few_lines (c ∷ cs) = lines_few (c == 10) c cs (few_lines cs)
-
--- a text has no more lines than bytes
-pub few_token_lines : (text : List ℕ) → length (token_lines text) ≤ length text
-few_token_lines text = subst (λ n. n ≤ length text) (sym (length-map (lines text) tokens)) (few_lines text)

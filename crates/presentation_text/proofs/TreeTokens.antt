@@ -1,9 +1,8 @@
 -- The tokens of a tree: names in a table, separators, and that tokens begin with at most one tree.
-use Rattle.std.proofs.Common.{◌≡◌, ℕ, zero, suc, ◌+◌, ◌<◌, ◌≤◌, List, [], ◌∷◌, ◌++◌, length, get_or, map, slice_get, Some, refl, ap, sym, ◌∙◌, subst, arith, append_assoc, ◌⊎◌, ⊎_elim}
+use Rattle.std.proofs.Common.{◌≡◌, ℕ, zero, suc, ◌<◌, ◌≤◌, List, [], ◌∷◌, ◌++◌, length, get_or, map, slice_get, Some, refl, ap, sym, ◌∙◌, subst, arith, append_assoc, ◌⊎◌, ⊎_elim}
 use Rattle.std.proofs.lemmas.List.{length-map}
 use Rattle.std.proofs.lemmas.Option.{get_or_from_slice_get, slice_get-get_or}
 use Rattle.labelled_trees.specs.Trees.{Tree, Row, leaf, node, none, more, row, width}
-use Rattle.labelled_trees.specs.Leaves.{leaf_count, leaf_count_row}
 use Rattle.labelled_trees.specs.Labelled as labelled
 use Rattle.labelled_trees.specs.Meaning.{tree_of}
 use Rattle.labelled_trees.specs.declared.Tree as program
@@ -17,7 +16,7 @@ use Rattle.symmetric_trees.specs.Trees.{Fits}
 use Rattle.symmetric_trees.proofs.Tables.{arity-held}
 use Rattle.presentation_text.specs.declared.lexing.Token.{Token}
 use Rattle.presentation_text.specs.declared.lexing.Token.TheVariants.{Byte}
-use Rattle.presentation_text.specs.TreeText.{name_of, tree_tokens, row_tokens, more_tokens, nested, nested_row}
+use Rattle.presentation_text.specs.TreeText.{name_of, tree_tokens, row_tokens, more_tokens}
 use Rattle.presentation_text.specs.Laws.{TreesAreReadOnce}
 
 -- ---- tables
@@ -127,15 +126,3 @@ module _ (generators : List Generator) (table : IsTable generators) where
 
 pub read_once : TreesAreReadOnce
 read_once generators table t u r s ft fu e = once generators table t u r s ft fu e
-
--- ---- how deep trees are nested
-
-mutual
-  -- fewer generators stand one inside the other than there are leaves
-  pub nested-below : (arities : ℕ → ℕ) (t : Tree ℕ) → labelled.Fits arities t → nested t < leaf_count t
-  nested-below arities (leaf n) h = omega arith
-  nested-below arities (node g r) h = let inside = nested_row-below arities r h.2 in let least = h.0 in let wide = h.1 in omega arith
-
-  pub nested_row-below : (arities : ℕ → ℕ) (r : Row ℕ) → labelled.FitsRow arities r → nested_row r + width r ≤ leaf_count_row r
-  nested_row-below arities none h = omega arith
-  nested_row-below arities (more t r) h = let first = nested-below arities t h.0 in let others = nested_row-below arities r h.1 in omega arith

@@ -102,7 +102,7 @@ same_fault fault other e = cc
 
 -- ---- inputs
 
-only_first : {A B : Type 0} (m : Result A Fault) (f : A → B) (fault : Fault) → (m >>= (λ x. Ok (f x))) ≡ Err fault → m ≡ Err fault
+pub only_first : {A B : Type 0} (m : Result A Fault) (f : A → B) (fault : Fault) → (m >>= (λ x. Ok (f x))) ≡ Err fault → m ≡ Err fault
 only_first (Ok x) f fault e = absurd cc
 only_first (Err other) f fault e = let same : other ≡ fault = cc in ap Err same
 

@@ -24,7 +24,7 @@ use Rattle.presentation_text.proofs.TreesStopLimits.{Breaks, IsReadOrBreaks, tre
 
 -- ---- which trees are ruled out
 
-fits_ruled : (generators : List Generator) (demands : Demands) (kind : DocKind) (t : Tree ℕ) → IsRuledOut generators demands kind t → Fits generators t
+pub fits_ruled : (generators : List Generator) (demands : Demands) (kind : DocKind) (t : Tree ℕ) → IsRuledOut generators demands kind t → Fits generators t
 fits_ruled generators demands Syntax t h = h
 fits_ruled generators demands NumberLong t h = h
 fits_ruled generators demands NameUnknown t h = h
@@ -33,7 +33,7 @@ fits_ruled generators demands TooDeep t h = h.0
 fits_ruled generators demands TooWide t h = h.0
 fits_ruled generators demands kind t h = h.fits
 
-breaks_ruled : (generators : List Generator) (demands : Demands) (kind : DocKind) (t : Tree ℕ) → IsRuledOut generators demands kind t → (IsDemanded generators demands t → ⊥)
+pub breaks_ruled : (generators : List Generator) (demands : Demands) (kind : DocKind) (t : Tree ℕ) → IsRuledOut generators demands kind t → (IsDemanded generators demands t → ⊥)
     → Breaks kind 8 (nested t) (0 + leaf_count t) → ⊥
 breaks_ruled generators demands TooDeep t h other b = omega (arith, h.1, b)
 breaks_ruled generators demands TooWide t h other b = omega (arith, h.1, b)
@@ -41,7 +41,7 @@ breaks_ruled generators demands Labels t h other b = other h
 breaks_ruled generators demands kind t h other b = b
 
 -- what stands against a whole tree
-first_of_three : (a b c : Bool) (kind : DocKind) → first_row ((a, Labels) ∷ (b, ArityOut) ∷ (c, MixedArity) ∷ []) ≡ Some kind → (P : DocKind → Type 0) → (P Labels → ⊥) → (P ArityOut → ⊥) → (P MixedArity → ⊥) → P kind → ⊥
+pub first_of_three : (a b c : Bool) (kind : DocKind) → first_row ((a, Labels) ∷ (b, ArityOut) ∷ (c, MixedArity) ∷ []) ≡ Some kind → (P : DocKind → Type 0) → (P Labels → ⊥) → (P ArityOut → ⊥) → (P MixedArity → ⊥) → P kind → ⊥
 first_of_three true b c kind e P f g h p = let same : kind ≡ Labels = cc in f (subst P same p)
 first_of_three false true c kind e P f g h p = let same : kind ≡ ArityOut = cc in g (subst P same p)
 first_of_three false false true kind e P f g h p = let same : kind ≡ MixedArity = cc in h (subst P same p)
@@ -49,12 +49,12 @@ first_of_three false false false kind e P f g h p = absurd cc
 
 -- ---- how reading stops
 
-record IsJudged (generators : List Generator) (demands : Demands) (ts : List Token) (left : ℕ) (kind : DocKind) : Type 0 where
-  tree : Tree ℕ
-  others : List Token
-  read : tree_in generators 8 0 ts ≡ Ok (tree, others)
-  left_is : left ≡ suc (length others)
-  row : first_row (against demands tree) ≡ Some kind
+pub record IsJudged (generators : List Generator) (demands : Demands) (ts : List Token) (left : ℕ) (kind : DocKind) : Type 0 where
+  pub tree : Tree ℕ
+  pub others : List Token
+  pub read : tree_in generators 8 0 ts ≡ Ok (tree, others)
+  pub left_is : left ≡ suc (length others)
+  pub row : first_row (against demands tree) ≡ Some kind
 
 by_row : (generators : List Generator) (demands : Demands) (ts : List Token) (left : ℕ) (kind : DocKind) (found : Tree ℕ × List Token) (row : Option DocKind) → tree_in generators 8 0 ts ≡ Ok found
     → first_row (against demands found.0) ≡ row → refused (suc (length found.1)) row (Ok found) ≡ Err (left, kind) → IsJudged generators demands ts left kind
@@ -68,7 +68,7 @@ by_reading : (generators : List Generator) (demands : Demands) (ts : List Token)
 by_reading generators demands ts left kind (Err fault) is e = inl (is ∙ e)
 by_reading generators demands ts left kind (Ok found) is e = inr (by_row generators demands ts left kind found (first_row (against demands found.0)) is refl e)
 
-stopped : (generators : List Generator) (demands : Demands) (ts : List Token) (left : ℕ) (kind : DocKind) → whole_tree_in generators demands ts ≡ Err (left, kind)
+pub stopped : (generators : List Generator) (demands : Demands) (ts : List Token) (left : ℕ) (kind : DocKind) → whole_tree_in generators demands ts ≡ Err (left, kind)
     → (tree_in generators 8 0 ts ≡ Err (left, kind)) ⊎ IsJudged generators demands ts left kind
 unfolding whole_tree_in
 stopped generators demands ts left kind e = by_reading generators demands ts left kind (tree_in generators 8 0 ts) refl e
@@ -98,7 +98,7 @@ module _ (generators : List Generator) (table : IsTable generators) (demands : D
 
 -- ---- at the last token of a tree
 
-same_front : (p q r s : List Token) → p ++ q ≡ r ++ s → length q ≡ length s → p ≡ r
+pub same_front : (p q r s : List Token) → p ++ q ≡ r ++ s → length q ≡ length s → p ≡ r
 same_front [] q [] s e l = refl
 same_front [] q (x ∷ r) s e l = absurd (omega (arith, ap length e, length-append (x ∷ r) s, l))
 same_front (x ∷ p) q [] s e l = absurd (omega (arith, ap length e, length-append (x ∷ p) q, l))

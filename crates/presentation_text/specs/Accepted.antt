@@ -14,7 +14,7 @@ use Rattle.presentation_text.specs.declared.lexing.Token.TheVariants.{Byte}
 use Rattle.presentation_text.specs.declared.trees.Demands.{Demands}
 use Rattle.presentation_text.specs.Elements.{Written, element_tokens, IsElementTree}
 use Rattle.presentation_text.specs.ElementForms.{element_in}
-use Rattle.presentation_text.specs.TreeForms.{demands_of, whole_tree_in}
+use Rattle.presentation_text.specs.TreeForms.{begins_with, demands_of, whole_tree_in}
 use Rattle.presentation_text.specs.TreeText.{nested, tree_tokens}
 
 -- ---- trees
@@ -103,3 +103,41 @@ abbrev pub ElementsAreAccepted : Type 0
 ElementsAreAccepted = (generators : List Generator) → IsTable generators → (least : ℕ) (arity : Option ℕ) (ts rest : List Token) (terms : List Written)
     → (element_in generators (demands_of least arity) ts ≡ Ok (terms, rest))
     ↔ ((ts ≡ element_tokens generators terms ++ rest) × AreDemanded generators least arity terms × EndsBefore terms rest)
+
+-- Tokens are alike behind a refused one: where a whole tree is refused, which may be a number, '*' stands first in both or in neither.
+abbrev pub AreAlike : DocKind → List Token → List Token → Type 0
+AreAlike Syntax others back = Unit {0}
+AreAlike NumberLong others back = Unit {0}
+AreAlike NameUnknown others back = Unit {0}
+AreAlike InputCount others back = Unit {0}
+AreAlike TooDeep others back = Unit {0}
+AreAlike TooWide others back = Unit {0}
+AreAlike kind others back = begins_with 42 others ≡ begins_with 42 back
+
+-- the tokens go on from those in front as the ones behind do, as far as the refusal looks
+abbrev pub GoOnLike : DocKind → List Token → List Token → List Token → Type 0
+GoOnLike kind front [] ts = ts ≡ front
+GoOnLike kind front (token ∷ back) ts = (others : List Token) × (ts ≡ front ++ token ∷ others) × AreAlike kind others back
+
+-- The elements that a refusal rules out: for a token that can't stand there any element over the table, for a limit those within it,
+-- and else those whose trees have one arity as demanded.
+abbrev pub AreRuledOut : List Generator → ℕ → Option ℕ → DocKind → List Written → Type 0
+AreRuledOut generators least arity Syntax terms = All (λ term. Fits generators term.tree) terms
+AreRuledOut generators least arity NumberLong terms = All (λ term. Fits generators term.tree) terms
+AreRuledOut generators least arity NameUnknown terms = All (λ term. Fits generators term.tree) terms
+AreRuledOut generators least arity InputCount terms = All (λ term. Fits generators term.tree) terms
+AreRuledOut generators least arity TooDeep terms = All (λ term. Fits generators term.tree × (nested term.tree ≤ 8)) terms
+AreRuledOut generators least arity TooWide terms = All (λ term. Fits generators term.tree × (leaf_count term.tree ≤ 9)) terms
+AreRuledOut generators least arity kind terms = AreDemanded generators least arity terms
+
+-- Reading refuses a token, or the end of the line, only where the tokens of no element that is ruled out go on so.
+abbrev pub ElementsAreRefusedRightly : Type 0
+ElementsAreRefusedRightly = (generators : List Generator) → IsTable generators → (least : ℕ) (arity : Option ℕ) (front back : List Token) (kind : DocKind)
+    → element_in generators (demands_of least arity) (front ++ back) ≡ Err (length back, kind)
+    → (terms : List Written) → AreRuledOut generators least arity kind terms → GoOnLike kind front back (element_tokens generators terms) → ⊥
+
+-- The tokens before the refused one are the first of an element over the table.
+abbrev pub RefusedElementsBegin : Type 0
+RefusedElementsBegin = (generators : List Generator) → IsTable generators → (least : ℕ) (arity : Option ℕ) (front back : List Token) (kind : DocKind)
+    → element_in generators (demands_of least arity) (front ++ back) ≡ Err (length back, kind)
+    → (terms : List Written) × (others : List Token) × All (λ term. Fits generators term.tree) terms × (element_tokens generators terms ≡ front ++ others)

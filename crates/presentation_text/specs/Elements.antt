@@ -4,10 +4,8 @@ use Rattle.std.specs.List.{All}
 use Rattle.labelled_trees.specs.Trees.{Tree}
 use Rattle.symmetric_trees.specs.Trees.{IsLabelled}
 use Rattle.symmetric_trees.specs.declared.generators.Generator.{Generator}
-use Rattle.symmetric_sums.specs.Terms.{terms_of}
 use Rattle.presentation_text.specs.declared.lexing.Token.{Token}
 use Rattle.presentation_text.specs.declared.lexing.Token.TheVariants.{Number, Byte}
-use Rattle.presentation_text.specs.declared.elements.ElementRead.{ElementRead}
 use Rattle.presentation_text.specs.TreeText.{tree_tokens, nested}
 
 -- ---- the grammar
@@ -74,9 +72,3 @@ residue p term = if term.negative then (p - number_of term.coefficient % p) % p 
 abbrev pub said : ℕ → List Written → List (ℕ × Tree ℕ)
 said p [] = []
 said p (term ∷ terms) = if residue p term == 0 then said p terms else (residue p term, term.tree) ∷ said p terms
-
--- What reading gives: the sum and the arity of the element that these tokens are; nothing where they are no element.
-abbrev pub ReadsElement : ℕ → List Generator → List Token → Option ElementRead → Type 0
-ReadsElement p generators tokens None = (terms : List Written) (arity : Option ℕ) → IsElement generators tokens terms arity → ⊥
-ReadsElement p generators tokens (Some found) =
-    (terms : List Written) × IsElement generators tokens terms found.arity × (terms_of found.sum ≡ said p terms)

@@ -2,15 +2,7 @@ pub mod Lines
 pub mod Tokens
 pub mod TreeText
 pub mod Elements
-pub mod ElementSteps
 pub mod SumText
-pub mod Opening
-pub mod ElementLines
-pub mod Faults
-pub mod Documents
-pub mod DocumentSteps
-pub mod OpeningLines
-pub mod Stops
 pub mod Readings
 pub mod TreeForms
 pub mod ElementForms

@@ -2,9 +2,10 @@ ghost use Rattle.std.specs.Prelude.{◌≡◌, ◌≤◌, ◌<◌, ◌++◌, ◌
 ghost use Rattle.labelled_trees.specs.Meaning.{tree_of};
 ghost use Rattle.symmetric_trees.specs.Trees.{IsLabelled};
 ghost use Rattle.symmetric_sums.specs.Terms.{FitsOver, terms_of};
-ghost use Rattle.presentation_text.specs.Accepted.{ElementsAreAccepted};
+ghost use Rattle.presentation_text.specs.Accepted.{ElementsAreAccepted, ElementsAreRefusedRightly, RefusedElementsBegin};
 ghost use Rattle.presentation_text.specs.Elements as elements;
 ghost use Rattle.presentation_text.specs.ElementForms as spec;
+ghost use Rattle.presentation_text.specs.Laws.{ElementsAreReadOnce};
 ghost use Rattle.presentation_text.specs.ReadBack.{PrintedElementsAreRead};
 ghost use Rattle.presentation_text.specs.TreeForms.{begins_with, demands_of};
 
@@ -237,6 +238,24 @@ pub fn element_at(
 /// demanded, and go on with no further term.
 pub fn elements_are_accepted()
     ensures law { ElementsAreAccepted }
+{}
+
+/// Law: tokens are those of at most one element.
+pub fn elements_are_read_once()
+    ensures law { ElementsAreReadOnce }
+{}
+
+/// Law: where reading refuses a token, no element over the table goes on with it behind the tokens before; and where it
+/// refuses the end of the line, these are the tokens of none. If a limit is passed, this is said of the elements within
+/// it; and if leaf numbers or arities are refused, of those that are as demanded, and with '*' behind the token in both
+/// or in neither, since a number is a leaf or a coefficient by that.
+pub fn elements_are_refused_rightly()
+    ensures law { ElementsAreRefusedRightly }
+{}
+
+/// Law: where reading refuses a token, or the end of the line, the tokens before begin an element over the table.
+pub fn refused_elements_begin()
+    ensures law { RefusedElementsBegin }
 {}
 
 /// Law: the text of a sum whose trees may be read is read back to the sum, whatever stands behind it that ends an element.

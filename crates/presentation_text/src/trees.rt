@@ -4,6 +4,7 @@ ghost use Rattle.labelled_trees.specs.Meaning.{tree_of};
 ghost use Rattle.symmetric_trees.specs.Trees.{Fits};
 ghost use Rattle.symmetric_trees.specs.declared.generators.Generator.{Generator};
 ghost use Rattle.presentation_text.specs.Accepted.{RefusedTreesBegin, TreesAreAccepted, TreesAreRefusedRightly};
+ghost use Rattle.presentation_text.specs.Laws.{TreesAreReadOnce};
 ghost use Rattle.presentation_text.specs.Readings.{first_row, GivesBehind};
 ghost use Rattle.presentation_text.specs.TreeForms as spec;
 ghost use Rattle.presentation_text.specs.declared.lexing.Token.{Token};
@@ -298,6 +299,11 @@ pub fn tree_at(
 /// arity that is asked.
 pub fn trees_are_accepted()
     ensures law { TreesAreAccepted }
+{}
+
+/// Law: over a table, tokens begin with those of at most one tree that fits, and so go on in one way.
+pub fn trees_are_read_once()
+    ensures law { TreesAreReadOnce }
 {}
 
 /// Law: where reading refuses a token, no tree over the table goes on with it behind the tokens before; and where it
