@@ -1,10 +1,10 @@
 -- What is known where nothing stands against the word of a line.
-use Rattle.std.proofs.Common.{◌≡◌, ℕ, Bool, true, false, not, ◌&&◌, ◌||◌, ◌==◌, nat_lt, if◌then◌else◌, List, [], ◌∷◌, codes, Option, Some, None, sym, ap, ◌∙◌, refl, rules}
+use Rattle.std.proofs.Common.{◌≡◌, ℕ, Bool, true, false, not, ◌&&◌, ◌||◌, nat_lt, if◌then◌else◌, List, [], ◌∷◌, codes, Option, Some, None, refl}
 use Rattle.std.specs.Option.{is_some}
 use Rattle.presentation_text.specs.LineForms.{Told, is, is_missing, is_out_of_order, section_of, word_fault}
 use Rattle.presentation_text.specs.Readings.{first_row}
 use Rattle.presentation_text.specs.declared.kinds.DocKind.{DocKind}
-use Rattle.presentation_text.proofs.Names.{not_true, other_name, same_name}
+use Rattle.presentation_text.proofs.Names.{other_name, same_name}
 
 no_row : (a b c d : Bool) (i j k l : DocKind) → first_row ((a, i) ∷ (b, j) ∷ (c, k) ∷ (d, l) ∷ []) ≡ None → (b ≡ false) × (c ≡ false)
 no_row true b c d i j k l e = absurd cc

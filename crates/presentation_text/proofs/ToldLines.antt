@@ -1,16 +1,14 @@
 -- What a text that is accepted says is well formed.
-use Rattle.std.proofs.Common.{◌≡◌, ◌<◌, ◌≤◌, ◌+◌, ◌==◌, ◌&&◌, ◌||◌, ◌⊎◌, inl, inr, ℕ, zero, suc, Bool, true, false, not, cond, nat_lt, codes, List, [], ◌∷◌, length, Option, Some, None, Result, Ok, Err, add-one, arith, ap, sym, ◌∙◌, refl, subst}
+use Rattle.std.proofs.Common.{◌≡◌, ◌≤◌, ◌+◌, ◌==◌, ◌&&◌, ◌||◌, ◌⊎◌, inl, inr, ℕ, suc, Bool, true, false, not, cond, nat_lt, codes, List, [], ◌∷◌, Option, Some, None, Result, Ok, Err, add-one, arith, ap, sym, ◌∙◌, refl, subst}
 use Rattle.std.specs.Option.{is_some}
-use Rattle.std.specs.Str.{bytes_eq}
 use Rattle.std.proofs.lemmas.Bool.Decides.{nat_tests}
 use Rattle.std.proofs.lemmas.Slice.Eq.{bytes_eq-Decides}
-use Rattle.modular_sums.specs.Lists.{Mem}
 use Rattle.presentation_text.specs.Accepted.{ElementsAreAccepted}
-use Rattle.presentation_text.specs.DocumentForms.{Behind, LineFault, Whole, at_end, behind_header, begun_line, counted_line, document_from, goes_on, lines_from, on_from, refused_at, tail_begins, unless_refused, unless_word, version_behind, version_begun, version_of, version_token, if_last, word_line}
-use Rattle.presentation_text.specs.LineForms.{Told, field_line, gen_line, is, is_inside_tail, is_missing, is_out_of_order, is_unknown, order_line, query_line, rel_line, rest_of_line, same_line, section_of, told_by_header, weight_line, word_fault}
+use Rattle.presentation_text.specs.DocumentForms.{Behind, LineFault, Whole, at_end, behind_header, counted_line, document_from, goes_on, lines_from, on_from, refused_at, tail_begins, unless_refused, unless_word, version_behind, version_of, version_token, if_last, word_line}
+use Rattle.presentation_text.specs.LineForms.{Told, is, is_inside_tail, is_out_of_order, is_unknown, rest_of_line, section_of, told_by_header, word_fault}
 use Rattle.presentation_text.specs.Lines.{counts, lines}
 use Rattle.presentation_text.specs.Readings.{Fault, first_row}
-use Rattle.presentation_text.specs.Tokens.{IsWord, tokens}
+use Rattle.presentation_text.specs.Tokens.{tokens}
 use Rattle.presentation_text.specs.WellFormed.{DocumentsAreWellFormed, IsWellFormed, IsWholeWellFormed}
 use Rattle.presentation_text.specs.declared.kinds.DocKind.{DocKind}
 use Rattle.presentation_text.specs.declared.lexing.Token.{Token}
