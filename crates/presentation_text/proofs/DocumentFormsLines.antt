@@ -52,12 +52,6 @@ pub lines_stop : (on : Behind → Result Whole LineFault) (reading : Result Behi
 lines_stop on reading whole (At fail) e h = e ∙ ap (unless_refused on) h
 lines_stop on reading whole NoMemory e h = tt
 
--- what is read by the rest stops as it does
-pub stops_alike : {A B : Type 0} (one : Result A LineFault) (other : Result B LineFault) (fail : ReadDocFail) → ((fault : LineFault) → other ≡ Err fault → one ≡ Err fault)
-    → StopsAtLine other fail → StopsAtLine one fail
-stops_alike one other (At fail) alike h = alike (fail.line, fail.kind) h
-stops_alike one other NoMemory alike h = tt
-
 -- ---- the lines behind the header
 
 pub lines_passed : (told : Told) (number : ℕ) (all others : List (List ℕ)) (line : List ℕ) → all ≡ line ∷ others → counts line ≡ false → lines_from told number all ≡ lines_from told (number + 1) others

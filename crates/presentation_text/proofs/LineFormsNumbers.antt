@@ -31,6 +31,9 @@ not_below_told m n e = grind (arith, nat_tests)
 pub not_equal_told : (m n : ℕ) → (m == n) ≡ false → m ≡ n → ⊥
 not_equal_told m n e = grind (arith, nat_tests)
 
+pub equal_told : (m n : ℕ) → (m == n) ≡ true → m ≡ n
+equal_told m n e = grind (arith, nat_tests)
+
 pub both_true : (a b : Bool) → (a && b) ≡ true → (a ≡ true) × (b ≡ true)
 both_true true true e = (refl, refl)
 both_true true false e = absurd cc

@@ -1,7 +1,6 @@
 -- What the lines of a presentation say is well formed.
 use Rattle.std.proofs.Common.{◌≡◌, ◌<◌, ◌≤◌, ◌+◌, ◌==◌, ◌&&◌, ◌||◌, ◌⊎◌, inl, inr, ℕ, suc, Bool, true, false, not, cond, nat_le, nat_lt, codes, List, [], ◌∷◌, ◌++◌, length, Option, Some, None, Ok, add-one, arith, rules, ap, sym, ◌∙◌, refl, subst, length-append}
 use Rattle.std.specs.List.{All}
-use Rattle.std.proofs.lemmas.Bool.Decides.{nat_tests}
 use Rattle.std.proofs.lemmas.List.{length-set}
 use Rattle.std.proofs.lemmas.List.Elements.{All-nil, All-push, All-set}
 use Rattle.std.proofs.lemmas.List.Quantifiers.{all_pairs_push}
@@ -25,7 +24,7 @@ use Rattle.presentation_text.specs.declared.kinds.DocKind.TheVariants as kind
 use Rattle.presentation_text.specs.declared.lexing.Token.{Token}
 use Rattle.presentation_text.specs.declared.lexing.Token.TheVariants.{Word}
 use Rattle.presentation_text.proofs.LineFormsGenerators.{generator_read, generator_welcome, symmetry_read}
-use Rattle.presentation_text.proofs.LineFormsNumbers.{not_at_most_told, not_below_told, not_false_told, weighed_set}
+use Rattle.presentation_text.proofs.LineFormsNumbers.{equal_told, not_at_most_told, not_below_told, not_false_told, weighed_set}
 use Rattle.presentation_text.proofs.LineFormsRead.{both_read, not_refused, one_value, was_known}
 use Rattle.presentation_text.proofs.LineFormsTables.{table-empty}
 
@@ -71,9 +70,6 @@ header_stands number version v = record {
 }
 
 -- ---- the field and the order
-
-equal_told : (m n : ℕ) → (m == n) ≡ true → m ≡ n
-equal_told m n e = grind (arith, nat_tests)
 
 of_either : {P : Type 0} (a b : Bool) → (a || b) ≡ true → (a ≡ true → P) → (b ≡ true → P) → P
 of_either true b e f g = f refl
