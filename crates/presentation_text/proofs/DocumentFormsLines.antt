@@ -1,12 +1,11 @@
 -- Reading the lines of a document one after the other.
-use Rattle.std.proofs.Common.{◌≡◌, ◌+◌, ℕ, zero, suc, Bool, true, false, ◌==◌, ◌&&◌, not, List, [], ◌∷◌, drop, Option, Some, None, Result, Ok, Err, add-one, sym, ap, ◌∙◌, refl, subst, length, get_or, ◌<◌, arith}
+use Rattle.std.proofs.Common.{◌≡◌, ◌+◌, ℕ, zero, suc, true, false, ◌==◌, ◌&&◌, List, [], ◌∷◌, drop, Some, None, Result, Ok, Err, add-one, sym, ap, ◌∙◌, refl, subst, length, get_or, ◌<◌, arith}
 use Rattle.std.specs.Option.{is_some}
 use Rattle.std.specs.Result.{IsErr, IsErrAnd, MatchResult}
 use Rattle.presentation_text.specs.DocumentDrafts.{StopsAtLine, tail_number}
 use Rattle.presentation_text.specs.DocumentForms.{Behind, LineFault, Whole, at_end, behind_header, counted_line, document_from, goes_on, lines_from, on_from, refused_at, tail_begins, unless_refused, version_of, word_line}
 use Rattle.presentation_text.specs.LineForms.{Told, rest_of_line, section_of, told_by_header, word_fault}
 use Rattle.presentation_text.specs.Lines.{counts}
-use Rattle.presentation_text.specs.Readings.{Fault}
 use Rattle.presentation_text.specs.Tokens.{tokens}
 use Rattle.presentation_text.specs.declared.kinds.DocKind.{DocKind}
 use Rattle.presentation_text.specs.declared.kinds.DocKind.TheVariants.{Header, Missing}
@@ -52,12 +51,6 @@ pub lines_stop : (on : Behind → Result Whole LineFault) (reading : Result Behi
     → StopsAtLine reading fail → StopsAtLine whole fail
 lines_stop on reading whole (At fail) e h = e ∙ ap (unless_refused on) h
 lines_stop on reading whole NoMemory e h = tt
-
--- what is read by the rest stops as it does
-pub stops_alike : {A B : Type 0} (one : Result A LineFault) (other : Result B LineFault) (fail : ReadDocFail) → ((fault : LineFault) → other ≡ Err fault → one ≡ Err fault)
-    → StopsAtLine other fail → StopsAtLine one fail
-stops_alike one other (At fail) alike h = alike (fail.line, fail.kind) h
-stops_alike one other NoMemory alike h = tt
 
 -- ---- the lines behind the header
 

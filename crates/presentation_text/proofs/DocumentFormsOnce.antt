@@ -1,9 +1,8 @@
 -- A text is read in one way.
-use Rattle.std.proofs.Common.{◌≡◌, ◌<◌, ◌≤◌, ◌+◌, ◌-◌, ◌==◌, ◌⊎◌, inl, inr, ℕ, zero, suc, Bool, true, false, if◌then◌else◌, List, [], ◌∷◌, ◌++◌, length, drop, map, get_or, Option, Some, None, Result, Ok, Err, arith, ap, sym, ◌∙◌, refl, subst, length-drop}
+use Rattle.std.proofs.Common.{◌≡◌, ◌<◌, ◌≤◌, ◌+◌, ◌==◌, ◌⊎◌, inl, inr, ℕ, suc, Bool, true, false, if◌then◌else◌, List, [], ◌∷◌, ◌++◌, length, drop, get_or, Option, Some, None, Result, Ok, Err, arith, ap, sym, ◌∙◌, refl, subst, length-drop}
 use Rattle.std.proofs.Math.Seq.{drop-cons}
 use Rattle.presentation_text.specs.DocumentForms.{LineFault, Whole, read_text}
 use Rattle.presentation_text.specs.Laws.{DocumentsAreDetermined, SayTheSame}
-use Rattle.presentation_text.specs.LineForms.{Told}
 use Rattle.presentation_text.specs.Lines.{in_front, lines}
 use Rattle.presentation_text.specs.Presentations.{IsReadAs, IsRefused, IsTail, IsTailAt, Says}
 use Rattle.presentation_text.specs.declared.document.Document.{Document}

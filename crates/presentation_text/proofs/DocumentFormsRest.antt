@@ -1,5 +1,5 @@
 -- Where the rest of a text stands.
-use Rattle.std.proofs.Common.{◌≡◌, ◌<◌, ◌≤◌, ◌+◌, ◌-◌, ℕ, zero, suc, Option, Some, None, List, [], ◌∷◌, ◌++◌, length, drop, append_assoc, length-append, arith, sym, ap, ◌∙◌, refl, subst}
+use Rattle.std.proofs.Common.{◌≡◌, ◌<◌, ◌+◌, ◌-◌, ℕ, zero, suc, Option, Some, List, [], ◌∷◌, ◌++◌, length, drop, append_assoc, length-append, arith, sym, ap, ◌∙◌, refl, subst}
 use Rattle.presentation_text.specs.DocumentDrafts.{IsRestFrom, tail_number, tail_of}
 use Rattle.presentation_text.specs.Lines.{EndsWith, lines}
 use Rattle.presentation_text.specs.Presentations.{IsTail, IsTailAt}

@@ -1,16 +1,18 @@
 -- What is known where nothing stands against the word of a line.
-use Rattle.std.proofs.Common.{◌≡◌, ℕ, Bool, true, false, not, ◌&&◌, ◌||◌, ◌==◌, nat_lt, if◌then◌else◌, List, [], ◌∷◌, codes, Option, Some, None, sym, ap, ◌∙◌, refl, rules}
+use Rattle.std.proofs.Common.{◌≡◌, ℕ, Bool, true, false, not, ◌&&◌, ◌||◌, nat_lt, if◌then◌else◌, List, [], ◌∷◌, codes, Option, Some, None, refl}
 use Rattle.std.specs.Option.{is_some}
-use Rattle.presentation_text.specs.LineForms.{Told, is, is_missing, is_out_of_order, section_of, word_fault}
+use Rattle.presentation_text.specs.LineForms.{Told, is, is_inside_tail, is_missing, is_out_of_order, is_unknown, section_of, word_fault}
 use Rattle.presentation_text.specs.Readings.{first_row}
 use Rattle.presentation_text.specs.declared.kinds.DocKind.{DocKind}
-use Rattle.presentation_text.proofs.Names.{not_true, other_name, same_name}
+use Rattle.presentation_text.proofs.Names.{other_name, same_name}
 
-no_row : (a b c d : Bool) (i j k l : DocKind) → first_row ((a, i) ∷ (b, j) ∷ (c, k) ∷ (d, l) ∷ []) ≡ None → (b ≡ false) × (c ≡ false)
+-- none of four rows holds
+pub no_row : (a b c d : Bool) (i j k l : DocKind) → first_row ((a, i) ∷ (b, j) ∷ (c, k) ∷ (d, l) ∷ []) ≡ None → (a ≡ false) × (b ≡ false) × (c ≡ false) × (d ≡ false)
 no_row true b c d i j k l e = absurd cc
 no_row false true c d i j k l e = absurd cc
 no_row false false true d i j k l e = absurd cc
-no_row false false false d i j k l e = (refl, refl)
+no_row false false false true i j k l e = absurd cc
+no_row false false false false i j k l e = (refl, refl, refl, refl)
 
 or_first : (a b : Bool) → (a || b) ≡ false → a ≡ false
 or_first true b e = absurd cc
@@ -45,7 +47,9 @@ both_stand false b c false e f g = absurd cc
 -- the word isn't missed, and is not out of order
 nothing_against : (told : Told) (w : List ℕ) → word_fault told w ≡ None → (is_missing told w ≡ false) × (is_out_of_order told w ≡ false)
 unfolding word_fault
-nothing_against told w e = no_row _ (is_missing told w) (is_out_of_order told w) _ _ _ _ _ e
+nothing_against told w e =
+    let rows = no_row (is_unknown told.version w) (is_missing told w) (is_out_of_order told w) (is_inside_tail w) _ _ _ _ e in
+    (rows.1, rows.2)
 
 -- a `field` line is the first one
 pub first_field : (told : Told) (w : List ℕ) → word_fault told w ≡ None → w ≡ codes "field" → told.field ≡ None

@@ -1,5 +1,5 @@
 -- What fits a table fits a longer one.
-use Rattle.std.proofs.Common.{◌≡◌, ◌<◌, ◌≤◌, ℕ, zero, suc, List, [], ◌∷◌, ◌++◌, get_or, length, subst, sym, ap, refl, arith, ◌∙◌}
+use Rattle.std.proofs.Common.{◌≡◌, ◌<◌, ◌≤◌, ℕ, zero, suc, List, [], ◌∷◌, ◌++◌, get_or, length, subst, sym, refl, arith, ◌∙◌}
 use Rattle.std.specs.List.{All}
 use Rattle.labelled_trees.specs.Labelled as labelled
 use Rattle.labelled_trees.specs.Meaning.{tree_of}

@@ -1,5 +1,5 @@
 -- The primes that a field may have.
-use Rattle.std.proofs.Common.{◌≡◌, ◌≢◌, ℕ, true, false, ◌==◌, sym, refl, subst, inl, inr, arith}
+use Rattle.std.proofs.Common.{◌≡◌, ℕ, true, false, ◌==◌, sym, refl, subst, inl, inr, arith}
 use Rattle.std.proofs.lemmas.Bool.Decides.{nat_tests}
 use Rattle.prime_field.specs.Primes.{IsFieldPrime}
 use Rattle.presentation_text.specs.LineForms.{is_prime}

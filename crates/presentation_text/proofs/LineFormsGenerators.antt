@@ -1,5 +1,5 @@
 -- A generator that was read may join the table.
-use Rattle.std.proofs.Common.{◌≡◌, ◌<◌, ◌≤◌, ◌+◌, ℕ, zero, suc, ◌==◌, ◌||◌, Bool, true, false, cond, nat_le, nat_lt, not, List, [], ◌∷◌, length, Result, Ok, Err, Option, arith, sym, ap, ◌∙◌, refl, subst}
+use Rattle.std.proofs.Common.{◌≡◌, ◌<◌, ◌≤◌, ◌+◌, ℕ, zero, suc, ◌==◌, Bool, true, false, cond, nat_le, nat_lt, not, List, [], ◌∷◌, length, Result, Ok, arith, sym, ap, ◌∙◌, refl, subst}
 use Rattle.std.specs.List.{All, sum_by}
 use Rattle.std.proofs.lemmas.List.Elements.{All-cons, All-nil}
 use Rattle.std.proofs.lemmas.List.Sums.{sum_by-cons}

@@ -1,5 +1,5 @@
 -- Tests of numbers in lines.
-use Rattle.std.proofs.Common.{◌≡◌, ◌<◌, ◌≤◌, ◌+◌, ℕ, zero, suc, true, false, ◌==◌, ◌&&◌, ◌||◌, Bool, not, nat_le, nat_lt, List, [], ◌∷◌, length, get_or, Option, Some, None, refl, ap, arith, set, sym}
+use Rattle.std.proofs.Common.{◌≡◌, ◌<◌, ◌≤◌, ◌+◌, ℕ, zero, suc, true, false, ◌==◌, ◌&&◌, ◌||◌, Bool, not, nat_le, nat_lt, List, [], ◌∷◌, length, get_or, Option, Some, refl, ap, arith, set}
 use Rattle.std.specs.Option.{is_some}
 use Rattle.std.proofs.lemmas.Bool.Decides.{nat_tests}
 use Rattle.presentation_text.specs.LineForms.{is_arity, is_weighed, weighed}
@@ -30,6 +30,9 @@ not_below_told m n e = grind (arith, nat_tests)
 
 pub not_equal_told : (m n : ℕ) → (m == n) ≡ false → m ≡ n → ⊥
 not_equal_told m n e = grind (arith, nat_tests)
+
+pub equal_told : (m n : ℕ) → (m == n) ≡ true → m ≡ n
+equal_told m n e = grind (arith, nat_tests)
 
 pub both_true : (a b : Bool) → (a && b) ≡ true → (a ≡ true) × (b ≡ true)
 both_true true true e = (refl, refl)

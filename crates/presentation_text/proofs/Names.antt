@@ -1,14 +1,14 @@
 -- Names of generators, and their indices in a table.
 use Rattle.std.proofs.Common.{◌≡◌, ◌<◌, ℕ, zero, suc, Bool, true, false, cond, List, [], ◌∷◌, length, get_or, Option, Some, None, sym, refl, ap, arith, subst, ◌∙◌}
-use Rattle.std.specs.Bool.{Decides}
 use Rattle.std.specs.Option.{IfNone, IfSome, is_some}
-use Rattle.std.specs.List.{AllPairs, HoldsAt}
+use Rattle.std.specs.List.{HoldsAt}
 use Rattle.std.specs.Str.{bytes_eq}
 use Rattle.std.proofs.lemmas.Slice.Eq.{bytes_eq-Decides}
 use Rattle.symmetric_trees.specs.Generators.{IsNamed, IsTaken, IsTable}
 use Rattle.symmetric_trees.specs.declared.generators.Generator.{Generator}
 use Rattle.presentation_text.specs.LineForms.{is_known}
 use Rattle.presentation_text.specs.TreeForms.{index_of, next_index}
+use Rattle.presentation_text.proofs.TreeFormsSteps.{index-none, index-some}
 
 pub same_name : (a b : List ℕ) → a ≡ b → bytes_eq a b ≡ true
 same_name a b e = (bytes_eq-Decides a b).1 e
@@ -20,30 +20,11 @@ not_true false h = refl
 pub other_name : (a b : List ℕ) → (a ≡ b → ⊥) → bytes_eq a b ≡ false
 other_name a b e = not_true (bytes_eq a b) (λ k. e ((bytes_eq-Decides a b).0 k))
 
--- the names of a table's generators are apart
-abbrev pub NamesApart : List Generator → Type 0
-NamesApart generators = AllPairs (λ one other. one.name ≡ other.name → ⊥) generators
-
--- a generator with the name at an index is the first with the name
-pub index_held : (generators : List Generator) (name : List ℕ) (i : ℕ) → NamesApart generators → i < length generators → HoldsAt (IsNamed name) generators i → index_of name generators ≡ Some i
-index_held [] name i apart l h = absurd (omega arith)
-index_held (x ∷ xs) name zero apart l h = let e : bytes_eq x.name name ≡ true = same_name x.name name (h x) in rw e refl
-index_held (x ∷ xs) name (suc i) apart l h =
-    let e : bytes_eq x.name name ≡ false = other_name x.name name (λ s. apart 0 (suc i) x (omega arith) l (s ∙ sym (h x))) in
-    rw (e, index_held xs name i (λ j k d m n. apart (suc j) (suc k) d (omega arith) (omega arith)) (omega arith) (λ d. h d)) refl
-
--- no generator has a name that isn't taken
-pub index_absent : (generators : List Generator) (name : List ℕ) → (IsTaken name generators → ⊥) → index_of name generators ≡ None
-index_absent [] name h = refl
-index_absent (x ∷ xs) name h =
-    let e : bytes_eq x.name name ≡ false = other_name x.name name (λ s. h (0, x, omega arith, refl, s)) in
-    rw (e, index_absent xs name (λ t. h (suc t.0, t.1, omega (arith, t.2), t.3, t.4))) refl
-
 -- the answer of a look-up by name
-pub index_found : (generators : List Generator) (text name : List ℕ) (found : Option ℕ) → NamesApart generators → text ≡ name
+pub index_found : (generators : List Generator) (text name : List ℕ) (found : Option ℕ) → IsTable generators → text ≡ name
     → IfSome found (λ i. (i < length generators) × HoldsAt (IsNamed text) generators i) → IfNone found (IsTaken text generators → ⊥) → index_of name generators ≡ found
-index_found generators text name (Some i) apart e some none = subst (λ n. index_of n generators ≡ Some i) e (index_held generators text i apart some.0 some.1)
-index_found generators text name None apart e some none = subst (λ n. index_of n generators ≡ None) e (index_absent generators text none)
+index_found generators text name (Some i) table e some none = subst (λ n. index_of n generators ≡ Some i) e (index-some generators text i table some.0 some.1)
+index_found generators text name None table e some none = subst (λ n. index_of n generators ≡ None) e (index-none generators text none)
 
 -- ---- names that are known
 

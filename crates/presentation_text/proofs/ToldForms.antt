@@ -1,8 +1,6 @@
 -- What the lines of a presentation say is well formed.
-use Rattle.std.proofs.Common.{◌≡◌, ◌<◌, ◌≤◌, ◌+◌, ◌==◌, ◌&&◌, ◌||◌, ◌⊎◌, inl, inr, ℕ, zero, suc, Bool, true, false, not, cond, nat_le, nat_lt, IsTrue, codes, List, [], ◌∷◌, ◌++◌, length, get_or, Option, Some, None, Result, Ok, Err, add-one, arith, rules, ap, sym, ◌∙◌, refl, subst, length-append, set}
-use Rattle.std.specs.List.{All, AllPairs}
-use Rattle.std.specs.Option.{is_some}
-use Rattle.std.proofs.lemmas.Bool.Decides.{nat_tests}
+use Rattle.std.proofs.Common.{◌≡◌, ◌<◌, ◌≤◌, ◌+◌, ◌==◌, ◌&&◌, ◌||◌, ◌⊎◌, inl, inr, ℕ, suc, Bool, true, false, not, cond, nat_le, nat_lt, codes, List, [], ◌∷◌, ◌++◌, length, Option, Some, None, Ok, add-one, arith, rules, ap, sym, ◌∙◌, refl, subst, length-append}
+use Rattle.std.specs.List.{All}
 use Rattle.std.proofs.lemmas.List.{length-set}
 use Rattle.std.proofs.lemmas.List.Elements.{All-nil, All-push, All-set}
 use Rattle.std.proofs.lemmas.List.Quantifiers.{all_pairs_push}
@@ -12,23 +10,22 @@ use Rattle.prime_field.specs.Primes.{IsFieldPrime}
 use Rattle.symmetric_trees.specs.Generators.{IsTable}
 use Rattle.symmetric_trees.specs.declared.generators.Generator.{Generator}
 use Rattle.symmetric_trees.proofs.Tables.{table-push}
-use Rattle.presentation_text.specs.Accepted.{AreDemanded, ElementsAreAccepted}
+use Rattle.presentation_text.specs.Accepted.{ElementsAreAccepted}
 use Rattle.presentation_text.specs.ElementForms.{arity_of_first, element_in}
 use Rattle.presentation_text.specs.Elements.{Written, said}
-use Rattle.presentation_text.specs.LineForms.{Asked, Told, field_line, gen_line, generator_in, inputs_in, is, is_prime, is_unknown, known, order_line, order_named, prime_of, query, query_in, query_line, rel_line, rest_of_line, same, same_in, same_line, section_of, told_by_header, weighed, weight_line, is_weighed, with_ask, with_generator, word_fault}
-use Rattle.presentation_text.specs.Readings.{Fault, ◌>>=◌, end_in, first_row, mark_in, number_in, refused, word_in}
+use Rattle.presentation_text.specs.LineForms.{Asked, Told, field_line, gen_line, generator_in, inputs_in, is, is_prime, known, order_line, order_named, prime_of, query, query_in, query_line, rel_line, same, same_in, same_line, told_by_header, weighed, weight_line, is_weighed, with_ask, with_generator}
+use Rattle.presentation_text.specs.Readings.{end_in, first_row, mark_in, number_in, refused, word_in}
 use Rattle.presentation_text.specs.Tokens.{IsWord}
 use Rattle.presentation_text.specs.TreeForms.{demands_of, index_of}
-use Rattle.presentation_text.specs.WellFormed.{AreAsks, AreGenerators, AreInOrder, AreRelations, AreSides, AreWeights, IsAsked, IsGeneratorName, IsSaid, IsWellFormed}
+use Rattle.presentation_text.specs.WellFormed.{AreAsks, AreRelations, IsAsked, IsGeneratorName, IsSaid, IsWellFormed}
 use Rattle.presentation_text.specs.declared.document.OrderName.{OrderName}
 use Rattle.presentation_text.specs.declared.document.OrderName.TheVariants.{Path, PathShort, LeafPath, WeightPath}
-use Rattle.presentation_text.specs.declared.kinds.DocKind.{DocKind}
 use Rattle.presentation_text.specs.declared.kinds.DocKind.TheVariants as kind
 use Rattle.presentation_text.specs.declared.lexing.Token.{Token}
 use Rattle.presentation_text.specs.declared.lexing.Token.TheVariants.{Word}
 use Rattle.presentation_text.proofs.LineFormsGenerators.{generator_read, generator_welcome, symmetry_read}
-use Rattle.presentation_text.proofs.LineFormsNumbers.{not_at_most_told, not_below_told, not_false_told, weighed_set}
-use Rattle.presentation_text.proofs.LineFormsRead.{both_read, not_refused, one_value, was_known, word_read}
+use Rattle.presentation_text.proofs.LineFormsNumbers.{equal_told, not_at_most_told, not_below_told, not_false_told, weighed_set}
+use Rattle.presentation_text.proofs.LineFormsRead.{both_read, not_refused, one_value, was_known}
 use Rattle.presentation_text.proofs.LineFormsTables.{table-empty}
 
 -- ---- presentations so far
@@ -73,9 +70,6 @@ header_stands number version v = record {
 }
 
 -- ---- the field and the order
-
-equal_told : (m n : ℕ) → (m == n) ≡ true → m ≡ n
-equal_told m n e = grind (arith, nat_tests)
 
 of_either : {P : Type 0} (a b : Bool) → (a || b) ≡ true → (a ≡ true → P) → (b ≡ true → P) → P
 of_either true b e f g = f refl

@@ -1,37 +1,30 @@
 -- What a text that is accepted says is well formed.
-use Rattle.std.proofs.Common.{◌≡◌, ◌<◌, ◌≤◌, ◌+◌, ◌==◌, ◌&&◌, ◌||◌, ◌⊎◌, inl, inr, ℕ, zero, suc, Bool, true, false, not, cond, nat_lt, codes, List, [], ◌∷◌, length, Option, Some, None, Result, Ok, Err, add-one, arith, ap, sym, ◌∙◌, refl, subst}
+use Rattle.std.proofs.Common.{◌≡◌, ◌≤◌, ◌+◌, ◌==◌, ◌&&◌, ◌||◌, ◌⊎◌, inl, inr, ℕ, suc, Bool, true, false, not, cond, nat_lt, codes, List, [], ◌∷◌, Option, Some, None, Result, Ok, Err, add-one, arith, ap, sym, ◌∙◌, refl, subst}
 use Rattle.std.specs.Option.{is_some}
-use Rattle.std.specs.Str.{bytes_eq}
 use Rattle.std.proofs.lemmas.Bool.Decides.{nat_tests}
 use Rattle.std.proofs.lemmas.Slice.Eq.{bytes_eq-Decides}
-use Rattle.modular_sums.specs.Lists.{Mem}
 use Rattle.presentation_text.specs.Accepted.{ElementsAreAccepted}
-use Rattle.presentation_text.specs.DocumentForms.{Behind, LineFault, Whole, at_end, behind_header, begun_line, counted_line, document_from, goes_on, lines_from, on_from, refused_at, tail_begins, unless_refused, unless_word, version_behind, version_begun, version_of, version_token, if_last, word_line}
-use Rattle.presentation_text.specs.LineForms.{Told, field_line, gen_line, is, is_inside_tail, is_missing, is_out_of_order, is_unknown, order_line, query_line, rel_line, rest_of_line, same_line, section_of, told_by_header, weight_line, word_fault}
+use Rattle.presentation_text.specs.DocumentForms.{Behind, LineFault, Whole, at_end, behind_header, counted_line, document_from, goes_on, lines_from, on_from, refused_at, tail_begins, unless_refused, unless_word, version_behind, version_of, version_token, if_last, word_line}
+use Rattle.presentation_text.specs.LineForms.{Told, is, is_inside_tail, is_missing, is_out_of_order, is_unknown, rest_of_line, section_of, told_by_header, word_fault}
 use Rattle.presentation_text.specs.Lines.{counts, lines}
-use Rattle.presentation_text.specs.Readings.{Fault, first_row}
-use Rattle.presentation_text.specs.Tokens.{IsWord, tokens}
+use Rattle.presentation_text.specs.Readings.{Fault}
+use Rattle.presentation_text.specs.Tokens.{tokens}
 use Rattle.presentation_text.specs.WellFormed.{DocumentsAreWellFormed, IsWellFormed, IsWholeWellFormed}
 use Rattle.presentation_text.specs.declared.kinds.DocKind.{DocKind}
 use Rattle.presentation_text.specs.declared.lexing.Token.{Token}
 use Rattle.presentation_text.specs.declared.lexing.Token.TheVariants.{Word, Number, Long, Byte, Bad}
-use Rattle.presentation_text.proofs.DocumentFormsWords.{both_before}
-use Rattle.presentation_text.proofs.LineFormsNumbers.{both_true}
+use Rattle.presentation_text.proofs.DocumentFormsWords.{both_before, no_row}
+use Rattle.presentation_text.proofs.LineFormsNumbers.{both_true, equal_told}
 use Rattle.presentation_text.proofs.TokenLaws.{words}
 use Rattle.presentation_text.proofs.ToldForms.{HasWords, StandsBefore, field_stands, gen_stands, header_stands, order_stands, later, query_stands, rel_stands, same_stands, weight_stands}
 
 -- ---- the word of a line
 
-no_row : (a b c d : Bool) (i j k l : DocKind) → first_row ((a, i) ∷ (b, j) ∷ (c, k) ∷ (d, l) ∷ []) ≡ None → (a ≡ false) × (c ≡ false) × (d ≡ false)
-no_row true b c d i j k l e = absurd cc
-no_row false true c d i j k l e = absurd cc
-no_row false false true d i j k l e = absurd cc
-no_row false false false true i j k l e = absurd cc
-no_row false false false false i j k l e = (refl, refl, refl)
-
 against : (told : Told) (w : List ℕ) → word_fault told w ≡ None → (is_unknown told.version w ≡ false) × (is_out_of_order told w ≡ false) × (is_inside_tail w ≡ false)
 unfolding word_fault
-against told w e = no_row (is_unknown told.version w) _ (is_out_of_order told w) (is_inside_tail w) _ _ _ _ e
+against told w e =
+    let rows = no_row (is_unknown told.version w) (is_missing told w) (is_out_of_order told w) (is_inside_tail w) _ _ _ _ e in
+    (rows.0, rows.2, rows.3)
 
 rises : (section last : ℕ) (inside : Bool) (b c : Bool) → inside ≡ false → ((section == 0) && not inside) ≡ false → ((nat_lt 0 section && nat_lt section last) || b || c) ≡ false → last ≤ section
 rises section last true b c e f g = absurd cc
@@ -124,9 +117,6 @@ counted_stands accepted number told now (Number n ∷ rest) words h e = absurd c
 counted_stands accepted number told now (Long ∷ rest) words h e = absurd cc
 counted_stands accepted number told now (Byte c ∷ rest) words h e = absurd cc
 counted_stands accepted number told now (Bad ∷ rest) words h e = absurd cc
-
-equal_told : (m n : ℕ) → (m == n) ≡ true → m ≡ n
-equal_told m n e = grind (arith, nat_tests)
 
 tail_after : (number : ℕ) (told : Told) (ts : List Token) → counted_line told number ts ≡ Ok tail_begins → (is_some told.field ≡ true) × (is_some told.order ≡ true)
 unfolding word_line

@@ -1,5 +1,5 @@
 -- What the functions that read the lines of a document give.
-use Rattle.std.specs.Prelude.{ℕ, suc, zero, ◌≡◌, ◌≤◌, ◌+◌, ◌-◌, IsTrue, List, [], ◌∷◌, ◌++◌, length, map, Option, Some, None, Result, Ok, Err}
+use Rattle.std.specs.Prelude.{ℕ, suc, zero, ◌≡◌, ◌≤◌, ◌+◌, ◌-◌, IsTrue, List, ◌++◌, length, Option, Some, None, Result, Ok, Err}
 use Rattle.std.specs.Option.{is_some}
 use Rattle.presentation_text.specs.declared.document.Tail.{Tail}
 use Rattle.presentation_text.specs.declared.draft.Draft.{Draft}

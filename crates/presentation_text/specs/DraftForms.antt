@@ -1,5 +1,5 @@
 -- What a draft says, and what functions on it give.
-use Rattle.std.specs.Prelude.{ℕ, ◌≡◌, List, [], length, map, Result, Ok, Err, Option, Some, None}
+use Rattle.std.specs.Prelude.{ℕ, ◌≡◌, List, [], length, map, Result, Ok, Err, None}
 use Rattle.std.specs.List.{All}
 use Rattle.symmetric_trees.specs.Generators.{IsTable}
 use Rattle.symmetric_trees.specs.declared.generators.Generator.{Generator}

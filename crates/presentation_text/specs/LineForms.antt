@@ -1,5 +1,5 @@
 -- Reading the lines of a presentation: what may stand at each token, and what is refused.
-use Rattle.std.specs.Prelude.{ℕ, zero, suc, ◌≡◌, ◌+◌, Bool, true, false, not, ◌&&◌, ◌||◌, ◌==◌, nat_le, nat_lt, if◌then◌else◌, List, [], ◌∷◌, ◌++◌, length, codes, Option, Some, None, Result, Ok, Err}
+use Rattle.std.specs.Prelude.{ℕ, zero, suc, ◌+◌, Bool, false, not, ◌&&◌, ◌||◌, ◌==◌, nat_le, nat_lt, if◌then◌else◌, List, [], ◌∷◌, ◌++◌, length, codes, Option, Some, None, Result, Ok, Err}
 use Rattle.std.specs.Str.{bytes_eq}
 use Rattle.std.specs.Option.{is_some}
 use Rattle.labelled_trees.specs.Trees.{Tree}
@@ -12,7 +12,6 @@ use Rattle.presentation_text.specs.declared.document.OrderName.TheVariants.{Path
 use Rattle.presentation_text.specs.declared.kinds.DocKind.{DocKind}
 use Rattle.presentation_text.specs.declared.kinds.DocKind.TheVariants.{Directive, Missing, FieldUnknown, OrderUnknown, NameBad, NameTaken, ArityOut, PartsOut, TooManyGens, Syntax, NameUnknown, TooManyRelations, Block, WeightTaken, WeightOut}
 use Rattle.presentation_text.specs.declared.lexing.Token.{Token}
-use Rattle.presentation_text.specs.declared.lexing.Token.TheVariants.{Word, Number, Long, Byte, Bad}
 use Rattle.presentation_text.specs.Elements.{said}
 use Rattle.presentation_text.specs.ElementForms.{element_in, arity_of_first}
 use Rattle.presentation_text.specs.Readings.{Fault, Reading, ◌>>=◌, first_row, refused, misfit, mark_in, end_in, number_in, word_in}

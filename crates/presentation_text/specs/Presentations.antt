@@ -1,5 +1,5 @@
 -- What a text is read as, and why it is refused.
-use Rattle.std.specs.Prelude.{ℕ, ◌≡◌, ◌≤◌, ◌+◌, List, ◌++◌, length, map, drop, Option, Some, None, Result, Ok, Err}
+use Rattle.std.specs.Prelude.{ℕ, ◌≡◌, ◌≤◌, ◌+◌, List, ◌++◌, length, map, drop, Option, Some, None, Ok, Err}
 use Rattle.symmetric_sums.specs.Terms.{terms_of}
 use Rattle.presentation_text.specs.declared.document.Document.{Document}
 use Rattle.presentation_text.specs.declared.document.Tail.{Tail}

@@ -12,6 +12,7 @@ ghost use Rattle.presentation_text.specs.Lines.{lines as lines_of};
 ghost use Rattle.presentation_text.specs.Presentations.{IsReadAs, IsRefused, Says, weight_or_none};
 ghost use Rattle.presentation_text.specs.ReadBack.{IsWritable};
 ghost use Rattle.presentation_text.specs.Tokens.{tokens as tokens_of};
+ghost use Rattle.presentation_text.specs.WellFormed.{DocumentsAreWellFormed};
 
 use crate::document::{Document, Tail};
 use crate::draft::Draft;
@@ -307,4 +308,12 @@ pub fn read_document(alloc: Global, bytes: &[u8]) -> Result<Document, ReadDocFai
 /// Law: a text is accepted, as documents that say the same, or refused, for one line and one kind.
 pub fn texts_are_read_or_refused()
     ensures law { DocumentsAreDetermined }
+{}
+
+/// Law: what an accepted text says is well formed: the version is 1 or 2; the generators are a table, their names are words of at
+/// most 16 bytes, and in version 1 each has one part and no weight; a weight is at most 1,000,000; there are at most 1,000
+/// relations; relations and questions are what written terms say whose trees may be read; the questions' lines rise; and a field
+/// and an order stand.
+pub fn accepted_texts_are_well_formed()
+    ensures law { DocumentsAreWellFormed }
 {}

@@ -96,28 +96,6 @@ fn document_of(alloc: Global, text: &[u8]) -> Option<Document> {
 }
 
 #[test]
-fn a_document_is_read(rt: HostRuntime) -> Result<(), Fail> {
-    let alloc = rt.alloc();
-    let text: &[u8] =
-        b"# two\noperad 2\nfield 7\norder weightpath\ngen b 3 sym 2 free 1\nweight b 5\ngen l 2 alt 2\nrel l(1,2)\n\nsame 0 = l(2,1)\n want 3\nend end\n";
-    let document = document_of(alloc, text).ok_or("no document")?;
-    assert_eq!(rt; document.version, 2);
-    assert_eq!(rt; document.field.prime(), 7);
-    assert_eq!(rt; document.order, OrderName::WeightPath);
-    assert_eq!(rt; document.weights.as_slice(), [5, 0].as_slice());
-    assert_eq!(rt; document.gens.find("l"), Some(1));
-    assert_eq!(rt; document.rels.len(), 1);
-    let [ask] = document.asks.as_slice() else {
-        return Err("not one question")?;
-    };
-    assert_eq!(rt; ask.line, 10);
-    let tail = document.tail.ok_or("no tail")?;
-    assert_eq!(rt; tail.line, 11);
-    assert_eq!(rt; &text[tail.from..], b" want 3\nend end\n".as_slice());
-    Ok(())
-}
-
-#[test]
 fn a_document_is_printed(rt: HostRuntime) -> Result<(), Fail> {
     let alloc = rt.alloc();
     let text: &[u8] =

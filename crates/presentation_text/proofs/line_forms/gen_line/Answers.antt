@@ -1,5 +1,4 @@
-use Rattle.std.proofs.Common.{◌≡◌, ◌+◌, ◌∙◌, ◌∷◌, ◌++◌, [], None, Ok, ap, arith, drop, length, length-append, subst, sym}
-use Rattle.std.specs.List.{All}
+use Rattle.std.proofs.Common.{◌≡◌, ◌+◌, ◌∙◌, ◌∷◌, ◌++◌, [], None, Ok, ap, drop, length, length-append, subst, sym}
 use Rattle.symmetric_trees.proofs.Tables.{table-push}
 use Rattle.symmetric_trees.specs.Generators.{IsTable}
 use Rattle.presentation_text.specs.DraftForms.{told_of}

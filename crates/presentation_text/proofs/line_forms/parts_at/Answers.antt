@@ -1,4 +1,4 @@
-use Rattle.std.proofs.Common.{◌≡◌, ◌∙◌, ◌+◌, ◌-◌, ◌<◌, ◌++◌, ◌∷◌, [], Ok, ap, arith, drop, length, length-drop}
+use Rattle.std.proofs.Common.{◌≡◌, ◌+◌, ◌-◌, ◌++◌, Ok, arith, drop, length, length-drop}
 use Rattle.presentation_text.specs.LineForms.{all_parts_in}
 use Rattle.presentation_text.specs.Readings.{StopsAs, ◌>>=◌}
 use Rattle.presentation_text.specs.declared.kinds.DocKind.TheVariants.{PartsOut}

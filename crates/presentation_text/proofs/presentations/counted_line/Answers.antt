@@ -1,5 +1,5 @@
-use Rattle.std.proofs.Common.{◌≡◌, ◌∷◌, ◌∙◌, ◌==◌, None, Ok, Some, ap, drop, false, refl, subst, sym}
-use Rattle.presentation_text.specs.DocumentForms.{counted_line, refused_at, tail_begins}
+use Rattle.std.proofs.Common.{◌≡◌, ◌∷◌, ◌∙◌, ◌==◌, ap, drop, false, refl, subst, sym}
+use Rattle.presentation_text.specs.DocumentForms.{counted_line, refused_at}
 use Rattle.presentation_text.specs.DraftForms.{told_of}
 use Rattle.presentation_text.specs.LineForms.{rest_of_line, section_of}
 use Rattle.presentation_text.specs.Readings.{StopsAs}

@@ -1,4 +1,4 @@
-use Rattle.std.proofs.Common.{◌∙◌, length}
+use Rattle.std.proofs.Common.{◌∙◌}
 use Rattle.presentation_text.specs.DocumentDrafts.{tail_number}
 use Rattle.presentation_text.specs.DraftForms.{told_of}
 use Rattle.presentation_text.proofs.DocumentFormsRest.{is_tail, rest_joined}

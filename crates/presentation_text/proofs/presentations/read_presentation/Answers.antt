@@ -1,10 +1,10 @@
 use Rattle.std.proofs.Common.{◌≡◌, ◌<◌, ◌&&◌, ◌+◌, ◌∙◌, Ok, Some, ap, arith, false, length, refl, subst, sym, true}
 use Rattle.std.specs.Option.{is_some}
 use Rattle.presentation_text.specs.DocumentDrafts.{IsBehind, StopsAtLine}
-use Rattle.presentation_text.specs.DocumentForms.{Whole, counted_line, lines_from, on_from}
+use Rattle.presentation_text.specs.DocumentForms.{counted_line, lines_from, on_from}
 use Rattle.presentation_text.specs.DraftForms.{IsSound, told_of}
 use Rattle.presentation_text.specs.LineForms.{told_by_header}
-use Rattle.presentation_text.specs.Lines.{counts, lines}
+use Rattle.presentation_text.specs.Lines.{lines}
 use Rattle.presentation_text.specs.Tokens.{tokens}
 use Rattle.presentation_text.specs.declared.draft.Draft.{Draft}
 use Rattle.presentation_text.specs.declared.kinds.DocKind.TheVariants.{Missing}

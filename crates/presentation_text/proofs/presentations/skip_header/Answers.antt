@@ -1,7 +1,7 @@
-use Rattle.std.proofs.Common.{◌≡◌, ◌+◌, ◌∙◌, [], None, Some, ap, arith, refl, sym}
+use Rattle.std.proofs.Common.{◌≡◌, ◌+◌, ◌∙◌, None, Some, ap, arith, refl, sym}
 use Rattle.presentation_text.specs.DocumentForms.{behind_header, lines_from, read_text, version_of}
 use Rattle.presentation_text.specs.LineForms.{told_by_header}
-use Rattle.presentation_text.specs.Lines.{counts, lines}
+use Rattle.presentation_text.specs.Lines.{lines}
 use Rattle.presentation_text.specs.Tokens.{tokens}
 use Rattle.presentation_text.specs.declared.kinds.DocKind.TheVariants.{Header}
 use Rattle.presentation_text.proofs.DocumentFormsLines.{header_counted, header_missing, header_passed, line_fails}

@@ -1,4 +1,4 @@
-use Rattle.std.proofs.Common.{◌∙◌, ap, length, rules, subst, sym}
+use Rattle.std.proofs.Common.{◌∙◌, ap, length, subst, sym}
 use Rattle.symmetric_sums.specs.Terms.{FitsOver}
 use Rattle.symmetric_trees.specs.Generators.{IsTable}
 use Rattle.presentation_text.specs.DraftForms.{AskFits}
