@@ -19,7 +19,7 @@ use Rattle.presentation_text.specs.Lines.{HasNoFeed}
 use Rattle.presentation_text.specs.Tokens.{IsWord, StartsOtherwise, tokens}
 use Rattle.presentation_text.specs.TreeForms.{index_of}
 use Rattle.presentation_text.proofs.LineTexts.{no_feed-word, no_feed-decimal}
-use Rattle.presentation_text.proofs.Names.{index_absent, index_held}
+use Rattle.presentation_text.proofs.TreeFormsSteps.{index-none}
 use Rattle.presentation_text.proofs.PrintedTokens.{tokens-decimal}
 use Rattle.presentation_text.proofs.TokenLaws.{tokens-word}
 
@@ -166,7 +166,7 @@ generator_line told rest generator table may = record {
   behind = flat_map tokens (kind_words told.version generator.parts);
   few = let len = length-append told.generators (generator ∷ rest) in omega (arith, len, table.few);
   short = may.short;
-  new_name = index_absent told.generators generator.name (not_taken told.generators rest generator table.apart);
+  new_name = index-none told.generators generator.name (not_taken told.generators rest generator table.apart);
   arity = may.arity;
   tokens_are = refl;
   parts_are = kind_tokens told.version generator may;

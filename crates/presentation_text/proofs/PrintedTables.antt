@@ -18,7 +18,7 @@ use Rattle.presentation_text.specs.Presentations.{weight_or_none}
 use Rattle.presentation_text.specs.Tokens.{tokens}
 use Rattle.presentation_text.specs.TreeForms.{index_of}
 use Rattle.presentation_text.proofs.LineTexts.{no_feed-word, no_feed-decimal}
-use Rattle.presentation_text.proofs.Names.{index_held}
+use Rattle.presentation_text.proofs.TreeFormsSteps.{first_named}
 use Rattle.presentation_text.proofs.PrintedGenerators.{MayPrint, kind_words, generator_tokens, generator-words, generator_line, no_feed-kinds, tokens-name, tokens-number}
 use Rattle.presentation_text.proofs.PrintedStages.{Reach, reach-line, stage, IsVersion, stands-gen, stands-weight}
 
@@ -55,7 +55,7 @@ last_index done rest generator apart =
     let whole = done ++ generator ∷ [] in
     let len = length-append done (generator ∷ []) in
     let front : Apart whole = apart-front whole rest (subst Apart (sym (append_assoc done (generator ∷ []) rest)) apart) in
-    index_held whole generator.name (length done) front (omega (arith, len)) (λ d. ap (λ g. g.name) (get_or-append_seam done generator [] d))
+    first_named whole generator.name (length done) front (omega (arith, len)) (λ d. ap (λ g. g.name) (get_or-append_seam done generator [] d))
 
 regroup : (a b c rest : List ℕ) → (a ++ (b ++ c)) ++ rest ≡ a ++ (b ++ (c ++ rest))
 regroup a b c rest = append_assoc a (b ++ c) rest ∙ ap (λ xs. a ++ xs) (append_assoc b c rest)

@@ -38,7 +38,7 @@ index-none (x ∷ xs) name absent =
     let further : index_of name xs ≡ None = index-none xs name (λ t. absent (suc t.0, t.1, omega (arith, t.2), t.3, t.4)) in
     ap (λ b. if b then Some 0 else next_index (index_of name xs)) other ∙ ap next_index further
 
-first_named : (generators : List Generator) (name : List ℕ) (g : ℕ) → HaveNamesApart generators → g < length generators → HoldsAt (IsNamed name) generators g → index_of name generators ≡ Some g
+pub first_named : (generators : List Generator) (name : List ℕ) (g : ℕ) → HaveNamesApart generators → g < length generators → HoldsAt (IsNamed name) generators g → index_of name generators ≡ Some g
 first_named [] name g apart l h = absurd (omega arith)
 first_named (x ∷ xs) name zero apart l h = ap (λ b. if b then Some 0 else next_index (index_of name xs)) ((bytes_eq-Decides x.name name).1 (h x))
 first_named (x ∷ xs) name (suc g) apart l h =
