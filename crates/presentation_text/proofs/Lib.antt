@@ -48,3 +48,4 @@ pub mod TermsOnce
 pub mod PrintedElements
 pub mod ElementsRefused
 pub mod ElementsBegin
+pub mod AcceptedParts
