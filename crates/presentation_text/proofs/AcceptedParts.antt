@@ -2,7 +2,7 @@
 use Rattle.std.proofs.Common.{◌≡◌, ◌<◌, ◌≤◌, ◌+◌, ◌==◌, ◌||◌, ◌⊎◌, inl, inr, ℕ, zero, suc, Bool, true, false, cond, not, nat_le, nat_lt, List, [], ◌∷◌, length, Option, Some, None, Result, Ok, Err, arith, sym, ap, ◌∙◌, refl, subst}
 use Rattle.std.specs.List.{sum_by}
 use Rattle.std.specs.Option.{is_some}
-use Rattle.std.proofs.lemmas.Bool.Decides.{nat_tests}
+use Rattle.std.proofs.lemmas.Bool.Decides.{Decides-eqb}
 use Rattle.std.proofs.lemmas.List.Sums.{sum_by-cons}
 use Rattle.symmetric_trees.specs.Generators.{IsArity}
 use Rattle.symmetric_trees.specs.declared.generators.Generator.{Generator}
@@ -57,9 +57,10 @@ ArePartsFrom arity sum ts parts = ArePartTokens ts parts × (sum + sum_by (λ pa
 
 one_more : (arity sum : ℕ) (ts rest : List Token) (part : Part) (parts : List Part) → IsPart arity sum ts (part, rest) → ArePartsFrom arity (sum + part.size) rest parts → ArePartsFrom arity sum ts (part ∷ parts)
 one_more arity sum ts rest part parts one more =
-    let size = size_told arity sum part.size one.fits in
-    (subst (λ us. ArePartTokens us (part ∷ parts)) (sym one.tokens_are) (one_part one.word part.kind part.size rest parts one.named size.0 more.0),
-      omega (arith, more.1, sum_by-cons (λ (p : Part). p.size) part parts))
+    let size = size_told arity sum part.size one.fits in (
+      subst (λ us. ArePartTokens us (part ∷ parts)) (sym one.tokens_are) (one_part one.word part.kind part.size rest parts one.named size.0 more.0),
+      omega (arith, more.1, sum_by-cons (λ (p : Part). p.size) part parts),
+    )
 
 no_more : (arity sum : ℕ) (parts : List Part) → sum ≤ arity → refused 0 (first_row ((nat_lt sum arity, PartsOut) ∷ [])) (Ok []) ≡ Ok parts → ArePartsFrom arity sum [] parts
 no_more arity sum parts l e =
@@ -144,11 +145,8 @@ symmetry_accepted arity ts parts h =
 abbrev AreInputs : ℕ → ℕ → List Token → List Part → Type 0
 AreInputs version arity ts parts = ((version ≡ 2) × ArePartsOf arity ts parts) ⊎ ((version ≡ 2 → ⊥) × IsSymmetry arity ts parts)
 
-equal_told : (m n : ℕ) → (m == n) ≡ true → m ≡ n
-equal_told m n e = grind (arith, nat_tests)
-
 inputs_told : (two : Bool) (version arity : ℕ) (ts : List Token) (parts : List Part) → (version == 2) ≡ two → cond two (all_parts_in arity 0 ts) (symmetry_in arity ts) ≡ Ok parts → AreInputs version arity ts parts
-inputs_told true version arity ts parts is e = inl (equal_told version 2 is, parts_of_told arity ts parts e)
+inputs_told true version arity ts parts is e = inl ((Decides-eqb version 2).0 is, parts_of_told arity ts parts e)
 inputs_told false version arity ts parts is e = inr (not_equal_told version 2 is, symmetry_told arity ts parts e)
 
 inputs_accepted : (version arity : ℕ) (ts : List Token) (parts : List Part) → 0 < arity → AreInputs version arity ts parts → inputs_in version arity ts ≡ Ok parts

@@ -49,3 +49,6 @@ pub mod PrintedElements
 pub mod ElementsRefused
 pub mod ElementsBegin
 pub mod AcceptedParts
+pub mod AcceptedLines
+pub mod AcceptedWords
+pub mod AcceptedDocuments
