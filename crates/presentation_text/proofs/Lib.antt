@@ -49,3 +49,7 @@ pub mod PrintedElements
 pub mod ElementsRefused
 pub mod ElementsBegin
 pub mod WritableDocuments
+pub mod AcceptedParts
+pub mod AcceptedLines
+pub mod AcceptedWords
+pub mod AcceptedDocuments

@@ -24,7 +24,10 @@ pub use lexing::{Token, tokens, tokens_are_defined, words_are_words};
 pub use line_words::is_unknown;
 pub use lines::{counts, lines_are_defined, next_line};
 pub use parts::{end_at, has_mark, mark_at, number_at, word_at};
-pub use presentations::{accepted_texts_are_well_formed, read_document, texts_are_read_or_refused};
+pub use presentations::{
+    accepted_texts_are_well_formed, documents_are_accepted, read_document,
+    texts_are_read_or_refused,
+};
 pub use terms::{
     ElementAt, element_at, elements_are_accepted, elements_are_read_once,
     elements_are_refused_rightly, printed_elements_are_read, refused_elements_begin,

@@ -6,6 +6,7 @@ ghost use Rattle.symmetric_sums.specs.Terms.{FitsOver};
 ghost use Rattle.presentation_text.specs.DocumentDrafts.{HasBoth, IsBehind, IsPresentationRead, IsRestFrom, StopsAtLine, tail_of};
 ghost use Rattle.presentation_text.specs.DocumentForms as spec;
 ghost use Rattle.presentation_text.specs.DraftForms.{AskFits, GivesDraft, IsSound, told_of};
+ghost use Rattle.presentation_text.specs.Grammar.{DocumentsAreAccepted};
 ghost use Rattle.presentation_text.specs.Laws.{DocumentsAreDetermined};
 ghost use Rattle.presentation_text.specs.LineForms.{rest_of_line, told_by_header, word_fault};
 ghost use Rattle.presentation_text.specs.Lines.{lines as lines_of};
@@ -316,4 +317,9 @@ pub fn texts_are_read_or_refused()
 /// and an order stand.
 pub fn accepted_texts_are_well_formed()
     ensures law { DocumentsAreWellFormed }
+{}
+
+/// Law: reading accepts exactly the texts whose lines that count are those of a document, and gives what these say.
+pub fn documents_are_accepted()
+    ensures law { DocumentsAreAccepted }
 {}
