@@ -19,7 +19,7 @@ use Rattle.presentation_text.proofs.LineFormsGenerators.{generator_read}
 use Rattle.presentation_text.proofs.LineFormsNumbers.{arity_is, not_at_most, not_below, not_below_told, not_equal, not_equal_told, size_fits, size_told}
 use Rattle.presentation_text.proofs.LineFormsParts.{further_parts}
 use Rattle.presentation_text.proofs.LineFormsRead.{both_read, not_refused, number_read, one_value, was_known, word_read}
-use Rattle.presentation_text.proofs.Names.{index_absent}
+use Rattle.presentation_text.proofs.TreeFormsSteps.{index-none}
 
 pub end_read : (ts : List Token) (x : Unit {0}) → end_in ts ≡ Ok x → ts ≡ []
 end_read [] x e = refl
@@ -162,7 +162,7 @@ generator_told told ts generator e =
       behind = read.rest;
       few = read.named.room;
       short = read.named.short;
-      new_name = index_absent told.generators generator.name read.named.new_name;
+      new_name = index-none told.generators generator.name read.named.new_name;
       arity = read.named.arity;
       tokens_are = read.named.tokens_are;
       parts_are = inputs_told (told.version == 2) told.version generator.arity read.rest generator.parts refl read.parts;
