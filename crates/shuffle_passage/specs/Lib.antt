@@ -1,0 +1,5 @@
+pub mod Words
+pub mod WordTables
+pub mod Passage
+pub mod Boughs
+pub mod LabelKinds

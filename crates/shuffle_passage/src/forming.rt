@@ -1,0 +1,112 @@
+ghost use Rattle.std.specs.Prelude.{◌≡◌, ◌≤◌, ℕ, IfOk, map};
+ghost use Rattle.labelled_trees.specs.Trees.{node, row};
+ghost use Rattle.labelled_trees.specs.Leaves.{occurs};
+ghost use Rattle.labelled_trees.specs.Meaning.{tree_of};
+ghost use Rattle.operad_ideals.specs.Sorting as plain;
+ghost use Rattle.shuffle_insertions.specs.ShuffleTrees.{IsShuffleTree, least_row};
+ghost use Rattle.shuffle_transfer.specs.Labels.{inputs_of, shuffle_form};
+ghost use Rattle.symmetric_trees.specs.Generators.{parts_at};
+ghost use Rattle.symmetric_trees.specs.Spelling.{meaning_of};
+ghost use Rattle.symmetric_trees.specs.Trees.{Fits, IsLabelled};
+ghost use Rattle.shuffle_passage.specs.WordTables.{words_from};
+ghost use Rattle.shuffle_passage.specs.Passage.{IsFormOf, OneShuffleForm, over};
+ghost use Rattle.shuffle_passage.specs.Boughs.{boughs_trees};
+
+use crate::bough::Bough;
+use crate::parts::sort_parts;
+use crate::words::{Words, word_number, words_of};
+use shuffle_trees::{STree, Shape};
+use sqlite_items::Items;
+use std::alloc::{AllocError, Global};
+use symmetric_trees::{GenTable, Sign, Tree};
+
+// The least leaf of the first bough; 0 where there is none.
+fn first_least(boughs: &[Bough]) -> u8
+    ensures { result ≡ least_row (row (boughs_trees boughs.now)) }
+{
+    match boughs {
+        [first, ..] => first.least,
+        [] => 0,
+    }
+}
+
+// The vertex over the boughs, of which the first has the least leaf.
+fn vertex(alloc: Global, label: u16, boughs: Vec<Bough>) -> Result<Bough, AllocError>
+    ensures { IfOk result (λ bough. tree_of bough.tree ≡ node label (row (boughs_trees boughs.items))) }
+{
+    let least = first_least(boughs.as_slice());
+    let mut inputs = Items::new(alloc);
+    for bough in boughs {
+        inputs.push(bough.tree)?;
+    }
+    Ok(Bough {
+        least,
+        tree: Shape::Node(label, inputs),
+    })
+}
+
+// The sign of the sorted spelling and the shuffle form, from the leaves up.
+fn form(
+    alloc: Global,
+    table: &GenTable,
+    words: &[Words],
+    tree: &Tree,
+) -> Result<(Sign, Bough), AllocError>
+    requires words { words.now ≡ words_from 0 table.now }
+    requires fits { Fits table.now (tree_of tree.now) }
+    requires once { (i : ℕ) → occurs i (tree_of tree.now) ≤ 1 }
+    ensures sign { IfOk result (λ found. meaning_of found.0 ≡ plain.spelled_sign (parts_at table.now) (tree_of tree.now)) }
+    ensures tree { IfOk result (λ found. tree_of found.1.tree ≡ shuffle_form (over table.now) (tree_of tree.now)) }
+{
+    match tree {
+        Tree::Leaf(number) => {
+            let bough = Bough {
+                least: *number,
+                tree: Shape::Leaf(*number),
+            };
+            Ok((Sign::Plus, bough))
+        }
+        Tree::Node(generator, inputs) => {
+            let mut sign = Sign::Plus;
+            let mut word = Vec::with_capacity(alloc, inputs.len())?;
+            let mut boughs = Vec::with_capacity(alloc, inputs.len())?;
+            for input in inputs.as_slice() {
+                let (turn, bough) = form(alloc, table, words, input)?;
+                sign = sign.times(turn);
+                word.push(bough.least)?;
+                boughs.push(bough)?;
+            }
+            let parts = table.get(*generator).parts.as_slice();
+            sign = sign.times(sort_parts(parts, word.as_mut_slice()));
+            let own = &words[*generator as usize];
+            let label = own.first + word_number(own.bounds.as_slice(), 0, word.as_slice());
+            boughs.sort_unstable_by_key(|bough| bough.least);
+            Ok((sign, vertex(alloc, label, boughs)?))
+        }
+    }
+}
+
+/// The shuffle form of a tree: at each vertex the inputs stand in ascending order of their least leaves, and the label tells
+/// the generator and in which order they stood in the sorted spelling. The sign is that of the sorted spelling.
+/// The tree fits the table and carries 1 to `n`, each once: `arity_of` isn't `None`.
+/// `AllocError` comes for want of memory alone.
+pub fn to_shuffle(alloc: Global, table: &GenTable, tree: &Tree) -> Result<(Sign, STree), AllocError>
+    requires labelled { (n : ℕ) × IsLabelled table.now n (tree_of tree.now) }
+    ensures form { IfOk result (λ found. IsFormOf table.now (tree_of tree.now) found.0 found.1) }
+    ensures own { IfOk result (λ found. found.1 ≡ shuffle_form (over table.now) (tree_of tree.now)) }
+    ensures sign { IfOk result (λ found. meaning_of found.0 ≡ plain.spelled_sign (parts_at table.now) (tree_of tree.now)) }
+    ensures shuffle { (n : ℕ) → IsLabelled table.now n (tree_of tree.now) → IfOk result (λ found. IsShuffleTree (inputs_of (over table.now)) n found.1) }
+{
+    let words = words_of(alloc, table)?;
+    let (sign, bough) = form(alloc, table, words.as_slice(), tree)?;
+    let Bough { least: _, tree } = bough;
+    let Some(shuffle) = STree::of(tree) else {
+        unreachable!();
+    };
+    Ok((sign, shuffle))
+}
+
+/// Law: a labelled tree has one shuffle form, with one sign.
+pub fn one_shuffle_form()
+    ensures law { OneShuffleForm }
+{}
