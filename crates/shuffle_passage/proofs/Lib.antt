@@ -6,3 +6,6 @@ pub mod Vertices
 pub mod LabelKinds
 pub mod FormVertices
 pub mod ThereAndBack
+pub mod Transfer
+pub mod RenamedTerms
+pub mod PermutedLists

@@ -116,7 +116,7 @@ word_number-below (b ∷ bs) below (d ∷ ds) h =
     let k = sum_from-split (endings bs) a (d - a) (suc (length bs) - a) (omega (arith, h.0, h.1)) in
     omega (arith, inner, q, k)
 
-length-without : {X : Type 0} (l : List X) (d : ℕ) → d < length l → suc (length (without l d)) ≡ length l
+pub length-without : {X : Type 0} (l : List X) (d : ℕ) → d < length l → suc (length (without l d)) ≡ length l
 length-without [] d h = absurd (omega (arith, h))
 length-without (x ∷ l) zero h = refl
 length-without (x ∷ l) (suc d) h = ap suc (length-without l d (omega (arith, h)))

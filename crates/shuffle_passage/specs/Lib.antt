@@ -3,3 +3,5 @@ pub mod WordTables
 pub mod Passage
 pub mod Boughs
 pub mod LabelKinds
+pub mod Transfer
+pub mod RelabelledSums

@@ -122,6 +122,13 @@ fn numbers_labels(rt: HostRuntime) -> Result<(), Fail> {
     Ok(())
 }
 
+// The number of labels of one generator with six inputs.
+fn count_labels(alloc: Global, parts: &[Part]) -> Result<u16, Fail> {
+    let mut table = GenTable::new(alloc);
+    add(alloc, &mut table, "g", 6, parts)?;
+    Ok(labels_of(alloc, &table)?.len())
+}
+
 #[test]
 fn counts_words(rt: HostRuntime) -> Result<(), Fail> {
     let alloc = rt.alloc();
@@ -138,9 +145,7 @@ fn counts_words(rt: HostRuntime) -> Result<(), Fail> {
         (&[three, one, two], 120),
         (&[two, three, one], 120),
     ] {
-        let mut table = GenTable::new(alloc);
-        add(alloc, &mut table, "g", 6, parts)?;
-        assert_eq!(rt; labels_of(alloc, &table)?.len(), count);
+        assert_eq!(rt; count_labels(alloc, parts)?, count);
     }
     Ok(())
 }
