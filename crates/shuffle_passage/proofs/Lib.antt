@@ -9,3 +9,4 @@ pub mod ThereAndBack
 pub mod Transfer
 pub mod RenamedTerms
 pub mod PermutedLists
+pub mod Examples

@@ -10,9 +10,9 @@ ghost use Rattle.symmetric_trees.specs.Spelling.{meaning_of};
 ghost use Rattle.symmetric_trees.specs.Trees.{Fits, IsLabelled};
 ghost use Rattle.shuffle_passage.specs.WordTables.{words_from};
 ghost use Rattle.shuffle_passage.specs.Passage.{IsFormOf, OneShuffleForm, over};
-ghost use Rattle.shuffle_passage.specs.Boughs.{boughs_trees};
+ghost use Rattle.shuffle_passage.specs.Branches.{branches_trees};
 
-use crate::bough::Bough;
+use crate::branch::Branch;
 use crate::parts::sort_parts;
 use crate::words::{Words, word_number, words_of};
 use shuffle_trees::{STree, Shape};
@@ -20,26 +20,26 @@ use sqlite_items::Items;
 use std::alloc::{AllocError, Global};
 use symmetric_trees::{GenTable, Sign, Tree};
 
-// The least leaf of the first bough; 0 where there is none.
-fn first_least(boughs: &[Bough]) -> u8
-    ensures { result ≡ least_row (row (boughs_trees boughs.now)) }
+// The least leaf of the first branch; 0 where there is none.
+fn first_least(branches: &[Branch]) -> u8
+    ensures { result ≡ least_row (row (branches_trees branches.now)) }
 {
-    match boughs {
+    match branches {
         [first, ..] => first.least,
         [] => 0,
     }
 }
 
-// The vertex over the boughs, of which the first has the least leaf.
-fn vertex(alloc: Global, label: u16, boughs: Vec<Bough>) -> Result<Bough, AllocError>
-    ensures { IfOk result (λ bough. tree_of bough.tree ≡ node label (row (boughs_trees boughs.items))) }
+// The vertex over the branches, of which the first has the least leaf.
+fn vertex(alloc: Global, label: u16, branches: Vec<Branch>) -> Result<Branch, AllocError>
+    ensures { IfOk result (λ branch. tree_of branch.tree ≡ node label (row (branches_trees branches.items))) }
 {
-    let least = first_least(boughs.as_slice());
+    let least = first_least(branches.as_slice());
     let mut inputs = Items::new(alloc);
-    for bough in boughs {
-        inputs.push(bough.tree)?;
+    for branch in branches {
+        inputs.push(branch.tree)?;
     }
-    Ok(Bough {
+    Ok(Branch {
         least,
         tree: Shape::Node(label, inputs),
     })
@@ -51,7 +51,7 @@ fn form(
     table: &GenTable,
     words: &[Words],
     tree: &Tree,
-) -> Result<(Sign, Bough), AllocError>
+) -> Result<(Sign, Branch), AllocError>
     requires words { words.now ≡ words_from 0 table.now }
     requires fits { Fits table.now (tree_of tree.now) }
     requires once { (i : ℕ) → occurs i (tree_of tree.now) ≤ 1 }
@@ -60,28 +60,28 @@ fn form(
 {
     match tree {
         Tree::Leaf(number) => {
-            let bough = Bough {
+            let branch = Branch {
                 least: *number,
                 tree: Shape::Leaf(*number),
             };
-            Ok((Sign::Plus, bough))
+            Ok((Sign::Plus, branch))
         }
         Tree::Node(generator, inputs) => {
             let mut sign = Sign::Plus;
             let mut word = Vec::with_capacity(alloc, inputs.len())?;
-            let mut boughs = Vec::with_capacity(alloc, inputs.len())?;
+            let mut branches = Vec::with_capacity(alloc, inputs.len())?;
             for input in inputs.as_slice() {
-                let (turn, bough) = form(alloc, table, words, input)?;
+                let (turn, branch) = form(alloc, table, words, input)?;
                 sign = sign.times(turn);
-                word.push(bough.least)?;
-                boughs.push(bough)?;
+                word.push(branch.least)?;
+                branches.push(branch)?;
             }
             let parts = table.get(*generator).parts.as_slice();
             sign = sign.times(sort_parts(parts, word.as_mut_slice()));
             let own = &words[*generator as usize];
             let label = own.first + word_number(own.bounds.as_slice(), 0, word.as_slice());
-            boughs.sort_unstable_by_key(|bough| bough.least);
-            Ok((sign, vertex(alloc, label, boughs)?))
+            branches.sort_unstable_by_key(|branch| branch.least);
+            Ok((sign, vertex(alloc, label, branches)?))
         }
     }
 }
@@ -98,8 +98,8 @@ pub fn to_shuffle(alloc: Global, table: &GenTable, tree: &Tree) -> Result<(Sign,
     ensures shuffle { (n : ℕ) → IsLabelled table.now n (tree_of tree.now) → IfOk result (λ found. IsShuffleTree (inputs_of (over table.now)) n found.1) }
 {
     let words = words_of(alloc, table)?;
-    let (sign, bough) = form(alloc, table, words.as_slice(), tree)?;
-    let Bough { least: _, tree } = bough;
+    let (sign, branch) = form(alloc, table, words.as_slice(), tree)?;
+    let Branch { least: _, tree } = branch;
     let Some(shuffle) = STree::of(tree) else {
         unreachable!();
     };

@@ -1,7 +1,7 @@
 //! The passage from symmetric to shuffle operads and back: the labels of a table, shuffle forms of trees, and the way back.
 #![tactic(auto)]
 
-mod bough;
+mod branch;
 mod forming;
 mod framing;
 mod labelling;

@@ -71,7 +71,15 @@ fn renamed(
     let leaves = leaves_of(alloc, permutation)?;
     let mut sum = Sum::new(alloc);
     for term in rel.terms() {
-        push_renamed(alloc, field, table, term, arity, leaves.as_slice(), &mut sum)?;
+        push_renamed(
+            alloc,
+            field,
+            table,
+            term,
+            arity,
+            leaves.as_slice(),
+            &mut sum,
+        )?;
     }
     Ok(sum)
 }

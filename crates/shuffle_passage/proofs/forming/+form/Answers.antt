@@ -25,12 +25,12 @@ use Rattle.symmetric_trees.specs.Trees.{Fits}
 use Rattle.symmetric_trees.specs.declared.generators.Part.{Part}
 use Rattle.symmetric_trees.proofs.Tables.{parts_at-held, sizes-held, held_if_wide}
 use Rattle.shuffle_passage.specs.Words as spec
-use Rattle.shuffle_passage.specs.Boughs.{boughs_trees, boughs_leaves}
+use Rattle.shuffle_passage.specs.Branches.{branches_trees, branches_leaves}
 use Rattle.shuffle_passage.specs.Passage.{over}
-use Rattle.shuffle_passage.specs.declared.bough.Bough.{Bough}
+use Rattle.shuffle_passage.specs.declared.branch.Branch.{Branch}
 use Rattle.shuffle_passage.proofs.WordTables.{length-words, read_words, bounds_few, first_label-most}
 use Rattle.shuffle_passage.proofs.Vertices.{input_fits, input_once}
-use Rattle.shuffle_passage.proofs.FormVertices.{leaves_apart, boughs_apart, count_boughs, form_vertex, form_sign}
+use Rattle.shuffle_passage.proofs.FormVertices.{leaves_apart, branches_apart, count_branches, form_vertex, form_sign}
 use Rattle.shuffle_passage.proofs.forming.+form.Goals as goal
 
 pub form-requires : goal.form-requires
@@ -49,8 +49,8 @@ get-requires t c =
     let fits = fits-inputs (arity (parts_at c.args.table.now)) c.in-Node.generator c.in-Node.inputs (subst (λ u. Fits c.args.table.now (tree_of u)) c.in-Node.is c.requires.fits) in
     record { held = held_if_wide c.args.table.now c.in-Node.generator fits.0 }
 
-all_trees : (form : program.Tree → Rattle.labelled_trees.specs.Trees.Tree ℕ) (items ts : List program.Tree) (i : ℕ) (bs : List Bough) → length items ≤ i → items ≡ ts
-    → boughs_trees bs ≡ map form (take i items) → boughs_trees bs ≡ map form ts
+all_trees : (form : program.Tree → Rattle.labelled_trees.specs.Trees.Tree ℕ) (items ts : List program.Tree) (i : ℕ) (bs : List Branch) → length items ≤ i → items ≡ ts
+    → branches_trees bs ≡ map form (take i items) → branches_trees bs ≡ map form ts
 all_trees form items ts i bs l e is = is ∙ ap (map form) (take_all i items l ∙ e)
 
 -- what the list holds after the slice was sorted
@@ -68,13 +68,13 @@ sort_parts-requires-clause-sizes t c =
     let gens = c.args.table.now in
     let g = c.in-Node.generator in
     let ts = c.in-Node.inputs in
-    let bs = c.loop-input.boughs.items in
+    let bs = c.loop-input.branches.items in
     let fits = subst (λ u. Fits gens (tree_of u)) c.in-Node.is c.requires.fits in
     let parts_fit = fits-inputs (arity (parts_at gens)) g ts fits in
     let once = subst (λ u. (k : ℕ) → occurs k (tree_of u) ≤ 1) c.in-Node.is c.requires.once in
     let trees = all_trees (λ u. shuffle_form (over gens) (tree_of u)) c.as_slice-input-items.result.now ts c.loop-input.input-index bs c.loop-input-test.false c.as_slice-input-items.ensures c.loop-input.invariant.trees in
-    let count : length bs ≡ arity (parts_at gens) g = count_boughs gens g ts bs fits once trees ∙ parts_fit.1 in
-    let keys : length c.loop-input.word.items ≡ length bs = ap length c.loop-input.invariant.keys ∙ length-map bs (λ (b : Bough). b.least) in
+    let count : length bs ≡ arity (parts_at gens) g = count_branches gens g ts bs fits once trees ∙ parts_fit.1 in
+    let keys : length c.loop-input.word.items ≡ length bs = ap length c.loop-input.invariant.keys ∙ length-map bs (λ (b : Branch). b.least) in
     ap (sum_by (λ (part : Part). part.size)) c.as_slice-parts.ensures ∙ sym (sizes-held gens g c.get.result.now c.get.ensures.found) ∙ sym count ∙ sym keys ∙ ap length (sym c.as_mut_slice.ensures.value)
 
 pub sort_parts-requires-clause-apart : goal.sort_parts-requires-clause-apart
@@ -82,13 +82,13 @@ sort_parts-requires-clause-apart t c =
     let gens = c.args.table.now in
     let g = c.in-Node.generator in
     let ts = c.in-Node.inputs in
-    let bs = c.loop-input.boughs.items in
+    let bs = c.loop-input.branches.items in
     let fits = subst (λ u. Fits gens (tree_of u)) c.in-Node.is c.requires.fits in
     let parts_fit = fits-inputs (arity (parts_at gens)) g ts fits in
     let once = subst (λ u. (k : ℕ) → occurs k (tree_of u) ≤ 1) c.in-Node.is c.requires.once in
     let trees = all_trees (λ u. shuffle_form (over gens) (tree_of u)) c.as_slice-input-items.result.now ts c.loop-input.input-index bs c.loop-input-test.false c.as_slice-input-items.ensures c.loop-input.invariant.trees in
-    let count : length bs ≡ arity (parts_at gens) g = count_boughs gens g ts bs fits once trees ∙ parts_fit.1 in
-    let keys : length c.loop-input.word.items ≡ length bs = ap length c.loop-input.invariant.keys ∙ length-map bs (λ (b : Bough). b.least) in
+    let count : length bs ≡ arity (parts_at gens) g = count_branches gens g ts bs fits once trees ∙ parts_fit.1 in
+    let keys : length c.loop-input.word.items ≡ length bs = ap length c.loop-input.invariant.keys ∙ length-map bs (λ (b : Branch). b.least) in
     apart-at (λ n. n) c.as_mut_slice.result.now (subst (Apart (λ n. n)) (sym (c.as_mut_slice.ensures.value ∙ c.loop-input.invariant.keys)) (leaves_apart gens g ts bs fits once trees))
 
 pub bounds-words-generator : goal.bounds-words-generator
@@ -96,7 +96,7 @@ bounds-words-generator t c =
     let gens = c.args.table.now in
     let g = c.in-Node.generator in
     let ts = c.in-Node.inputs in
-    let bs = c.loop-input.boughs.items in
+    let bs = c.loop-input.branches.items in
     let fits = subst (λ u. Fits gens (tree_of u)) c.in-Node.is c.requires.fits in
     let parts_fit = fits-inputs (arity (parts_at gens)) g ts fits in
     let n = length-words 0 gens in
@@ -107,7 +107,7 @@ word_number-requires-clause-few t c =
     let gens = c.args.table.now in
     let g = c.in-Node.generator in
     let ts = c.in-Node.inputs in
-    let bs = c.loop-input.boughs.items in
+    let bs = c.loop-input.branches.items in
     let fits = subst (λ u. Fits gens (tree_of u)) c.in-Node.is c.requires.fits in
     let parts_fit = fits-inputs (arity (parts_at gens)) g ts fits in
     let held = held_if_wide gens g parts_fit.0 in
@@ -120,44 +120,44 @@ word_number-requires-clause-same t c =
     let gens = c.args.table.now in
     let g = c.in-Node.generator in
     let ts = c.in-Node.inputs in
-    let bs = c.loop-input.boughs.items in
+    let bs = c.loop-input.branches.items in
     let fits = subst (λ u. Fits gens (tree_of u)) c.in-Node.is c.requires.fits in
     let parts_fit = fits-inputs (arity (parts_at gens)) g ts fits in
     let once = subst (λ u. (k : ℕ) → occurs k (tree_of u) ≤ 1) c.in-Node.is c.requires.once in
     let trees = all_trees (λ u. shuffle_form (over gens) (tree_of u)) c.as_slice-input-items.result.now ts c.loop-input.input-index bs c.loop-input-test.false c.as_slice-input-items.ensures c.loop-input.invariant.trees in
-    let count : length bs ≡ arity (parts_at gens) g = count_boughs gens g ts bs fits once trees ∙ parts_fit.1 in
-    let keys : length c.loop-input.word.items ≡ length bs = ap length c.loop-input.invariant.keys ∙ length-map bs (λ (b : Bough). b.least) in
+    let count : length bs ≡ arity (parts_at gens) g = count_branches gens g ts bs fits once trees ∙ parts_fit.1 in
+    let keys : length c.loop-input.word.items ≡ length bs = ap length c.loop-input.invariant.keys ∙ length-map bs (λ (b : Branch). b.least) in
     let held = held_if_wide gens g parts_fit.0 in
     let own = read_words gens c.args.words.now g c.index-words-generator.result c.requires.words held c.index-words-generator.is in
     let bounds : c.as_slice.result.now ≡ spec.bounds_of (parts_at gens g) = c.as_slice.ensures ∙ ap (λ w. w.bounds) own in
     let parts : parts_at gens g ≡ map part_of c.as_slice-parts.result.now = parts_at-held gens g c.get.result.now c.get.ensures.found ∙ ap (map part_of) (sym c.as_slice-parts.ensures) in
-    let sorted : c.as_slice-in-Node.result.now ≡ plain.sort_parts (λ n. n) (parts_at gens g) (boughs_leaves bs) =
+    let sorted : c.as_slice-in-Node.result.now ≡ plain.sort_parts (λ n. n) (parts_at gens g) (branches_leaves bs) =
     c.as_slice-in-Node.ensures.value ∙ sorted_is c.loop-input.word.items c.as_mut_slice.result.now c.sort_parts.new.numbers (map part_of c.as_slice-parts.result.now) c.loop-input.word.len c.as_mut_slice.ensures.value c.loop-input.word.ok.0 c.sort_parts.ensures.order
     ∙ ap₂ (λ ps ks. plain.sort_parts (λ n. n) ps ks) (sym parts) c.loop-input.invariant.keys in
-    ap length sorted ∙ length-sort_parts (λ n. n) (parts_at gens g) (boughs_leaves bs) ∙ length-map bs (λ (b : Bough). b.least) ∙ count ∙ sym (length-bounds (parts_at gens g)) ∙ ap length (sym bounds)
+    ap length sorted ∙ length-sort_parts (λ n. n) (parts_at gens g) (branches_leaves bs) ∙ length-map bs (λ (b : Branch). b.least) ∙ count ∙ sym (length-bounds (parts_at gens g)) ∙ ap length (sym bounds)
 
 pub overflow_add-label : goal.overflow_add-label
 overflow_add-label t c =
     let gens = c.args.table.now in
     let g = c.in-Node.generator in
     let ts = c.in-Node.inputs in
-    let bs = c.loop-input.boughs.items in
+    let bs = c.loop-input.branches.items in
     let fits = subst (λ u. Fits gens (tree_of u)) c.in-Node.is c.requires.fits in
     let parts_fit = fits-inputs (arity (parts_at gens)) g ts fits in
     let once = subst (λ u. (k : ℕ) → occurs k (tree_of u) ≤ 1) c.in-Node.is c.requires.once in
     let trees = all_trees (λ u. shuffle_form (over gens) (tree_of u)) c.as_slice-input-items.result.now ts c.loop-input.input-index bs c.loop-input-test.false c.as_slice-input-items.ensures c.loop-input.invariant.trees in
-    let count : length bs ≡ arity (parts_at gens) g = count_boughs gens g ts bs fits once trees ∙ parts_fit.1 in
-    let keys : length c.loop-input.word.items ≡ length bs = ap length c.loop-input.invariant.keys ∙ length-map bs (λ (b : Bough). b.least) in
+    let count : length bs ≡ arity (parts_at gens) g = count_branches gens g ts bs fits once trees ∙ parts_fit.1 in
+    let keys : length c.loop-input.word.items ≡ length bs = ap length c.loop-input.invariant.keys ∙ length-map bs (λ (b : Branch). b.least) in
     let held = held_if_wide gens g parts_fit.0 in
     let own = read_words gens c.args.words.now g c.index-words-generator.result c.requires.words held c.index-words-generator.is in
     let bounds : c.as_slice.result.now ≡ spec.bounds_of (parts_at gens g) = c.as_slice.ensures ∙ ap (λ w. w.bounds) own in
     let parts : parts_at gens g ≡ map part_of c.as_slice-parts.result.now = parts_at-held gens g c.get.result.now c.get.ensures.found ∙ ap (map part_of) (sym c.as_slice-parts.ensures) in
-    let sorted : c.as_slice-in-Node.result.now ≡ plain.sort_parts (λ n. n) (parts_at gens g) (boughs_leaves bs) =
+    let sorted : c.as_slice-in-Node.result.now ≡ plain.sort_parts (λ n. n) (parts_at gens g) (branches_leaves bs) =
     c.as_slice-in-Node.ensures.value ∙ sorted_is c.loop-input.word.items c.as_mut_slice.result.now c.sort_parts.new.numbers (map part_of c.as_slice-parts.result.now) c.loop-input.word.len c.as_mut_slice.ensures.value c.loop-input.word.ok.0 c.sort_parts.ensures.order
     ∙ ap₂ (λ ps ks. plain.sort_parts (λ n. n) ps ks) (sym parts) c.loop-input.invariant.keys in
     let few = bounds_few gens g c.get.ensures.table held in
     let size : length c.as_slice-in-Node.result.now ≡ length c.as_slice.result.now =
-    ap length sorted ∙ length-sort_parts (λ n. n) (parts_at gens g) (boughs_leaves bs) ∙ length-map bs (λ (b : Bough). b.least) ∙ count ∙ sym (length-bounds (parts_at gens g)) ∙ ap length (sym bounds) in
+    ap length sorted ∙ length-sort_parts (λ n. n) (parts_at gens g) (branches_leaves bs) ∙ length-map bs (λ (b : Branch). b.least) ∙ count ∙ sym (length-bounds (parts_at gens g)) ∙ ap length (sym bounds) in
     let before = few_before c.as_slice.result.now 0 c.as_slice-in-Node.result.now size (omega (arith, ap length bounds, few)) in
     let first : c.index-words-generator.result.first ≡ spec.first_label (generators_of gens) g = ap (λ w. w.first) own in
     let most = first_label-most gens g c.get.ensures.table (omega (arith, held)) in
@@ -174,13 +174,13 @@ returns-in_ok-vertex-in-Node-clause-sign t c =
     let gens = c.args.table.now in
     let g = c.in-Node.generator in
     let ts = c.in-Node.inputs in
-    let bs = c.loop-input.boughs.items in
+    let bs = c.loop-input.branches.items in
     let fits = subst (λ u. Fits gens (tree_of u)) c.in-Node.is c.requires.fits in
     let parts_fit = fits-inputs (arity (parts_at gens)) g ts fits in
     let once = subst (λ u. (k : ℕ) → occurs k (tree_of u) ≤ 1) c.in-Node.is c.requires.once in
     let trees = all_trees (λ u. shuffle_form (over gens) (tree_of u)) c.as_slice-input-items.result.now ts c.loop-input.input-index bs c.loop-input-test.false c.as_slice-input-items.ensures c.loop-input.invariant.trees in
-    let count : length bs ≡ arity (parts_at gens) g = count_boughs gens g ts bs fits once trees ∙ parts_fit.1 in
-    let keys : length c.loop-input.word.items ≡ length bs = ap length c.loop-input.invariant.keys ∙ length-map bs (λ (b : Bough). b.least) in
+    let count : length bs ≡ arity (parts_at gens) g = count_branches gens g ts bs fits once trees ∙ parts_fit.1 in
+    let keys : length c.loop-input.word.items ≡ length bs = ap length c.loop-input.invariant.keys ∙ length-map bs (λ (b : Branch). b.least) in
     let parts : parts_at gens g ≡ map part_of c.as_slice-parts.result.now = parts_at-held gens g c.get.result.now c.get.ensures.found ∙ ap (map part_of) (sym c.as_slice-parts.ensures) in
     let before = no_inputs_left (parts_at gens) c.as_slice-input-items.result.now c.loop-input.input-index (meaning_of c.loop-input.sign) _ c.loop-input-test.false c.loop-input.invariant.sign
     ∙ ap (λ us. plain.spelled_sign_row (parts_at gens) (row (map tree_of us))) c.as_slice-input-items.ensures in
@@ -194,24 +194,24 @@ returns-in_ok-vertex-in-Node-clause-tree t c =
     let gens = c.args.table.now in
     let g = c.in-Node.generator in
     let ts = c.in-Node.inputs in
-    let bs = c.loop-input.boughs.items in
+    let bs = c.loop-input.branches.items in
     let fits = subst (λ u. Fits gens (tree_of u)) c.in-Node.is c.requires.fits in
     let parts_fit = fits-inputs (arity (parts_at gens)) g ts fits in
     let once = subst (λ u. (k : ℕ) → occurs k (tree_of u) ≤ 1) c.in-Node.is c.requires.once in
     let trees = all_trees (λ u. shuffle_form (over gens) (tree_of u)) c.as_slice-input-items.result.now ts c.loop-input.input-index bs c.loop-input-test.false c.as_slice-input-items.ensures c.loop-input.invariant.trees in
-    let count : length bs ≡ arity (parts_at gens) g = count_boughs gens g ts bs fits once trees ∙ parts_fit.1 in
-    let keys : length c.loop-input.word.items ≡ length bs = ap length c.loop-input.invariant.keys ∙ length-map bs (λ (b : Bough). b.least) in
+    let count : length bs ≡ arity (parts_at gens) g = count_branches gens g ts bs fits once trees ∙ parts_fit.1 in
+    let keys : length c.loop-input.word.items ≡ length bs = ap length c.loop-input.invariant.keys ∙ length-map bs (λ (b : Branch). b.least) in
     let held = held_if_wide gens g parts_fit.0 in
     let own = read_words gens c.args.words.now g c.index-words-generator.result c.requires.words held c.index-words-generator.is in
     let bounds : c.as_slice.result.now ≡ spec.bounds_of (parts_at gens g) = c.as_slice.ensures ∙ ap (λ w. w.bounds) own in
     let parts : parts_at gens g ≡ map part_of c.as_slice-parts.result.now = parts_at-held gens g c.get.result.now c.get.ensures.found ∙ ap (map part_of) (sym c.as_slice-parts.ensures) in
-    let sorted : c.as_slice-in-Node.result.now ≡ plain.sort_parts (λ n. n) (parts_at gens g) (boughs_leaves bs) =
+    let sorted : c.as_slice-in-Node.result.now ≡ plain.sort_parts (λ n. n) (parts_at gens g) (branches_leaves bs) =
     c.as_slice-in-Node.ensures.value ∙ sorted_is c.loop-input.word.items c.as_mut_slice.result.now c.sort_parts.new.numbers (map part_of c.as_slice-parts.result.now) c.loop-input.word.len c.as_mut_slice.ensures.value c.loop-input.word.ok.0 c.sort_parts.ensures.order
     ∙ ap₂ (λ ps ks. plain.sort_parts (λ n. n) ps ks) (sym parts) c.loop-input.invariant.keys in
     let first : c.index-words-generator.result.first ≡ spec.first_label (generators_of gens) g = ap (λ w. w.first) own in
     let label = ap₂ (λ m n. m + n) first (c.word_number.ensures ∙ ap₂ (λ ps ks. spec.word_number ps 0 (spec.digits ks)) bounds sorted) in
-    let all = sorted-permutation_apart (λ (b : Bough). b.least) bs c.sort_unstable_by_key.new.self.items c.sort_unstable_by_key.ensures.permutation
-    (c.sort_unstable_by_key.ensures.sorted (λ b. b.least) (answers_always _ _ _ (λ f a r g h. search rules))) (boughs_apart gens g ts bs fits once trees) in
+    let all = sorted-permutation_apart (λ (b : Branch). b.least) bs c.sort_unstable_by_key.new.self.items c.sort_unstable_by_key.ensures.permutation
+    (c.sort_unstable_by_key.ensures.sorted (λ b. b.least) (answers_always _ _ _ (λ f a r g h. search rules))) (branches_apart gens g ts bs fits once trees) in
     c.in_ok-vertex-in-Node.ensures
     ∙ form_vertex gens g ts bs fits once trees _ c.sort_unstable_by_key.new.self.items held parts_fit.1 label all
     ∙ ap (λ u. shuffle_form (over gens) (tree_of u)) (sym c.in-Node.is)

@@ -13,7 +13,7 @@ unreachable-requires c =
     let gens = c.args.table.now in
     let l = c.requires.labelled in
     let tree = c.in_ok-sign.ensures.tree in
-    let small : (k : ℕ) → 0 < occurs k (shuffle_form (over gens) (tree_of c.args.tree.now)) → k < 256 = λ k o. c.in_ok-sign.bough.small k (subst (λ t. 0 < occurs k t) (sym tree) o) in
+    let small : (k : ℕ) → 0 < occurs k (shuffle_form (over gens) (tree_of c.args.tree.now)) → k < 256 = λ k o. c.in_ok-sign.branch.small k (subst (λ t. 0 < occurs k t) (sym tree) o) in
     c.in_default.ensures.none (subst IsValid (sym tree) (form_valid gens l.0 (tree_of c.args.tree.now) l.1 small))
 
 pub returns-clause-form : goal.returns-clause-form

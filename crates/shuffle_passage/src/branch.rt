@@ -7,7 +7,7 @@ use shuffle_trees::Shape;
 
 // A shuffle form with its least leaf, by which it is sorted.
 #[derive(Drop)]
-pub struct Bough {
+pub struct Branch {
     pub least: u8,
     pub tree: Shape,
     ghost least_is: { least ≡ spec.least (tree_of tree) },
