@@ -1,25 +1,24 @@
 -- The arities of the labels of a table.
 use Rattle.std.proofs.Common.{◌≡◌, ℕ, zero, suc, ◌+◌, ◌*◌, ◌<◌, ◌≤◌, List, [], ◌∷◌, ◌++◌, length, map, get_or, replicate, slice_index, Some, refl, sym, ap, ap₂, ◌∙◌, subst, arith}
-use Rattle.std.specs.List.{All, AllByRecursion}
+use Rattle.std.specs.List.{AllByRecursion}
 use Rattle.std.proofs.Math.ListN.{length-map, get_or-map}
 use Rattle.std.proofs.lemmas.List.{map-append}
 use Rattle.std.proofs.lemmas.List.Elements.{All-from_recursion}
 use Rattle.std.proofs.lemmas.List.Elements as elements
-use Rattle.operad_ideals.specs.Parts.{Part, total, parts_of}
 use Rattle.operad_ideals.specs.Presentations.{arity_of}
 use Rattle.shuffle_trees.specs.LabelLists as kinds
 use Rattle.shuffle_trees.specs.LabelLists.{AreFew}
-use Rattle.shuffle_transfer.specs.Labels.{words_of, Letter, letters, letter_at, labels, inputs_of}
-use Rattle.symmetric_trees.specs.Generators.{part_of, parts_at, generators_of, IsTable, IsArity}
+use Rattle.shuffle_transfer.specs.Labels.{words_of, Letter, letters}
+use Rattle.symmetric_trees.specs.Generators.{part_of, generators_of, IsTable, IsArity}
 use Rattle.symmetric_trees.specs.declared.generators.Generator.{Generator}
 use Rattle.symmetric_trees.proofs.Tables.{arity-held, arity-past}
-use Rattle.shuffle_passage.specs.Words.{bounds_of, endings, first_label}
+use Rattle.shuffle_passage.specs.Words.{endings}
 use Rattle.shuffle_passage.specs.WordTables.{bounds_in}
 use Rattle.shuffle_passage.specs.LabelKinds.{kind_in}
 use Rattle.shuffle_passage.specs.Passage.{over, AreLabelsOf}
 use Rattle.shuffle_passage.proofs.WordBounds.{count_words}
 use Rattle.shuffle_passage.proofs.LabelNumbers.{lettered, at_is}
-use Rattle.shuffle_passage.proofs.WordTables.{length-generators, first_label-all, first_label-most, slice_at}
+use Rattle.shuffle_passage.proofs.WordTables.{length-generators, first_label-all, first_label-most}
 
 as_many : (s a : ℕ) (f : ℕ → ℕ) (ws : List (List ℕ)) (n : ℕ) → length ws ≡ n → f s ≡ a → replicate n a ≡ map (λ (x : Letter). f x.gen) (map (lettered s) ws)
 as_many s a f [] zero e h = refl

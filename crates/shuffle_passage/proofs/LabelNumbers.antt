@@ -1,15 +1,15 @@
 -- Labels and their words, by numbers.
-use Rattle.std.proofs.Common.{◌≡◌, inl, inr, ⊎_elim, ℕ, zero, suc, ◌+◌, ◌*◌, ◌-◌, ◌<◌, ◌≤◌, Bool, true, false, cond, List, [], ◌∷◌, ◌++◌, length, map, get_or, refl, sym, ap, ap₂, ◌∙◌, subst, arith, lt-ltb, le-ltb, nat_lt, count_by, length-append}
+use Rattle.std.proofs.Common.{◌≡◌, inl, inr, ⊎_elim, ℕ, zero, suc, ◌+◌, ◌*◌, ◌-◌, ◌<◌, ◌≤◌, Bool, true, false, cond, List, [], ◌∷◌, length, map, get_or, refl, sym, ap, ap₂, ◌∙◌, subst, arith, lt-ltb, le-ltb, nat_lt, count_by, length-append}
 use Rattle.std.proofs.Math.ListN.{length-map, get_or-map, get_or-append}
 use Rattle.std.proofs.lemmas.List.{get_or-append-add, map-id}
 use Rattle.std.proofs.lemmas.List as lists
 use Rattle.std.specs.List.{AllByRecursion}
-use Rattle.modular_sums.specs.Lists.{Mem, Distinct, Rises}
+use Rattle.modular_sums.specs.Lists.{Mem, Rises}
 use Rattle.modular_sums.proofs.Lists.{both_true}
 use Rattle.operad_ideals.specs.Parts.{Part, total, parts_of}
 use Rattle.operad_ideals.specs.Sorting.{sort_parts}
 use Rattle.operad_ideals.specs.Presentations.{Presentation, parts, arity_of}
-use Rattle.operad_ideals.proofs.SortedLists.{Apart, tested, below, below_less, below_more, below_none, every_in, in_itself, every_weaker}
+use Rattle.operad_ideals.proofs.SortedLists.{Apart, tested, below, below_less, below_more, below_none, in_itself}
 use Rattle.operad_ideals.proofs.SortedParts.{map-sort_parts, every_sort_parts}
 use Rattle.operad_ideals.proofs.SameOrder.{sort_parts-order, below-order}
 use Rattle.shuffle_insertions.specs.Listing.{upto}
@@ -26,7 +26,7 @@ use Rattle.shuffle_transfer.proofs.Permutes.{Permutes, done, begin, Picked, now,
 use Rattle.shuffle_transfer.proofs.Ranks.{below_less_mem, ranks_ordering, ordering_apart, items_all}
 use Rattle.shuffle_transfer.proofs.Words.{parts_same, sorted_rises, sorted_ordering}
 use Rattle.shuffle_passage.specs.Words.{bounds_of, first_place, sum_from, endings, word_number, digits, AreDigits, Place, find_place, digits_of, without, chosen, first_label}
-use Rattle.shuffle_passage.proofs.WordLists.{bounded_words, word_number-below, word_at}
+use Rattle.shuffle_passage.proofs.WordLists.{word_number-below, word_at}
 use Rattle.shuffle_passage.proofs.WordBounds.{keeps, parts_keep, length-bounds, words_are, count_words}
 
 -- ---- the letter with a number

@@ -1,11 +1,10 @@
 -- The permutations that `itertools` walks through are the orderings, in their order.
-use Rattle.std.proofs.Common.{◌≡◌, ℕ, zero, suc, ◌+◌, ◌-◌, ◌<◌, ◌≤◌, List, [], ◌∷◌, ◌++◌, length, map, get_or, slice_index_or, refl, sym, ap, ap₂, ◌∙◌, subst, arith, length-append, append_assoc, inl}
+use Rattle.std.proofs.Common.{◌≡◌, ℕ, zero, suc, ◌+◌, ◌-◌, ◌<◌, ◌≤◌, List, [], ◌∷◌, ◌++◌, length, map, get_or, refl, sym, ap, ap₂, ◌∙◌, subst, arith, length-append, append_assoc, inl}
 use mathlib.Core.List.{append-nil}
 use Rattle.modular_sums.specs.Lists.{Mem}
 use Rattle.modular_sums.proofs.Lists.{mem_right}
 use Rattle.std.specs.Prelude.{flat_map}
-use Rattle.std.specs.List.{AllByRecursion, remove}
-use Rattle.std.proofs.Math.ListN.{get_or-map}
+use Rattle.std.specs.List.{AllByRecursion}
 use Rattle.std.proofs.lemmas.List.{map-append}
 use Rattle.std.proofs.lemmas.Simd.{map-map}
 use Rattle.itertools.specs.Odometer.{numbers, ways}

@@ -1,11 +1,9 @@
 -- Relabelled relations.
 use Rattle.std.proofs.Common.{◌≡◌, ℕ, zero, suc, ◌+◌, ◌<◌, ◌≤◌, List, [], ◌∷◌, ◌++◌, length, map, take, get_or, refl, sym, ap, ap₂, ◌∙◌, subst, arith, cond}
 use Rattle.std.proofs.Math.Dec.{eqb-suc-zero}
-use Rattle.std.specs.List.{All}
 use Rattle.std.proofs.Math.ListN.{length-map}
 use Rattle.std.proofs.lemmas.List.{map-append, map_more}
 use Rattle.std.proofs.lemmas.List.Elements.{All-push}
-use Rattle.modular_sums.specs.Sums.{moved}
 use Rattle.labelled_trees.specs.Trees.{Tree, leaf, graft}
 use Rattle.labelled_trees.specs.Insertions.{item}
 use Rattle.labelled_trees.specs.Leaves.{AllLeaves}
@@ -25,7 +23,6 @@ use Rattle.symmetric_sums.specs.Terms.{FitsOver, HaveArity, terms_of}
 use Rattle.symmetric_sums.specs.declared.term.Term.{Term}
 use Rattle.symmetric_sums.specs.Calls.{with_term}
 use Rattle.labelled_trees.specs.declared.Tree as program
-use Rattle.shuffle_passage.specs.RelabelledSums.{RenamedTo}
 
 item-leaves : (v : List ℕ) (i : ℕ) → item (map leaf v) i ≡ leaf (entry v i)
 item-leaves [] i = refl

@@ -1,17 +1,14 @@
 -- Shuffle forms of labelled trees, and the trees of shuffle trees.
 use Rattle.std.proofs.Common.{◌≡◌, ℕ, ◌<◌, ◌≤◌, refl, sym, ap, ◌∙◌, subst, arith, List, ⊎_elim}
 use Rattle.operad_ideals.proofs.SortedLists.{tested}
-use Rattle.labelled_trees.specs.Trees.{Tree, Row, leaf, node, none, more, width}
+use Rattle.labelled_trees.specs.Trees.{Tree, Row, leaf, node, none, more}
 use Rattle.labelled_trees.specs.Leaves.{occurs}
 use Rattle.labelled_trees.specs.Labelled.{Fits, FitsRow}
-use Rattle.labelled_trees.proofs.Numbered.{labelled_once}
-use Rattle.operad_ideals.specs.Parts.{plus}
-use Rattle.operad_ideals.specs.Parts as math
 use Rattle.operad_ideals.specs.Spelling.{IsSorted}
 use Rattle.operad_ideals.specs.Spelling as spelling
 use Rattle.operad_ideals.specs.Sorting.{spelled, spelled_sign}
 use Rattle.operad_ideals.proofs.Spellings.{one_spelling, is_sorted_spelled}
-use Rattle.shuffle_insertions.specs.ShuffleTrees.{IsRising, IsShuffle, IsShuffleTree}
+use Rattle.shuffle_insertions.specs.ShuffleTrees.{IsShuffle, IsShuffleTree}
 use Rattle.shuffle_transfer.specs.Labels.{inputs_of, shuffle_form, symmetric_tree}
 use Rattle.shuffle_transfer.proofs.Forth as passage
 use Rattle.shuffle_transfer.proofs.Spelling.{back_of, occurs_of, spelled_is}

@@ -1,12 +1,12 @@
 -- Vertices on the way there and back.
-use Rattle.std.proofs.Common.{◌≡◌, ℕ, suc, ◌+◌, ◌-◌, ◌<◌, ◌≤◌, List, [], ◌∷◌, length, map, take, get_or, refl, sym, ap, ap₂, ◌∙◌, subst, arith}
-use Rattle.std.specs.List.{AllByRecursion, sum_by}
+use Rattle.std.proofs.Common.{◌≡◌, ℕ, ◌+◌, ◌-◌, ◌<◌, ◌≤◌, List, length, map, get_or, sym, ap, ap₂, ◌∙◌, subst, arith}
+use Rattle.std.specs.List.{sum_by}
 use Rattle.std.proofs.Math.ListN.{length-map}
 use Rattle.std.proofs.lemmas.List.Elements.{All-from_recursion}
 use Rattle.std.proofs.lemmas.List.Sums.{get_or-le-sum_by}
 use Rattle.std.proofs.lemmas.Simd.{map-map}
 use native.Mathlib.Decide.{ℕ_discrete}
-use Rattle.labelled_trees.specs.Trees.{Tree, node, leaf, row}
+use Rattle.labelled_trees.specs.Trees.{Tree, node, row}
 use Rattle.labelled_trees.specs.Leaves.{occurs, one_if}
 use Rattle.labelled_trees.specs.Labelled.{Fits}
 use Rattle.labelled_trees.specs.Insertions.{item}

@@ -1,18 +1,17 @@
 -- The words of a generator are those with its bounds.
-use Rattle.std.proofs.Common.{◌≡◌, inl, inr, ℕ, zero, suc, ◌+◌, ◌<◌, ◌≤◌, Bool, true, false, cond, List, [], ◌∷◌, ◌++◌, length, map, take, drop, get_or, refl, sym, ap, ap₂, ◌∙◌, subst, arith, lt-ltb, le-ltb, replicate, nat_lt, length-append}
+use Rattle.std.proofs.Common.{◌≡◌, inl, inr, ℕ, zero, suc, ◌+◌, ◌<◌, ◌≤◌, Bool, true, false, cond, List, [], ◌∷◌, ◌++◌, length, map, take, drop, refl, sym, ap, ap₂, ◌∙◌, subst, arith, lt-ltb, le-ltb, replicate, nat_lt, length-append}
 use Rattle.std.specs.Prelude.{flat_map}
 use Rattle.std.specs.List.{AllByRecursion}
 use Rattle.modular_sums.specs.Lists.{Mem, Rises}
 use Rattle.operad_ideals.specs.Parts.{Kind, symmetric, skew, free, Part, total}
-use Rattle.operad_ideals.proofs.SortedLists.{every_weaker}
 use Rattle.shuffle_insertions.specs.Listing.{upto}
 use Rattle.shuffle_insertions.proofs.Upto.{upto_rises, upto_mem}
 use Rattle.shuffle_insertions.proofs.Counting.{length-upto}
 use Rattle.shuffle_transfer.specs.Orderings.{Pick, behind, picks, permutations, orderings}
 use Rattle.shuffle_transfer.specs.Labels.{rises, part_rises, parts_rise, rising_words, words_of}
-use Rattle.shuffle_transfer.proofs.Permutes.{Permutes, permutes_length, permutations_mem, picked, rest_rises, Picked, now, later, mem_of_behind}
-use Rattle.shuffle_passage.specs.Words.{is_rising, part_bounds, bounds_of, first_place, endings}
-use Rattle.shuffle_passage.proofs.WordLists.{each_from, bounded_words, Leave, picks_leave, length-picks, length-bounded_words}
+use Rattle.shuffle_transfer.proofs.Permutes.{permutes_length, permutations_mem}
+use Rattle.shuffle_passage.specs.Words.{is_rising, part_bounds, bounds_of, endings}
+use Rattle.shuffle_passage.proofs.WordLists.{each_from, bounded_words, length-bounded_words}
 
 -- whether a word keeps the bounds, where x is the number before it
 abbrev pub keeps : List Bool → ℕ → List ℕ → Bool

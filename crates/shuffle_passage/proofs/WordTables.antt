@@ -4,13 +4,11 @@ use Rattle.std.specs.List.{remove}
 use Rattle.std.proofs.lemmas.List.{take_all}
 use Rattle.std.proofs.Math.ListN.{length-map}
 use Rattle.std.proofs.lemmas.Option.{get_or_from_slice_get}
-use Rattle.operad_ideals.specs.Parts.{Part, parts_of, total}
-use Rattle.operad_ideals.specs.Presentations.{parts, arity_of}
-use Rattle.operad_ideals.specs.Laws.{arity}
-use Rattle.shuffle_transfer.specs.Labels.{letters, labels, gen, words_of}
+use Rattle.operad_ideals.specs.Parts.{Part, parts_of}
+use Rattle.shuffle_transfer.specs.Labels.{letters, gen, words_of}
 use Rattle.symmetric_trees.specs.Generators.{part_of, parts_at, generators_of, IsTable}
 use Rattle.symmetric_trees.specs.declared.generators.Generator.{Generator}
-use Rattle.symmetric_trees.proofs.Tables.{arity-held, arity-bounds, parts_at-held}
+use Rattle.symmetric_trees.proofs.Tables.{arity-held, arity-bounds}
 use Rattle.shuffle_passage.specs.Words.{bounds_of, endings, first_label, sum_from, first_place, find_place, digits_of, without, chosen}
 use Rattle.shuffle_passage.specs.WordTables.{bounds_in, words_from}
 use Rattle.shuffle_passage.specs.Passage.{over}

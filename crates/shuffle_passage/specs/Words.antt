@@ -1,5 +1,5 @@
 -- Words of generators, counted and numbered without a list of them.
-use Rattle.std.specs.Prelude.{ℕ, ◌-◌, ◌+◌, ◌<◌, ◌≤◌, List, [], ◌∷◌, ◌++◌, length, replicate, nat_lt, count_by, if◌then◌else◌}
+use Rattle.std.specs.Prelude.{ℕ, ◌-◌, ◌+◌, ◌≤◌, List, [], ◌∷◌, ◌++◌, length, replicate, nat_lt, count_by}
 use Rattle.std.proofs.Common.{zero, suc, Bool, true, false, cond, get_or}
 use Rattle.operad_ideals.specs.Parts.{Kind, symmetric, skew, free, Part}
 

@@ -1,4 +1,4 @@
-use Rattle.std.proofs.Common.{◌≡◌, ◌∙◌, ℕ, ◌<◌, sym, ap, subst}
+use Rattle.std.proofs.Common.{◌∙◌, ℕ, ◌<◌, sym, subst}
 use Rattle.labelled_trees.specs.Leaves.{occurs}
 use Rattle.labelled_trees.specs.Meaning.{tree_of}
 use Rattle.shuffle_insertions.specs.ShuffleTrees.{IsShuffleTree}

@@ -1,4 +1,4 @@
-use Rattle.std.proofs.Common.{◌≡◌, ◌∙◌, ⊎_elim, ℕ, arith, ◌<◌, ◌∷◌, [], List, subst, map, sym, ap, refl, map-id}
+use Rattle.std.proofs.Common.{◌≡◌, ◌∙◌, ⊎_elim, ℕ, arith, ◌<◌, ◌∷◌, [], List, map, sym, ap, refl, map-id}
 use Rattle.std.proofs.lemmas.Iterator.Consumers.{YieldsList-end}
 use Rattle.std.proofs.lemmas.Iterator.Adapters.{YieldsList-from_vec}
 use Rattle.labelled_trees.specs.Trees.{row, node}

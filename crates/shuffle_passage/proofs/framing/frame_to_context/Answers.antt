@@ -1,11 +1,8 @@
-use Rattle.std.proofs.Common.{◌≡◌, ◌∙◌, map, sym, ap, ap₂, refl}
+use Rattle.std.proofs.Common.{◌∙◌, map, ap, ap₂}
 use Rattle.labelled_trees.specs.Trees.{leaf}
-use Rattle.labelled_trees.specs.Labelled.{Fits}
 use Rattle.labelled_trees.specs.Leaves.{occurs}
-use Rattle.labelled_trees.specs.Meaning.{tree_of}
 use Rattle.operad_ideals.specs.Ideals.{placed}
-use Rattle.shuffle_insertions.specs.Frames.{insert}
-use Rattle.shuffle_transfer.specs.Labels.{inputs_of, symmetric_tree}
+use Rattle.shuffle_transfer.specs.Labels.{symmetric_tree}
 use Rattle.shuffle_transfer.proofs.FramesBack.{frames_back}
 use Rattle.shuffle_passage.specs.Passage.{over}
 use Rattle.shuffle_passage.proofs.framing.frame_to_context.Goals as goal

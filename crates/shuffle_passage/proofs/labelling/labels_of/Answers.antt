@@ -1,13 +1,12 @@
-use Rattle.std.proofs.Common.{◌≡◌, ◌∙◌, ◌+◌, ◌-◌, ◌<◌, ◌≤◌, ◌∷◌, [], ◌++◌, length, map, take, sym, ap, ap₂, arith, subst}
+use Rattle.std.proofs.Common.{◌≡◌, ◌∙◌, ◌+◌, ◌-◌, ◌<◌, ◌∷◌, [], ◌++◌, length, map, take, sym, ap, ap₂, arith, subst}
 use Rattle.std.proofs.lemmas.List.{take_all, map_more}
 use Rattle.std.proofs.lemmas.Result.{IfOk-weaker}
 use Rattle.std.proofs.lemmas.Option.{get_or_from_slice_get}
-use Rattle.symmetric_trees.specs.Generators.{part_of, parts_at, generators_of}
+use Rattle.symmetric_trees.specs.Generators.{parts_at, generators_of}
 use Rattle.symmetric_trees.proofs.Tables.{parts_at-held}
 use Rattle.shuffle_trees.specs.LabelLists as kinds
 use Rattle.shuffle_passage.specs.Words as spec
 use Rattle.shuffle_passage.specs.LabelKinds.{kind_in}
-use Rattle.shuffle_passage.specs.WordTables.{words_from}
 use Rattle.shuffle_passage.specs.Passage.{AreLabelsOf}
 use Rattle.shuffle_passage.proofs.WordTables.{length-words, read_words}
 use Rattle.shuffle_passage.proofs.LabelKinds.{are_labels, few_labels}

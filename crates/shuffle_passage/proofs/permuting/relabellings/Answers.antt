@@ -1,4 +1,4 @@
-use Rattle.std.proofs.Common.{rules, ◌≡◌, ◌∙◌, ◌<◌, ◌++◌, ◌∷◌, [], List, ℕ, length, map, sym, ap, subst, arith}
+use Rattle.std.proofs.Common.{rules, ◌≡◌, ◌∙◌, ◌++◌, ◌∷◌, [], List, ℕ, length, map, sym, ap, subst}
 use Rattle.std.specs.List.{All, AllByRecursion}
 use Rattle.itertools.specs.Pool.{permutation_left}
 use Rattle.std.specs.Vec.{vec_len}

@@ -1,6 +1,6 @@
-use Rattle.std.proofs.Common.{◌≡◌, ◌++◌, ◌<◌, map, length}
+use Rattle.std.proofs.Common.{◌≡◌, ◌++◌, map}
 use Rattle.std.specs.List.{All, AllByRecursion}
-use Rattle.itertools.specs.Pool.{permutation_left, permutation_can}
+use Rattle.itertools.specs.Pool.{permutation_left}
 use Rattle.shuffle_insertions.specs.Listing.{upto}
 use Rattle.shuffle_transfer.specs.Orderings.{orderings}
 use Rattle.shuffle_passage.specs.Words.{chosen}

@@ -1,4 +1,4 @@
-use Rattle.std.proofs.Common.{◌≡◌, ◌∙◌, ◌<◌, ◌≤◌, Ok, Err, length, map, sym, ap, subst, refl, arith}
+use Rattle.std.proofs.Common.{◌∙◌, Err, length, map, ap, subst, refl}
 use Rattle.std.proofs.Math.ListN.{length-map}
 use Rattle.labelled_trees.specs.Meaning.{tree_of}
 use Rattle.labelled_trees.proofs.Numbered.{numbered_of_labelled}

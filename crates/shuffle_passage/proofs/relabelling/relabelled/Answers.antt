@@ -1,5 +1,4 @@
-use Rattle.std.proofs.Common.{◌≡◌, ◌<◌, subst, sym, Some}
-use Rattle.std.proofs.lemmas.Result.{IfOk-weaker}
+use Rattle.std.proofs.Common.{◌≡◌, subst}
 use Rattle.symmetric_sums.specs.Terms.{HaveArity}
 use Rattle.symmetric_sums.proofs.Numberings.{one_arity}
 use Rattle.shuffle_passage.proofs.relabelling.relabelled.Goals as goal

@@ -1,5 +1,4 @@
-use Rattle.std.proofs.Common.{◌≡◌, ◌∙◌, ◌<◌, length, map, get_or, sym, ap, subst, arith}
-use Rattle.labelled_trees.specs.Trees.{leaf}
+use Rattle.std.proofs.Common.{◌∙◌, ◌<◌, length, map, get_or, ap, subst, arith}
 use Rattle.labelled_trees.specs.Meaning.{tree_of}
 use Rattle.shuffle_passage.proofs.RenamedTerms.{renamed-more, fits-push, arity-push}
 use Rattle.shuffle_passage.proofs.relabelling.renamed.Goals as goal

@@ -1,4 +1,4 @@
-use Rattle.std.proofs.Common.{◌≡◌, ◌∙◌, ℕ, List, ◌+◌, ◌-◌, ◌<◌, ◌≤◌, length, map, take, sym, ap, ap₂, arith, subst, rules}
+use Rattle.std.proofs.Common.{◌≡◌, ◌∙◌, ℕ, List, ◌-◌, ◌≤◌, length, map, take, sym, ap, ap₂, arith, subst, rules}
 use Rattle.std.proofs.lemmas.List.{take_all, length-map}
 use Rattle.labelled_trees.specs.Labelled.{Fits}
 use Rattle.labelled_trees.specs.Meaning.{tree_of}

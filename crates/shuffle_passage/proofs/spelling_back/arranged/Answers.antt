@@ -1,4 +1,4 @@
-use Rattle.std.proofs.Common.{◌≡◌, ◌∙◌, ◌+◌, ◌-◌, ◌<◌, ◌≤◌, ℕ, List, [], ◌∷◌, ◌++◌, length, sym, ap, ap₂, arith, refl, take, drop}
+use Rattle.std.proofs.Common.{◌∙◌, ◌-◌, length, ap, arith, refl, take, drop}
 use Rattle.labelled_trees.specs.declared.Tree.TheVariants.{Leaf}
 use Rattle.shuffle_passage.specs.Words as spec
 use Rattle.shuffle_passage.proofs.WordTables.{step, chosen-more}

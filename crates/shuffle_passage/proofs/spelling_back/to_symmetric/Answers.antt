@@ -3,7 +3,6 @@ use Rattle.std.proofs.lemmas.Result.{IfOk-weaker}
 use Rattle.labelled_trees.specs.Meaning.{tree_of}
 use Rattle.operad_ideals.specs.Spelling.{IsSorted}
 use Rattle.shuffle_transfer.specs.Labels.{symmetric_tree}
-use Rattle.shuffle_trees.specs.ValidTrees.{IsValid}
 use Rattle.symmetric_trees.specs.Generators.{parts_at}
 use Rattle.symmetric_trees.specs.Trees.{IsLabelled}
 use Rattle.symmetric_trees.specs.declared.spelling.Sign.TheVariants.{Plus}

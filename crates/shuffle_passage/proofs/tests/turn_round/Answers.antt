@@ -1,4 +1,4 @@
-use Rattle.std.proofs.Common.{◌≡◌, ◌∙◌, ℕ, ◌<◌, ◌≤◌, List, [], ◌∷◌, Some, refl, sym, ap, subst, arith, inl, inr}
+use Rattle.std.proofs.Common.{◌≡◌, ◌∙◌, ℕ, ◌<◌, ◌≤◌, [], ◌∷◌, Some, refl, ap, subst, arith, inl, inr}
 use Rattle.modular_sums.specs.Lists.{Mem}
 use Rattle.shuffle_transfer.specs.Orderings.{IsOrdering}
 use Rattle.symmetric_sums.specs.Terms.{ArityIs}

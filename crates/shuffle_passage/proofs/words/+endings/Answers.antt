@@ -1,4 +1,4 @@
-use Rattle.std.proofs.Common.{◌≡◌, ◌∙◌, ℕ, suc, ◌+◌, ◌*◌, ◌-◌, ◌<◌, ◌≤◌, length, sym, ap, ap₂, arith}
+use Rattle.std.proofs.Common.{◌≡◌, ◌∙◌, suc, ◌+◌, ◌*◌, ◌-◌, sym, ap, ap₂, arith}
 use Rattle.shuffle_passage.specs.Words as spec
 use Rattle.shuffle_passage.proofs.LabelNumbers.{sum_from-most, few_endings, times_mono}
 use Rattle.shuffle_passage.proofs.WordTables.{sum_from-constant, sum_from-next}

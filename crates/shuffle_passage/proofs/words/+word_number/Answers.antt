@@ -1,4 +1,4 @@
-use Rattle.std.proofs.Common.{◌≡◌, ◌∙◌, ◌+◌, ◌-◌, ◌<◌, ◌≤◌, length, rules, take, drop, length-take, length-drop, sym, ap, ap₂, arith}
+use Rattle.std.proofs.Common.{◌≡◌, ◌-◌, ◌≤◌, length, rules, take, drop, length-take, length-drop, arith}
 use Rattle.shuffle_passage.specs.Words as spec
 use Rattle.shuffle_passage.proofs.LabelNumbers.{few_before, sum_from-most, few_endings, times_mono}
 use Rattle.shuffle_passage.proofs.words.+word_number.Goals as goal

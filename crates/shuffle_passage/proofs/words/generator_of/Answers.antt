@@ -1,4 +1,4 @@
-use Rattle.std.proofs.Common.{◌≡◌, ◌∙◌, ◌+◌, ◌-◌, ◌<◌, ◌≤◌, suc, length, sym, ap, arith, subst}
+use Rattle.std.proofs.Common.{◌≡◌, ◌+◌, ◌<◌, suc, length, ap, arith}
 use Rattle.symmetric_trees.specs.Generators.{generators_of, parts_at}
 use Rattle.shuffle_passage.specs.Words as spec
 use Rattle.shuffle_passage.proofs.WordTables.{length-words, length-generators, read_words, first_label-zero, first_label-next, first_label-all, gen_is, bounds_few}

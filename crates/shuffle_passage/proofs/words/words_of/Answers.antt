@@ -1,10 +1,9 @@
-use Rattle.std.proofs.Common.{◌≡◌, ◌∙◌, ◌+◌, ◌*◌, ◌<◌, ◌≤◌, suc, ◌∷◌, [], ◌++◌, length, drop, map, sym, ap, ap₂, arith, append_assoc}
+use Rattle.std.proofs.Common.{◌≡◌, ◌∙◌, ◌+◌, ◌<◌, ◌∷◌, length, drop, map, sym, ap, arith}
 use Rattle.std.proofs.lemmas.List.{drop_more}
 use Rattle.std.proofs.lemmas.Option.{get_or_from_slice_get}
-use Rattle.symmetric_trees.specs.Generators.{part_of, parts_at, generators_of}
+use Rattle.symmetric_trees.specs.Generators.{part_of, parts_at}
 use Rattle.symmetric_trees.proofs.Tables.{parts_at-held}
 use Rattle.shuffle_passage.specs.Words as spec
-use Rattle.shuffle_passage.specs.WordTables.{words_from, bounds_in}
 use Rattle.shuffle_passage.proofs.WordTables.{arity_few, words_few, words-more}
 use Rattle.shuffle_passage.proofs.words.words_of.Goals as goal
 
