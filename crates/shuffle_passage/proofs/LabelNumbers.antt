@@ -25,8 +25,8 @@ use Rattle.shuffle_transfer.proofs.Orderings.{ordering_permutes}
 use Rattle.shuffle_transfer.proofs.Permutes.{Permutes, done, begin, Picked, now, later, pick_mem, rest_rises}
 use Rattle.shuffle_transfer.proofs.Ranks.{below_less_mem, ranks_ordering, ordering_apart, items_all}
 use Rattle.shuffle_transfer.proofs.Words.{parts_same, sorted_rises, sorted_ordering}
-use Rattle.shuffle_passage.specs.Words.{bounds_of, first_place, sum_from, endings, word_number, digits, AreDigits, Place, find_place, digits_of, without, chosen, first_label}
-use Rattle.shuffle_passage.proofs.WordLists.{word_number-below, word_at}
+use Rattle.shuffle_passage.specs.Words.{bounds_of, first_place, sum_from, endings, word_number, digits, Place, find_place, digits_of, without, chosen, first_label}
+use Rattle.shuffle_passage.proofs.WordLists.{AreDigits, word_number-below, word_at}
 use Rattle.shuffle_passage.proofs.WordBounds.{keeps, parts_keep, length-bounds, words_are, count_words}
 
 -- ---- the letter with a number

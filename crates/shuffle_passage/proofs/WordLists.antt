@@ -6,7 +6,14 @@ use Rattle.std.proofs.lemmas.List.{get_or-append-add, get_or-drop}
 use Rattle.std.proofs.lemmas.List as lists
 use Rattle.operad_ideals.proofs.SortedLists.{every_drop}
 use Rattle.shuffle_transfer.specs.Orderings.{Pick, behind, picks}
-use Rattle.shuffle_passage.specs.Words.{first_place, sum_from, endings, word_number, AreDigits, without, chosen}
+use Rattle.shuffle_passage.specs.Words.{first_place, sum_from, endings, word_number, without, chosen}
+
+-- the digits of words with these bounds
+abbrev pub AreDigits : List Bool → ℕ → List ℕ → Type 0
+AreDigits [] below [] = Unit {0}
+AreDigits [] below (d ∷ ds) = ⊥
+AreDigits (b ∷ bs) below [] = ⊥
+AreDigits (b ∷ bs) below (d ∷ ds) = (first_place b below ≤ d) × (d ≤ length bs) × AreDigits bs d ds
 
 -- the words that begin with each pick in turn, where f has the rests by the pick's place and the numbers left
 abbrev pub each_from : (ℕ → List ℕ → List (List ℕ)) → ℕ → List Pick → List (List ℕ)

@@ -5,9 +5,9 @@ use Rattle.labelled_trees.specs.Meaning.{tree_of}
 use Rattle.shuffle_passage.specs.declared.branch.Branch.{Branch}
 
 -- the shuffle forms
-abbrev pub branches_trees : List Branch → List (Tree ℕ)
-branches_trees = map (λ branch. tree_of branch.tree)
+abbrev pub forms_of : List Branch → List (Tree ℕ)
+forms_of = map (λ branch. tree_of branch.tree)
 
 -- their least leaves
-abbrev pub branches_leaves : List Branch → List ℕ
-branches_leaves = map (λ branch. branch.least)
+abbrev pub least_leaves : List Branch → List ℕ
+least_leaves = map (λ branch. branch.least)

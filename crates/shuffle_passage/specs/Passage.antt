@@ -19,7 +19,7 @@ pub record AreLabelsOf (generators : List Generator) (arities : List ℕ) : Type
   pub count : length arities ≡ labels (over generators)
   pub arities_are : (l : ℕ) → arity_in arities l ≡ inputs_of (over generators) l
 
--- s is the shuffle form of the sorted spelling of t, with the sign of that spelling; the way back gives the sorted spelling.
+-- The tree s is the shuffle form of the sorted spelling of t, with the sign of that spelling; the way back gives the sorted spelling.
 pub record IsFormOf (generators : List Generator) (t : Tree ℕ) (sign : Sign) (s : Tree ℕ) : Type 0 where
   pub sorted : Tree ℕ
   pub spelling : IsSpelling generators t sign sorted

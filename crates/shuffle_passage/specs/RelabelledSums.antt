@@ -25,7 +25,7 @@ pub record RenamedTo (generators : List Generator) (n : ℕ) (leaves : List (Tre
   pub tree_is : tree_of last.tree ≡ graft (tree_of term.tree) (item leaves)
   pub labelled : IsLabelled generators n (tree_of last.tree)
 
--- sum is the collected form of the terms in which leaf i became the i-th number of the list
+-- The sum is the collected form of the terms in which leaf i became the i-th number of the list.
 pub record IsRelabelling (p : ℕ) (generators : List Generator) (terms : List Term) (v : List ℕ) (sum : List Term) : Type 0 where
   pub collected : IsCollected p (parts_at generators) (relabelled v (terms_of terms)) (terms_of sum)
   pub residues : HaveResidues p sum

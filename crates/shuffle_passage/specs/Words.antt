@@ -1,5 +1,5 @@
 -- Words of generators, counted and numbered without a list of them.
-use Rattle.std.specs.Prelude.{ℕ, ◌-◌, ◌+◌, ◌≤◌, List, [], ◌∷◌, ◌++◌, length, replicate, nat_lt, count_by}
+use Rattle.std.specs.Prelude.{ℕ, ◌-◌, ◌+◌, List, [], ◌∷◌, ◌++◌, length, replicate, nat_lt, count_by}
 use Rattle.std.proofs.Common.{zero, suc, Bool, true, false, cond, get_or}
 use Rattle.operad_ideals.specs.Parts.{Kind, symmetric, skew, free, Part}
 
@@ -14,7 +14,7 @@ abbrev pub part_bounds : Kind → ℕ → List Bool
 part_bounds kind zero = []
 part_bounds kind (suc n) = false ∷ replicate n (is_rising kind)
 
--- the same for each place of a generator
+-- for each place of a generator, whether its number must be above the one before it
 abbrev pub bounds_of : List Part → List Bool
 bounds_of [] = []
 bounds_of (p ∷ ps) = part_bounds p.kind p.size ++ bounds_of ps
@@ -23,7 +23,7 @@ bounds_of (p ∷ ps) = part_bounds p.kind p.size ++ bounds_of ps
 abbrev pub first_place : Bool → ℕ → ℕ
 first_place bound below = cond bound below 0
 
--- f a + f (a + 1) + .., so many terms
+-- the sum of so many values of f, from f a on
 abbrev pub sum_from : (ℕ → ℕ) → ℕ → ℕ → ℕ
 sum_from f a zero = 0
 sum_from f a (suc n) = f a + sum_from f (suc a) n
@@ -43,13 +43,6 @@ abbrev pub word_number : List Bool → ℕ → List ℕ → ℕ
 word_number [] below ds = 0
 word_number (b ∷ bs) below [] = 0
 word_number (b ∷ bs) below (d ∷ ds) = sum_from (endings bs) (first_place b below) (d - first_place b below) + word_number bs d ds
-
--- the digits of words with these bounds
-abbrev pub AreDigits : List Bool → ℕ → List ℕ → Type 0
-AreDigits [] below [] = Unit {0}
-AreDigits [] below (d ∷ ds) = ⊥
-AreDigits (b ∷ bs) below [] = ⊥
-AreDigits (b ∷ bs) below (d ∷ ds) = (first_place b below ≤ d) × (d ≤ length bs) × AreDigits bs d ds
 
 -- a place, and what is left of a number
 pub record Place : Type 0 where

@@ -10,7 +10,7 @@ ghost use Rattle.symmetric_trees.specs.Spelling.{meaning_of};
 ghost use Rattle.symmetric_trees.specs.Trees.{Fits, IsLabelled};
 ghost use Rattle.shuffle_passage.specs.WordTables.{words_from};
 ghost use Rattle.shuffle_passage.specs.Passage.{IsFormOf, OneShuffleForm, over};
-ghost use Rattle.shuffle_passage.specs.Branches.{branches_trees};
+ghost use Rattle.shuffle_passage.specs.Branches.{forms_of};
 
 use crate::branch::Branch;
 use crate::parts::sort_parts;
@@ -22,7 +22,7 @@ use symmetric_trees::{GenTable, Sign, Tree};
 
 // The least leaf of the first branch; 0 where there is none.
 fn first_least(branches: &[Branch]) -> u8
-    ensures { result ≡ least_row (row (branches_trees branches.now)) }
+    ensures { result ≡ least_row (row (forms_of branches.now)) }
 {
     match branches {
         [first, ..] => first.least,
@@ -32,7 +32,7 @@ fn first_least(branches: &[Branch]) -> u8
 
 // The vertex over the branches, of which the first has the least leaf.
 fn vertex(alloc: Global, label: u16, branches: Vec<Branch>) -> Result<Branch, AllocError>
-    ensures { IfOk result (λ branch. tree_of branch.tree ≡ node label (row (branches_trees branches.items))) }
+    ensures { IfOk result (λ branch. tree_of branch.tree ≡ node label (row (forms_of branches.items))) }
 {
     let least = first_least(branches.as_slice());
     let mut inputs = Items::new(alloc);

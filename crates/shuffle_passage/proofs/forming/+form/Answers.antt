@@ -25,7 +25,7 @@ use Rattle.symmetric_trees.specs.Trees.{Fits}
 use Rattle.symmetric_trees.specs.declared.generators.Part.{Part}
 use Rattle.symmetric_trees.proofs.Tables.{parts_at-held, sizes-held, held_if_wide}
 use Rattle.shuffle_passage.specs.Words as spec
-use Rattle.shuffle_passage.specs.Branches.{branches_trees, branches_leaves}
+use Rattle.shuffle_passage.specs.Branches.{forms_of, least_leaves}
 use Rattle.shuffle_passage.specs.Passage.{over}
 use Rattle.shuffle_passage.specs.declared.branch.Branch.{Branch}
 use Rattle.shuffle_passage.proofs.WordTables.{length-words, read_words, bounds_few, first_label-most}
@@ -50,7 +50,7 @@ get-requires t c =
     record { held = held_if_wide c.args.table.now c.in-Node.generator fits.0 }
 
 all_trees : (form : program.Tree → Rattle.labelled_trees.specs.Trees.Tree ℕ) (items ts : List program.Tree) (i : ℕ) (bs : List Branch) → length items ≤ i → items ≡ ts
-    → branches_trees bs ≡ map form (take i items) → branches_trees bs ≡ map form ts
+    → forms_of bs ≡ map form (take i items) → forms_of bs ≡ map form ts
 all_trees form items ts i bs l e is = is ∙ ap (map form) (take_all i items l ∙ e)
 
 -- what the list holds after the slice was sorted
@@ -131,10 +131,10 @@ word_number-requires-clause-same t c =
     let own = read_words gens c.args.words.now g c.index-words-generator.result c.requires.words held c.index-words-generator.is in
     let bounds : c.as_slice.result.now ≡ spec.bounds_of (parts_at gens g) = c.as_slice.ensures ∙ ap (λ w. w.bounds) own in
     let parts : parts_at gens g ≡ map part_of c.as_slice-parts.result.now = parts_at-held gens g c.get.result.now c.get.ensures.found ∙ ap (map part_of) (sym c.as_slice-parts.ensures) in
-    let sorted : c.as_slice-in-Node.result.now ≡ plain.sort_parts (λ n. n) (parts_at gens g) (branches_leaves bs) =
+    let sorted : c.as_slice-in-Node.result.now ≡ plain.sort_parts (λ n. n) (parts_at gens g) (least_leaves bs) =
     c.as_slice-in-Node.ensures.value ∙ sorted_is c.loop-input.word.items c.as_mut_slice.result.now c.sort_parts.new.numbers (map part_of c.as_slice-parts.result.now) c.loop-input.word.len c.as_mut_slice.ensures.value c.loop-input.word.ok.0 c.sort_parts.ensures.order
     ∙ ap₂ (λ ps ks. plain.sort_parts (λ n. n) ps ks) (sym parts) c.loop-input.invariant.keys in
-    ap length sorted ∙ length-sort_parts (λ n. n) (parts_at gens g) (branches_leaves bs) ∙ length-map bs (λ (b : Branch). b.least) ∙ count ∙ sym (length-bounds (parts_at gens g)) ∙ ap length (sym bounds)
+    ap length sorted ∙ length-sort_parts (λ n. n) (parts_at gens g) (least_leaves bs) ∙ length-map bs (λ (b : Branch). b.least) ∙ count ∙ sym (length-bounds (parts_at gens g)) ∙ ap length (sym bounds)
 
 pub overflow_add-label : goal.overflow_add-label
 overflow_add-label t c =
@@ -152,12 +152,12 @@ overflow_add-label t c =
     let own = read_words gens c.args.words.now g c.index-words-generator.result c.requires.words held c.index-words-generator.is in
     let bounds : c.as_slice.result.now ≡ spec.bounds_of (parts_at gens g) = c.as_slice.ensures ∙ ap (λ w. w.bounds) own in
     let parts : parts_at gens g ≡ map part_of c.as_slice-parts.result.now = parts_at-held gens g c.get.result.now c.get.ensures.found ∙ ap (map part_of) (sym c.as_slice-parts.ensures) in
-    let sorted : c.as_slice-in-Node.result.now ≡ plain.sort_parts (λ n. n) (parts_at gens g) (branches_leaves bs) =
+    let sorted : c.as_slice-in-Node.result.now ≡ plain.sort_parts (λ n. n) (parts_at gens g) (least_leaves bs) =
     c.as_slice-in-Node.ensures.value ∙ sorted_is c.loop-input.word.items c.as_mut_slice.result.now c.sort_parts.new.numbers (map part_of c.as_slice-parts.result.now) c.loop-input.word.len c.as_mut_slice.ensures.value c.loop-input.word.ok.0 c.sort_parts.ensures.order
     ∙ ap₂ (λ ps ks. plain.sort_parts (λ n. n) ps ks) (sym parts) c.loop-input.invariant.keys in
     let few = bounds_few gens g c.get.ensures.table held in
     let size : length c.as_slice-in-Node.result.now ≡ length c.as_slice.result.now =
-    ap length sorted ∙ length-sort_parts (λ n. n) (parts_at gens g) (branches_leaves bs) ∙ length-map bs (λ (b : Branch). b.least) ∙ count ∙ sym (length-bounds (parts_at gens g)) ∙ ap length (sym bounds) in
+    ap length sorted ∙ length-sort_parts (λ n. n) (parts_at gens g) (least_leaves bs) ∙ length-map bs (λ (b : Branch). b.least) ∙ count ∙ sym (length-bounds (parts_at gens g)) ∙ ap length (sym bounds) in
     let before = few_before c.as_slice.result.now 0 c.as_slice-in-Node.result.now size (omega (arith, ap length bounds, few)) in
     let first : c.index-words-generator.result.first ≡ spec.first_label (generators_of gens) g = ap (λ w. w.first) own in
     let most = first_label-most gens g c.get.ensures.table (omega (arith, held)) in
@@ -205,7 +205,7 @@ returns-in_ok-vertex-in-Node-clause-tree t c =
     let own = read_words gens c.args.words.now g c.index-words-generator.result c.requires.words held c.index-words-generator.is in
     let bounds : c.as_slice.result.now ≡ spec.bounds_of (parts_at gens g) = c.as_slice.ensures ∙ ap (λ w. w.bounds) own in
     let parts : parts_at gens g ≡ map part_of c.as_slice-parts.result.now = parts_at-held gens g c.get.result.now c.get.ensures.found ∙ ap (map part_of) (sym c.as_slice-parts.ensures) in
-    let sorted : c.as_slice-in-Node.result.now ≡ plain.sort_parts (λ n. n) (parts_at gens g) (branches_leaves bs) =
+    let sorted : c.as_slice-in-Node.result.now ≡ plain.sort_parts (λ n. n) (parts_at gens g) (least_leaves bs) =
     c.as_slice-in-Node.ensures.value ∙ sorted_is c.loop-input.word.items c.as_mut_slice.result.now c.sort_parts.new.numbers (map part_of c.as_slice-parts.result.now) c.loop-input.word.len c.as_mut_slice.ensures.value c.loop-input.word.ok.0 c.sort_parts.ensures.order
     ∙ ap₂ (λ ps ks. plain.sort_parts (λ n. n) ps ks) (sym parts) c.loop-input.invariant.keys in
     let first : c.index-words-generator.result.first ≡ spec.first_label (generators_of gens) g = ap (λ w. w.first) own in
