@@ -1,0 +1,12 @@
+pub mod WordLists
+pub mod WordBounds
+pub mod LabelNumbers
+pub mod WordTables
+pub mod Vertices
+pub mod LabelKinds
+pub mod FormVertices
+pub mod ThereAndBack
+pub mod Transfer
+pub mod RenamedTerms
+pub mod PermutedLists
+pub mod Examples

@@ -1,0 +1,85 @@
+-- The transfer theorem for what is answered.
+use Rattle.std.proofs.Common.{◌≡◌, ℕ, suc, ◌*◌, ◌-◌, ◌%◌, List, [], ◌∷◌, refl, sym, ap, ap₂, ◌∙◌, subst, arith, inl, inr}
+use Rattle.std.specs.List.{AllByRecursion}
+use Rattle.std.proofs.lemmas.List.Elements.{recursion_from_All}
+use Rattle.modular_sums.specs.Lists.{Mem}
+use Rattle.modular_sums.proofs.Lists.{mem_of_map}
+use Rattle.modular_sums.specs.Sums.{Same, moved, AllTerms, coef}
+use Rattle.modular_sums.proofs.Sums.{Member-same}
+use Rattle.modular_sums.proofs.Images.{Same-moved}
+use Rattle.modular_sums.proofs.Links.{member_one, member_through}
+use Rattle.labelled_trees.specs.Trees.{Tree}
+use Rattle.labelled_trees.specs.Equality.{tree_discrete}
+use Rattle.operad_ideals.specs.Spelling.{IsSorted}
+use Rattle.operad_ideals.specs.Sorting.{spelled_sign}
+use Rattle.operad_ideals.specs.SpelledSums.{spelled_sum}
+use Rattle.operad_ideals.specs.Presentations.{Relation, Presentation, residue_of, parts, arity_of, IsSound}
+use Rattle.operad_ideals.proofs.Spellings.{sorted_spelling}
+use Rattle.shuffle_insertions.specs.Frames.{insert}
+use Rattle.shuffle_transfer.specs.Labels.{shuffle_form}
+use Rattle.shuffle_transfer.specs.Transfer.{relabelled, shuffled, RelationInsertion, inserted_relation}
+use Rattle.shuffle_transfer.proofs.Forth.{spelling}
+use Rattle.shuffle_transfer.proofs.TransferLaw.{transfer_law, labelled-relabelled}
+use Rattle.symmetric_sums.specs.Collected.{IsCollected}
+use Rattle.symmetric_sums.specs.Membership.{relation_of, presentation_of, IsElement}
+use Rattle.symmetric_sums.specs.Terms.{terms_of}
+use Rattle.symmetric_sums.specs.declared.term.Term.{Term}
+use Rattle.shuffle_passage.specs.Transfer.{AreRelabellings, inserted_answer, TransferOfAnswers}
+
+module _ (p : Presentation) where
+  -- the shuffle form of an element is that of its sorted spellings
+  spelled_forms : (n : ℕ) (e : List (ℕ × Tree ℕ)) → AllTerms e (Rattle.labelled_trees.specs.Labelled.IsLabelled (arity_of p) n) → shuffled p e ≡ moved (shuffle_form p) (spelled_sum p.q (parts p) e)
+  spelled_forms n [] h = refl
+  spelled_forms n (x ∷ e) h = ap₂ (λ (y : Tree ℕ) (l : List (ℕ × Tree ℕ)). (x.0 * residue_of p.q (spelled_sign (parts p) x.1), y) ∷ l) (sym (spelling p n x.1 h.0).1) (spelled_forms n e h.1)
+
+  -- sorted trees keep their signs
+  sorted_forms : (f : List (ℕ × Tree ℕ)) → AllByRecursion (λ (x : ℕ × Tree ℕ). IsSorted (parts p) x.1) f → shuffled p f ≡ moved (shuffle_form p) f
+  sorted_forms [] h = refl
+  sorted_forms (x ∷ f) h =
+      let one : x.0 * residue_of p.q (spelled_sign (parts p) x.1) ≡ x.0 = ap (λ s. x.0 * residue_of p.q s) (sorted_spelling (parts p) x.1 h.0).1 ∙ omega arith in
+      ap₂ (λ (c : ℕ) (l : List (ℕ × Tree ℕ)). (c, shuffle_form p x.1) ∷ l) one (sorted_forms f h.1)
+
+-- an element and its collected form have the same shuffle form
+collected_form : (p : Presentation) (q n : ℕ) (e f : List (ℕ × Tree ℕ)) → p.q ≡ q - 1 → AllTerms e (Rattle.labelled_trees.specs.Labelled.IsLabelled (arity_of p) n) → IsCollected q (parts p) e f
+    → Same tree_discrete p.q (shuffled p f) (shuffled p e)
+collected_form p q n e f z h c =
+    let sorted = recursion_from_All (λ (x : ℕ × Tree ℕ). IsSorted (parts p) x.1) f c.reduced.sorted in
+    let same : Same tree_discrete p.q f (spelled_sum p.q (parts p) e) = subst (λ m. Same tree_discrete m f (spelled_sum m (parts p) e)) (sym z) c.same in
+    λ t. ap (λ l. coef tree_discrete l t % suc p.q) (sorted_forms p f sorted)
+    ∙ Same-moved tree_discrete tree_discrete p.q (shuffle_form p) f (spelled_sum p.q (parts p) e) same t
+    ∙ ap (λ l. coef tree_discrete l t % suc p.q) (sym (spelled_forms p n e h))
+
+pub transfer_of_answers : TransferOfAnswers
+transfer_of_answers q gens rels n e f answer sound h c answers = (
+  λ m. Member-same tree_discrete (inserted_answer p n answer) p.q {e = shuffled p f} {f = shuffled p e} (collected_form p q n e f refl h c)
+      (member_through tree_discrete p.q (inserted_relation p n) (inserted_answer p n answer)
+      (λ i. Member-same tree_discrete (inserted_answer p n answer) p.q {e = inserted_relation p n i} {f = inserted_answer p n answer i} (λ t. sym (values i t)) (member_one tree_discrete (inserted_answer p n answer) p.q i))
+      (shuffled p e) ((transfer_law p n e is_sound h).0 m)),
+  λ m. (transfer_law p n e is_sound h).1 (Member-same tree_discrete (inserted_relation p n) p.q {e = shuffled p e} {f = shuffled p f} (λ t. sym (collected_form p q n e f refl h c t))
+      (member_through tree_discrete p.q (inserted_answer p n answer) (inserted_relation p n)
+      (λ i. Member-same tree_discrete (inserted_relation p n) p.q {e = inserted_answer p n answer i} {f = inserted_relation p n i} (values i) (member_one tree_discrete (inserted_relation p n) p.q i))
+      (shuffled p f) m)),
+)
+  where
+    p : Presentation
+    p = presentation_of q gens rels
+
+    each : (rels : List (List Term)) → AllByRecursion (λ rel. IsElement gens (terms_of rel)) rels → (rel : List Term) → Mem rel rels → IsElement gens (terms_of rel)
+    each [] h rel m = absurd m
+    each (x ∷ xs) h rel (inl e) = subst (λ r. IsElement gens (terms_of r)) (sym e) h.0
+    each (x ∷ xs) h rel (inr m) = each xs h.1 rel m
+
+    is_sound : IsSound (presentation_of q gens rels)
+    is_sound r m =
+        let k = mem_of_map relation_of r rels m in
+        subst (λ (s : Relation). AllTerms s.terms (Rattle.labelled_trees.specs.Labelled.IsLabelled (arity_of (presentation_of q gens rels)) s.arity)) (sym k.2)
+        (each rels (recursion_from_All (λ rel. IsElement gens (terms_of rel)) rels sound) k.0 k.1)
+
+    values : (i : RelationInsertion (presentation_of q gens rels) n) → Same tree_discrete (q - 1) (inserted_answer (presentation_of q gens rels) n answer i) (inserted_relation (presentation_of q gens rels) n i)
+    values i =
+        let k = mem_of_map relation_of i.relation rels i.there in
+        let own : AreRelabellings q gens i.relation (answer i.relation) = subst (λ (s : Relation). AreRelabellings q gens s (answer s)) (sym k.2) (answers k.0 k.1) in
+        Same-moved tree_discrete tree_discrete (q - 1) (insert i.frame) (shuffled p (answer i.relation i.permutation)) (shuffled p (relabelled i.permutation i.relation.terms))
+        (collected_form p q i.relation.arity (relabelled i.permutation i.relation.terms) (answer i.relation i.permutation) refl
+        (labelled-relabelled (arity_of p) i.relation.arity i.permutation i.permutes i.relation.terms (is_sound i.relation i.there))
+        (own i.permutation i.permutes))

@@ -1,0 +1,66 @@
+use Rattle.std.proofs.Common.{◌≡◌, ◌∙◌, ◌+◌, ◌-◌, ◌≤◌, ◌<◌, ◌∷◌, ℕ, List, sym, ap, arith, map, drop, take, length, get_or, subst, refl, length-drop}
+use Rattle.std.proofs.lemmas.List.{drop_more, map-id}
+use Rattle.operad_ideals.specs.Parts.{times}
+use Rattle.operad_ideals.specs.Sorting.{part_sign, parts_sign}
+use Rattle.std.proofs.lemmas.List.Sums.{sum_by_more, sum_by-take-le}
+use Rattle.std.specs.List.{sum_by}
+use Rattle.operad_ideals.proofs.SortedLists.{Apart, apart-take, apart-drop, apart-at, apart-from_at}
+use Rattle.operad_ideals.proofs.SortedParts.{length-sort_part}
+use Rattle.symmetric_trees.specs.Generators.{kind_of, part_of}
+use Rattle.symmetric_trees.specs.Spelling.{meaning_of}
+use Rattle.symmetric_trees.specs.declared.generators.Part.{Part}
+use Rattle.symmetric_trees.specs.declared.generators.PartKind.TheVariants.{Sym}
+use Rattle.symmetric_trees.proofs.SpellingSteps.{length-taken, rest-more, order-more, sign-more}
+use Rattle.shuffle_passage.proofs.parts.sort_parts.Goals as goal
+
+within : (parts : List Part) (i from len : ℕ) → i < length parts → from ≡ sum_by (λ (part : Part). part.size) (take i parts) → sum_by (λ (part : Part). part.size) parts ≡ len
+    → from + (get_or parts i (record { kind = Sym; size = 0 })).size ≤ len
+within parts i from len l place all =
+    let more = sum_by_more (λ (part : Part). part.size) parts i (record { kind = Sym; size = 0 }) l in
+    let least = sum_by-take-le (λ (part : Part). part.size) parts (i + 1) in
+    omega (arith, more, least, place, all)
+
+apart_part : (old cur : List ℕ) (from k : ℕ) → Apart (λ n. n) old → drop from cur ≡ drop from old → Apart (λ n. n) (take k (drop from cur))
+apart_part old cur from k apart same =
+    apart-take (λ n. n) k (drop from cur) (subst (Apart (λ n. n)) (sym same) (apart-drop (λ n. n) from old apart))
+
+pub slice_bounds-sort_part-end : goal.slice_bounds-sort_part-end
+slice_bounds-sort_part-end c =
+    let fits = within c.args.parts.now c.loop-part.part-index c.loop-part.from (length c.args.numbers.now) c.loop-part-test.true c.loop-part.invariant.place c.requires.sizes in
+    omega (arith, fits, c.loop-part.auto.numbers)
+
+pub sort_part-requires : goal.sort_part-requires
+sort_part-requires c =
+    let apart = apart-from_at (λ n. n) c.args.numbers.now c.requires.apart in
+    apart-at (λ n. n) _ (apart_part c.args.numbers.now c.loop-part.numbers c.loop-part.from _ apart c.loop-part.invariant.rest)
+
+pub loop-part-preserved : goal.loop-part-preserved
+loop-part-preserved c =
+    let parts = c.args.parts.now in
+    let i = c.loop-part.part-index in
+    let part : Part = get_or parts i (record { kind = Sym; size = 0 }) in
+    let cur = c.loop-part.numbers in
+    let old = c.args.numbers.now in
+    let from = c.loop-part.from in
+    let new = c.sort_part.new.numbers in
+    let k = from + part.size - from in
+    let e : k ≡ part.size = omega arith in
+    let fits : from + part.size ≤ length cur =
+    omega (arith, within parts i from (length old) c.loop-part-test.true c.loop-part.invariant.place c.requires.sizes, c.loop-part.auto.numbers) in
+    let first : map part_of (drop i parts) ≡ part_of part ∷ map part_of (drop (i + 1) parts) = ap (map part_of) (drop_more parts i (record { kind = Sym; size = 0 }) c.loop-part-test.true) in
+    let len : length new ≡ part.size =
+    ap length c.sort_part.ensures.order ∙ length-sort_part (λ n. n) (kind_of part.kind) (take k (drop from cur))
+    ∙ length-taken k part.size (drop from cur) e (let d = length-drop from cur in omega (arith, d, fits)) in
+    let rest = map part_of (drop (i + 1) parts) in
+    let after = meaning_of c.times-sign.result in
+    record {
+      place = let more = sum_by_more (λ (p : Part). p.size) parts i (record { kind = Sym; size = 0 }) c.loop-part-test.true in omega (arith, more, c.loop-part.invariant.place);
+      rest = rest-more cur old new from part.size k e fits len c.loop-part.invariant.rest;
+      order = order-more (λ n. n) (map part_of (drop i parts)) (map part_of (drop (i + 1) parts)) (part_of part) cur old new _ from part.size k first refl e fits
+          c.loop-part.invariant.rest c.sort_part.ensures.order c.loop-part.invariant.order;
+      sign = ap (λ ks. times after (parts_sign rest ks)) (sym (map-id (drop (from + part.size) old)))
+          ∙ sign-more (λ (n : ℕ). n) (map part_of (drop i parts)) rest (part_of part) cur old (meaning_of c.loop-part.sign) after _ _ from part.size k first refl e
+          c.loop-part.invariant.rest c.times-sign.ensures.product
+          (c.sort_part.ensures.sign ∙ ap (part_sign (kind_of part.kind)) (sym (map-id (take k (drop from cur)))))
+          (ap (λ ks. times (meaning_of c.loop-part.sign) (parts_sign (map part_of (drop i parts)) ks)) (map-id (drop from old)) ∙ c.loop-part.invariant.sign);
+    }
