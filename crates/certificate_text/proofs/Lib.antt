@@ -1,0 +1,15 @@
+pub mod ReadingStops
+pub mod UseReading
+pub mod BlockReading
+pub mod SaidSums
+pub mod UseTexts
+pub mod TailLines
+pub mod TokensRead
+pub mod UsesAccepted
+pub mod BlocksAccepted
+pub mod BlocksRead
+pub mod WritableBlocks
+pub mod ReadyBlocks
+pub mod PrintedUses
+pub mod PrintedLines
+pub mod PresentationLaws

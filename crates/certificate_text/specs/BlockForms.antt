@@ -10,13 +10,13 @@ use Rattle.presentation_text.specs.declared.kinds.DocKind.TheVariants.{Directive
 use Rattle.presentation_text.specs.declared.lexing.Token.{Token}
 use Rattle.presentation_text.specs.declared.lexing.Token.TheVariants.{Word, Number, Long, Byte, Bad}
 use Rattle.presentation_text.specs.DocumentForms.{LineFault}
-use Rattle.presentation_text.specs.ElementForms.{begins_with, behind_one, element_in}
+use Rattle.presentation_text.specs.ElementForms.{behind_one, element_in}
 use Rattle.presentation_text.specs.Elements.{said}
 use Rattle.presentation_text.specs.LineForms.{is, is_unknown, known}
 use Rattle.presentation_text.specs.Lines.{counts, lines}
 use Rattle.presentation_text.specs.Readings.{Fault, Reading, ◌>>=◌, first_row, misfit, mark_in, end_in, number_in, word_in}
 use Rattle.presentation_text.specs.Tokens.{tokens}
-use Rattle.presentation_text.specs.TreeForms.{any_arity, demands_of, whole_tree_in}
+use Rattle.presentation_text.specs.TreeForms.{begins_with, any_arity, demands_of, whole_tree_in}
 use Rattle.certificate_text.specs.Plain.{PlainUse, PlainStep, PlainBlock}
 use Rattle.certificate_text.specs.UseText.{signed_residue, cited_rule}
 
@@ -144,20 +144,24 @@ unless_word number None next = next
 unless_word number (Some kind) next = Err (number, kind)
 
 -- what the blocks are read over: a version, a prime and generators
-pub record Ground : Type 0 where
+pub record Base : Type 0 where
   pub version : ℕ
   pub p : ℕ
   pub generators : List Generator
 
-abbrev pub begun_tail_line : Ground → Follow → ℕ → Token → List Token → Result Follow LineFault
-begun_tail_line ground now number (Word w) rest =
-    unless_word number (tail_word_fault ground.version now.0 w) (refused_at number (rest_of_tail_line ground.p ground.generators now.0 now.1 w rest))
-begun_tail_line ground now number token rest = Err (number, Directive)
+-- a line that begins with a word
+unfoldable pub word_line : Base → Follow → ℕ → List ℕ → List Token → Result Follow LineFault
+word_line base now number w rest =
+    unless_word number (tail_word_fault base.version now.0 w) (refused_at number (rest_of_tail_line base.p base.generators now.0 now.1 w rest))
+
+abbrev pub begun_tail_line : Base → Follow → ℕ → Token → List Token → Result Follow LineFault
+begun_tail_line base now number (Word w) rest = word_line base now number w rest
+begun_tail_line base now number token rest = Err (number, Directive)
 
 -- a line that counts, by its number and its tokens
-unfoldable pub tail_line : Ground → Follow → ℕ → List Token → Result Follow LineFault
-tail_line ground now number [] = Err (number, Directive)
-tail_line ground now number (token ∷ rest) = begun_tail_line ground now number token rest
+abbrev pub tail_line : Base → Follow → ℕ → List Token → Result Follow LineFault
+tail_line base now number [] = Err (number, Directive)
+tail_line base now number (token ∷ rest) = begun_tail_line base now number token rest
 
 -- ---- all lines
 
@@ -172,17 +176,17 @@ unless_refused on (Ok next) = on next
 unless_refused on (Err fault) = Err fault
 
 -- the lines of a tail from one on, by its number; lines that don't count are passed over
-unfoldable pub blocks_from : Ground → Follow → ℕ → List (List ℕ) → Result (List PlainBlock) LineFault
-blocks_from ground now number [] = at_end now.0 now.1 number
-blocks_from ground now number (line ∷ others) =
-    if counts line then unless_refused (λ next. blocks_from ground next (suc number) others) (tail_line ground now number (tokens line))
-    else blocks_from ground now (suc number) others
+unfoldable pub blocks_from : Base → Follow → ℕ → List (List ℕ) → Result (List PlainBlock) LineFault
+blocks_from base now number [] = at_end now.0 now.1 number
+blocks_from base now number (line ∷ others) =
+    if counts line then unless_refused (λ next. blocks_from base next (suc number) others) (tail_line base now number (tokens line))
+    else blocks_from base now (suc number) others
 
 -- what a document's blocks are read over
-abbrev pub ground_of : Document → Ground
-ground_of document = record { version = document.version; p = document.field; generators = document.gens }
+abbrev pub base_of : Document → Base
+base_of document = record { version = document.version; p = document.field; generators = document.gens }
 
 -- the blocks of a text behind its document, or the first fault; no tail has no blocks
 abbrev pub read_tail : List ℕ → Document → Option Tail → Result (List PlainBlock) LineFault
 read_tail bytes document None = Ok []
-read_tail bytes document (Some tail) = blocks_from (ground_of document) (between, []) tail.line (lines (drop tail.from bytes))
+read_tail bytes document (Some tail) = blocks_from (base_of document) (between, []) tail.line (lines (drop tail.from bytes))

@@ -2,11 +2,11 @@
 use Rattle.std.specs.Prelude.{ℕ, ◌≡◌, ◌↔◌, List, [], map, Ok}
 use Rattle.symmetric_trees.specs.Generators.{IsTable}
 use Rattle.presentation_text.specs.Grammar.{counted_tokens}
-use Rattle.certificate_text.specs.BlockForms.{Ground, between, blocks_from}
+use Rattle.certificate_text.specs.BlockForms.{Base, between, blocks_from}
 use Rattle.certificate_text.specs.BlockText.{AreBlockLines}
 use Rattle.certificate_text.specs.Plain.{PlainBlock}
 
 -- Reading accepts the lines of a tail exactly where those of them that count are the lines of blocks, and gives what these say.
 abbrev pub BlocksAreAccepted : Type 0
-BlocksAreAccepted = (ground : Ground) → IsTable ground.generators → (number : ℕ) (lines : List (List ℕ)) (blocks : List PlainBlock)
-    → (blocks_from ground (between, []) number lines ≡ Ok blocks) ↔ AreBlockLines ground.p ground.generators (counted_tokens lines) blocks
+BlocksAreAccepted = (base : Base) → IsTable base.generators → (number : ℕ) (lines : List (List ℕ)) (blocks : List PlainBlock)
+    → (blocks_from base (between, []) number lines ≡ Ok blocks) ↔ AreBlockLines base.p base.generators (counted_tokens lines) blocks

@@ -2,9 +2,12 @@
 use Rattle.std.specs.Prelude.{◌≡◌, List, map, Result, Ok, Err}
 use Rattle.presentation_text.specs.declared.kinds.PartFail.{PartFail}
 use Rattle.presentation_text.specs.declared.lexing.Token.{Token}
+use Rattle.presentation_text.specs.DocumentForms.{LineFault}
 use Rattle.presentation_text.specs.Readings.{Fault, StopsAs}
 use Rattle.certificate_text.specs.BlockForms as plain
 use Rattle.certificate_text.specs.Plain.{plain_block, plain_step}
+use Rattle.certificate_text.specs.declared.cert_fail.ReadCertFail.{ReadCertFail}
+use Rattle.certificate_text.specs.declared.cert_fail.ReadCertFail.TheVariants.{At, NoMemory}
 use Rattle.certificate_text.specs.declared.places.Progress.{Progress}
 use Rattle.certificate_text.specs.declared.places.Place.{Place}
 use Rattle.certificate_text.specs.declared.places.Place.TheVariants.{Between, InBlock, InStep}
@@ -22,3 +25,8 @@ follow_of now = (place_of now.place, map plain_block now.blocks)
 abbrev pub GivesFollow : List Token → Result plain.Follow Fault → Result Progress PartFail → Type 0
 GivesFollow tokens reading (Ok next) = reading ≡ Ok (follow_of next)
 GivesFollow tokens reading (Err fail) = StopsAs tokens reading fail
+
+-- the function stops at the line, and for the reason, for which reading stops
+abbrev pub StopsAtLine : {X : Type 0} → Result X LineFault → ReadCertFail → Type 0
+StopsAtLine reading (At fail) = reading ≡ Err (fail.line, fail.kind)
+StopsAtLine reading NoMemory = Unit {0}

@@ -12,7 +12,7 @@ use Rattle.presentation_text.specs.DocumentText.{line_of}
 use Rattle.presentation_text.specs.Lines.{lines}
 use Rattle.presentation_text.specs.SumText.{is_negative, magnitude, sum_text}
 use Rattle.presentation_text.specs.TreeText.{HasWords, tree_text}
-use Rattle.certificate_text.specs.BlockForms.{Ground, between, blocks_from}
+use Rattle.certificate_text.specs.BlockForms.{Base, between, blocks_from}
 use Rattle.certificate_text.specs.Plain.{PlainUse, PlainStep, PlainBlock}
 use Rattle.certificate_text.specs.Writable.{IsWritable}
 
@@ -50,5 +50,5 @@ block_text p generators block =
 
 -- The text of writable blocks, one behind the other, is read back to the same blocks, whatever its length.
 abbrev pub PrintedBlocksAreReadBack : Type 0
-PrintedBlocksAreReadBack = (ground : Ground) → IsFieldPrime ground.p → IsTable ground.generators → HasWords ground.generators → (number : ℕ) (blocks : List PlainBlock)
-    → All (IsWritable ground.p ground.generators) blocks → blocks_from ground (between, []) number (lines (flat_map (block_text ground.p ground.generators) blocks)) ≡ Ok blocks
+PrintedBlocksAreReadBack = (base : Base) → IsFieldPrime base.p → IsTable base.generators → HasWords base.generators → (number : ℕ) (blocks : List PlainBlock)
+    → All (IsWritable base.p base.generators) blocks → blocks_from base (between, []) number (lines (flat_map (block_text base.p base.generators) blocks)) ≡ Ok blocks

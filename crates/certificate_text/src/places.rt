@@ -3,7 +3,7 @@ ghost use Rattle.std.specs.List.{All};
 ghost use Rattle.symmetric_sums.specs.Terms.{FitsOver, terms_of};
 ghost use Rattle.presentation_text.specs.Readings.{StopsAs};
 ghost use Rattle.certificate_text.specs.BlockForms as spec;
-ghost use Rattle.certificate_text.specs.Plain.{plain_block};
+ghost use Rattle.certificate_text.specs.Plain.{plain_block, plain_step};
 ghost use Rattle.certificate_text.specs.PlaceForms as forms;
 
 use crate::block::{Block, Step};
@@ -73,6 +73,7 @@ fn want_line(
     tokens: &[Token],
 ) -> Result<Progress, PartFail>
     requires word { 1 ≤ length tokens.now }
+    ensures { forms.GivesFollow tokens.now (spec.want_line document.now.field document.now.gens (map plain_block blocks) (drop 1 tokens.now)) result }
 {
     let want = sum_line(alloc, document, tokens)?;
     let block = Block {
@@ -95,6 +96,7 @@ fn block_line(
     tokens: &[Token],
 ) -> Result<Progress, PartFail>
     requires word { 1 ≤ length tokens.now }
+    ensures { forms.GivesFollow tokens.now (spec.block_line document.now.field document.now.gens (plain_block block) (map plain_block blocks) word.now (drop 1 tokens.now)) result }
 {
     if word == "end" {
         end_at(tokens, 1)?;
@@ -127,6 +129,7 @@ fn step_line(
     tokens: &[Token],
 ) -> Result<Progress, PartFail>
     requires word { 1 ≤ length tokens.now }
+    ensures { forms.GivesFollow tokens.now (spec.step_line document.now.field document.now.gens (plain_block block) (plain_step step) (map plain_block blocks) word.now (drop 1 tokens.now)) result }
 {
     if word == "use" {
         let item = use_line(alloc, document.field, &document.gens, tokens)?;

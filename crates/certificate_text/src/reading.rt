@@ -1,7 +1,12 @@
-ghost use Rattle.std.specs.Prelude.{◌≡◌, ◌≤◌, ◌<◌, ◌+◌, ◌^◌, IfOk, MatchResult, length, map};
+ghost use Rattle.std.specs.Prelude.{◌≡◌, ◌≤◌, ◌<◌, ◌+◌, ◌^◌, [], Err, IfOk, MatchResult, Ok, length, map};
 ghost use Rattle.std.specs.List.{All};
+ghost use Rattle.presentation_text.specs.Lines.{lines as lines_of};
 ghost use Rattle.presentation_text.specs.Presentations.{IsReadAs};
+ghost use Rattle.presentation_text.specs.Tokens.{tokens as tokens_of};
+ghost use Rattle.certificate_text.specs.BlockForms as spec;
+ghost use Rattle.certificate_text.specs.BlockForms.{between};
 ghost use Rattle.certificate_text.specs.Laws.{BlocksAreAccepted};
+ghost use Rattle.certificate_text.specs.PlaceForms as forms;
 ghost use Rattle.certificate_text.specs.Plain.{plain_block};
 ghost use Rattle.certificate_text.specs.Writable.{IsWritable};
 ghost use Rattle.certificate_text.specs.Tails.{AreReadAs, IsReadyBlock, IsRefused};
@@ -13,7 +18,9 @@ use presentation_text::{DocKind, Document, PartFail, Token, counts, next_line, t
 use sqlite_items::Items;
 use std::alloc::Global;
 
-fn fail<T>(line: u32, kind: DocKind) -> Result<T, ReadCertFail> {
+fn fail<T>(line: u32, kind: DocKind) -> Result<T, ReadCertFail>
+    ensures { result ≡ Err (ReadCertFail.At (record { line = line; kind = kind })) }
+{
     Err(ReadCertFail::At(CertFail { line, kind }))
 }
 
@@ -24,18 +31,23 @@ fn tail_line(
     now: Progress,
     number: u32,
     line: &[u8],
-) -> Result<Progress, ReadCertFail> {
+) -> Result<Progress, ReadCertFail>
+    ensures { MatchResult result (λ next. spec.tail_line (spec.base_of document.now) (forms.follow_of now) number (tokens_of line.now) ≡ Ok (forms.follow_of next))
+        (forms.StopsAtLine (spec.tail_line (spec.base_of document.now) (forms.follow_of now) number (tokens_of line.now))) }
+{
     let found = match tokens(alloc, line) {
         Ok(found) => found,
         Err(_) => return Err(ReadCertFail::NoMemory),
     };
-    let Some(Token::Word(word)) = found.as_slice().get(0) else {
+    let tokens = found.as_slice();
+    let Some(Token::Word(word)) = tokens.get(0) else {
         return fail(number, DocKind::Directive);
     };
-    if let Some(kind) = now.place.word_fault(document.version, word.as_str()) {
+    let word = word.as_str();
+    if let Some(kind) = now.place.word_fault(document.version, word) {
         return fail(number, kind);
     }
-    match follow(alloc, document, now, word.as_str(), found.as_slice()) {
+    match follow(alloc, document, now, word, tokens) {
         Ok(next) => Ok(next),
         Err(PartFail::At { kind, .. }) => fail(number, kind),
         Err(PartFail::NoMemory) => Err(ReadCertFail::NoMemory),
@@ -48,7 +60,11 @@ fn blocks_of(
     document: &Document,
     text: &[u8],
     first: u32,
-) -> Result<Items<Block>, ReadCertFail> {
+) -> Result<Items<Block>, ReadCertFail>
+    requires few { first + length text.now < 2 ^ 32 }
+    ensures { MatchResult result (λ blocks. spec.blocks_from (spec.base_of document.now) (between, []) first (lines_of text.now) ≡ Ok (map plain_block blocks))
+        (forms.StopsAtLine (spec.blocks_from (spec.base_of document.now) (between, []) first (lines_of text.now))) }
+{
     let mut now = Progress {
         place: Place::Between,
         blocks: Items::new(alloc),

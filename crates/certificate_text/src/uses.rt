@@ -1,4 +1,4 @@
-ghost use Rattle.std.specs.Prelude.{◌≡◌, ◌≤◌, ◌<◌, ◌+◌, IfOk, MatchResult, Ok, drop, length, map, min};
+ghost use Rattle.std.specs.Prelude.{◌≡◌, ◌≤◌, ◌<◌, ◌+◌, Err, IfOk, MatchResult, Ok, drop, length, map, min};
 ghost use Rattle.std.specs.List.{All};
 ghost use Rattle.labelled_trees.specs.Meaning.{tree_of};
 ghost use Rattle.presentation_text.specs.Readings.{StopsAs};
@@ -13,6 +13,12 @@ use std::alloc::Global;
 use symmetric_sums::{Instance, Rule};
 use symmetric_trees::{GenTable, Tree};
 
+fn fail<T>(token: usize, kind: DocKind) -> Result<T, PartFail>
+    ensures { result ≡ Err (PartFail.At token kind) }
+{
+    Err(PartFail::At { token, kind })
+}
+
 // The greatest number of a rule.
 const GREATEST_CITED: u64 = 4_294_967_295;
 
@@ -26,25 +32,32 @@ fn cited_number(number: u64) -> u32
     number as u32
 }
 
+// Whether the word cites a step, or else a relation.
+fn cites_step(word: &str) -> Option<bool>
+    ensures { result ≡ spec.cites_step word.now }
+{
+    match word {
+        "step" => Some(true),
+        "rel" => Some(false),
+        _ => None,
+    }
+}
+
 // What is cited at a place, with two tokens.
 fn cited_at(tokens: &[Token], at: usize) -> Result<Rule, PartFail>
     requires within { at ≤ length tokens.now }
     ensures { MatchResult result (λ rule. (spec.cited_in (drop at tokens.now) ≡ Ok (rule, drop (at + 2) tokens.now)) × (at + 2 ≤ length tokens.now))
         (StopsAs tokens.now (spec.cited_in (drop at tokens.now))) }
 {
-    let word = word_at(tokens, at)?.as_str();
-    if word != "step" && word != "rel" {
-        return Err(PartFail::At {
-            token: at,
-            kind: DocKind::Syntax,
-        });
-    }
+    let word = word_at(tokens, at)?;
+    let Some(step) = cites_step(word.as_str()) else {
+        return fail(at, DocKind::Syntax);
+    };
     let number = cited_number(number_at(tokens, at + 1)?);
-    if word == "step" {
-        Ok(Rule::Step(number))
-    } else {
-        Ok(Rule::Rel(number))
+    if step {
+        return Ok(Rule::Step(number));
     }
+    Ok(Rule::Rel(number))
 }
 
 // The inputs from a place to the end of the line, with ';' before each.
@@ -77,6 +90,20 @@ fn signed_residue(field: Field, negative: bool, number: u64) -> u32
     if negative { field.neg(coef) } else { coef }
 }
 
+// The sign and the number at a place, and the place behind them.
+fn coefficient_at(tokens: &[Token], at: usize) -> Result<(bool, u64, usize), PartFail>
+    requires within { at ≤ length tokens.now }
+    ensures { MatchResult result (λ found. (spec.coefficient_in (drop at tokens.now) ≡ Ok ((found.0, found.1), drop found.2 tokens.now)) × (found.2 ≤ length tokens.now))
+        (StopsAs tokens.now (spec.coefficient_in (drop at tokens.now))) }
+{
+    if has_mark(tokens, at, b'-') {
+        let number = number_at(tokens, at + 1)?;
+        return Ok((true, number, at + 2));
+    }
+    let number = number_at(tokens, at)?;
+    Ok((false, number, at + 1))
+}
+
 // The use of a line `use COEF ; TREE ; rel K`, or `step K` in the third part, with `; TREE` for each input.
 pub fn use_line(
     alloc: Global,
@@ -89,10 +116,8 @@ pub fn use_line(
         (StopsAs tokens.now (spec.use_in field table.now (drop 1 tokens.now))) }
     ensures coef { IfOk result (λ item. item.coef < field) }
 {
-    let negative = has_mark(tokens, 1, b'-');
-    let at = if negative { 2 } else { 1 };
-    let number = number_at(tokens, at)?;
-    let begin = mark_at(tokens, at + 1, b';')?;
+    let (negative, number, behind) = coefficient_at(tokens, 1)?;
+    let begin = mark_at(tokens, behind, b';')?;
     let (context, end) = tree_at(alloc, table, tokens, begin, true)?;
     let third = mark_at(tokens, end, b';')?;
     let rule = cited_at(tokens, third)?;
