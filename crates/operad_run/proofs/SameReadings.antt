@@ -16,7 +16,7 @@ use Rattle.presentation_text.specs.DraftForms.{asked, asked_kind}
 use Rattle.presentation_text.specs.LineForms.{Asked, query, same}
 use Rattle.presentation_text.specs.Lines.{lines}
 use Rattle.presentation_text.specs.Presentations.{IsReadAs, IsTail}
-use Rattle.certificate_text.specs.BlockForms.{Ground, between, blocks_from, ground_of, read_tail}
+use Rattle.certificate_text.specs.BlockForms.{Base, between, blocks_from, base_of, read_tail}
 use Rattle.certificate_text.specs.Plain.{PlainBlock, plain_use, plain_step, plain_block}
 use Rattle.certificate_text.specs.Tails.{AreReadAs}
 use Rattle.certificate_text.specs.declared.block.Block.{Block}
@@ -87,15 +87,15 @@ cancel_fronts (x ∷ xs) [] a b l e = absurd (omega (arith, l))
 cancel_fronts (x ∷ xs) (y ∷ ys) a b l e = let further : xs ++ a ≡ ys ++ b = cc in cancel_fronts xs ys a b (omega (arith, l)) further
 
 -- what is read of a tail over some ground
-abbrev tail_over : List ℕ → Ground → Option Tail → Result (List PlainBlock) LineFault
+abbrev tail_over : List ℕ → Base → Option Tail → Result (List PlainBlock) LineFault
 tail_over bytes ground None = Ok []
 tail_over bytes ground (Some tail) = blocks_from ground (between, []) tail.line (lines (drop tail.from bytes))
 
-over_ground : (bytes : List ℕ) (document : Document) (tail : Option Tail) → read_tail bytes document tail ≡ tail_over bytes (ground_of document) tail
+over_ground : (bytes : List ℕ) (document : Document) (tail : Option Tail) → read_tail bytes document tail ≡ tail_over bytes (base_of document) tail
 over_ground bytes document None = refl
 over_ground bytes document (Some tail) = refl
 
-same_tail : (bytes : List ℕ) (ground : Ground) (number : Option ℕ) (tail other : Option Tail) → IsTail bytes number tail → IsTail bytes number other
+same_tail : (bytes : List ℕ) (ground : Base) (number : Option ℕ) (tail other : Option Tail) → IsTail bytes number tail → IsTail bytes number other
     → tail_over bytes ground tail ≡ tail_over bytes ground other
 same_tail bytes ground None tail other h g = ap (tail_over bytes ground) (h ∙ sym g)
 same_tail bytes ground (Some n) None other h g = absurd h
@@ -158,7 +158,7 @@ module _ (bytes : List ℕ) (document other : Document) (h : IsReadAs bytes docu
     asks = same_by asked ask_apart document.asks other.asks (h.says.asks_are ∙ ap (λ w. w.told.asks) whole ∙ sym g.says.asks_are);
   }
 
-  grounds : ground_of document ≡ ground_of other
+  grounds : base_of document ≡ base_of other
   grounds =
       ap (λ v. record { version = v; p = document.field; generators = document.gens }) same_documents.version
       ∙ ap₂ (λ p gs. record { version = other.version; p = p; generators = gs }) same_documents.field same_documents.generators
@@ -167,7 +167,7 @@ module _ (bytes : List ℕ) (document other : Document) (h : IsReadAs bytes docu
   pub same_tails : read_tail bytes document document.tail ≡ read_tail bytes other other.tail
   same_tails =
       over_ground bytes document document.tail ∙ ap (λ ground. tail_over bytes ground document.tail) grounds
-      ∙ same_tail bytes (ground_of other) g.whole.tail document.tail other.tail (subst (λ w. IsTail bytes w.tail document.tail) whole h.tail_is) g.tail_is
+      ∙ same_tail bytes (base_of other) g.whole.tail document.tail other.tail (subst (λ w. IsTail bytes w.tail document.tail) whole h.tail_is) g.tail_is
       ∙ sym (over_ground bytes other other.tail)
 
   -- a tail of the one is a tail of the other
