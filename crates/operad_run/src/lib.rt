@@ -1,8 +1,6 @@
 //! The program: words, a source and a sink in, a status out.
 #![tactic(auto)]
 
-#[cfg(test)]
-mod check_tests;
 mod checks;
 mod commands;
 mod forms;
