@@ -4,7 +4,7 @@ use Rattle.symmetric_sums.specs.Terms.{terms_of}
 use Rattle.presentation_text.specs.LineForms.{is}
 use Rattle.certificate_text.specs.BlockForms.{block_line, in_step, step_line, use_in}
 use Rattle.certificate_text.specs.PlaceForms.{GivesFollow}
-use Rattle.certificate_text.specs.Plain.{PlainBlock, plain_block, plain_step, plain_use}
+use Rattle.certificate_text.specs.Plain.{plain_block, plain_step, plain_use}
 use Rattle.certificate_text.proofs.BlockReading.{follow_stops}
 use Rattle.certificate_text.proofs.ReadingStops.{stops_on}
 use Rattle.certificate_text.proofs.places.step_line.Goals as goal

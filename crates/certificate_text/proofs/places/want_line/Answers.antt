@@ -1,4 +1,4 @@
-use Rattle.std.proofs.Common.{[], Ok, ap, drop, map, refl, sym}
+use Rattle.std.proofs.Common.{Ok, ap, drop, map, sym}
 use Rattle.symmetric_sums.specs.Terms.{terms_of}
 use Rattle.certificate_text.specs.BlockForms.{in_block, sum_in, want_line}
 use Rattle.certificate_text.specs.Plain.{plain_block, plain_step}

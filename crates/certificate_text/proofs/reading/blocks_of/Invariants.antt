@@ -1,4 +1,4 @@
-use Rattle.std.proofs.Common.{◌≡◌, ◌<◌, ◌+◌, ◌^◌, [], length, map}
+use Rattle.std.proofs.Common.{◌≡◌, ◌<◌, ◌+◌, ◌^◌, [], length}
 use Rattle.presentation_text.specs.Lines.{lines}
 use Rattle.certificate_text.specs.BlockForms.{base_of, between, blocks_from}
 use Rattle.certificate_text.specs.PlaceForms.{follow_of}

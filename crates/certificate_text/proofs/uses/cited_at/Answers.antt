@@ -1,4 +1,4 @@
-use Rattle.std.proofs.Common.{◌≡◌, ◌∙◌, ◌+◌, ◌≤◌, ap, arith, drop, false, length, min, refl, sym, true, None, Ok, Some}
+use Rattle.std.proofs.Common.{◌≡◌, ◌∙◌, ◌+◌, ap, arith, drop, false, min, refl, sym, true, None, Ok, Some}
 use Rattle.symmetric_sums.specs.declared.instance.Rule.TheVariants.{Rel, Step}
 use Rattle.presentation_text.specs.Readings.{StopsAs, number_in, word_in}
 use Rattle.presentation_text.specs.declared.kinds.DocKind.TheVariants.{Syntax}

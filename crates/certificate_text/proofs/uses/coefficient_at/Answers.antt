@@ -1,4 +1,4 @@
-use Rattle.std.proofs.Common.{◌≡◌, ◌∙◌, ◌+◌, ◌∷◌, ◌<◌, ap, arith, drop, false, length, refl, sym, true, Ok}
+use Rattle.std.proofs.Common.{◌≡◌, ◌∙◌, ◌+◌, ap, arith, drop, false, refl, sym, true, Ok}
 use Rattle.presentation_text.specs.ElementForms.{behind_one}
 use Rattle.presentation_text.specs.TreeForms.{begins_with}
 use Rattle.presentation_text.specs.Readings.{StopsAs, number_in}
