@@ -51,13 +51,13 @@ fn text_of(alloc: Global, word: &[u8]) -> Result<String, AllocError> {
 // The bytes before the next row, and those from it on.
 fn row_text(rows: &[u8]) -> (&[u8], &[u8]) {
     let mut rest = rows;
-    while let Some((line, behind)) = next_line(rest) {
-        if is_row(line) {
-            break;
+    for _ in 0..rows.len() {
+        match next_line(rest) {
+            Some((line, behind)) if !is_row(line) => rest = behind,
+            _ => break,
         }
-        rest = behind;
     }
-    rows.split_at(rows.len() - rest.len())
+    rows.split_at(rows.len().saturating_sub(rest.len()))
 }
 
 // What a run writes on a text, with its status before it.
@@ -85,14 +85,17 @@ fn run(alloc: Global, words: &[String], text: &[u8], out: &mut Vec<u8>) -> Resul
 fn run_all(alloc: Global, rows: &[u8]) -> Result<Vec<u8>, AllocError> {
     let mut out = Vec::new(alloc);
     let mut rest = rows;
-    while let Some((line, behind)) = next_line(rest) {
+    for _ in 0..rows.len() {
+        let Some((line, behind)) = next_line(rest) else {
+            break;
+        };
         let words = words_of(alloc, line)?;
         let (text, further) = row_text(behind);
-        let cut = match line {
-            [b'<', ..] => text.len() - 1,
-            _ => text.len(),
+        let read = match (line, text) {
+            ([b'<', ..], [kept @ .., _]) => kept,
+            _ => text,
         };
-        run(alloc, &words, &text[..cut], &mut out)?;
+        run(alloc, &words, read, &mut out)?;
         rest = further;
     }
     Ok(out)
