@@ -87,12 +87,16 @@ fn a_tree_may_have_free_leaves(rt: HostRuntime) -> Result<(), Fail> {
     Ok(())
 }
 
-// The document that a text is, if it is one.
-fn document_of(alloc: Global, text: &[u8]) -> Option<Document> {
+// What is printed of the document that a text is; none where it is no document.
+fn printed(alloc: Global, text: &[u8]) -> Result<Option<Vec<u8>>, AllocError> {
     if text.len() > MOST_BYTES {
-        return None;
+        return Ok(None);
     }
-    read_document(alloc, text).ok()
+    match read_document(alloc, text) {
+        Ok(document) => Ok(Some(print_document(alloc, &document)?)),
+        Err(ReadDocFail::At(_)) => Ok(None),
+        Err(ReadDocFail::NoMemory) => Err(AllocError),
+    }
 }
 
 #[test]
@@ -102,14 +106,10 @@ fn a_document_is_printed(rt: HostRuntime) -> Result<(), Fail> {
         b"operad  2\nfield 7\n#\norder weightpath\ngen b 3 sym 2 free 1\nweight b 05\ngen l 2 alt 2\nweight l 0\nrel 1*l(1,2)\nquery 6*l(1,2) + 2*l(2,1)\nsame 7*l(1,2)=l(2,1)\ncert\n";
     let wanted: &[u8] =
         b"operad 2\nfield 7\norder weightpath\ngen b 3 sym 2 free 1\nweight b 5\ngen l 2 alt 2\nrel l(1,2)\nquery -l(1,2) + 2*l(2,1)\nsame 0 = l(2,1)\n";
-    if let Some(document) = document_of(alloc, text) {
-        assert_eq!(rt; print_document(alloc, &document)?.as_slice(), wanted);
-    }
+    let whole = printed(alloc, text)?.ok_or("no document")?;
+    assert_eq!(rt; whole.as_slice(), wanted);
     let old: &[u8] = b"operad 1\nfield 101\norder path\ngen m 2 sym\ngen l 2 alt\ngen p 3 reg\n";
-    if let Some(document) = document_of(alloc, old) {
-        assert_eq!(rt; print_document(alloc, &document)?.as_slice(), old);
-    }
-    assert!(rt; document_of(alloc, text).is_some());
-    assert!(rt; document_of(alloc, old).is_some());
+    let whole = printed(alloc, old)?.ok_or("no document")?;
+    assert_eq!(rt; whole.as_slice(), old);
     Ok(())
 }
