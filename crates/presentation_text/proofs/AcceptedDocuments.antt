@@ -1,12 +1,11 @@
 -- Documents are read exactly where the grammar has them.
 use Rattle.std.proofs.Common.{◌≡◌, ◌==◌, ◌&&◌, ◌||◌, ◌⊎◌, inl, inr, ℕ, suc, Bool, true, false, cond, codes, List, [], ◌∷◌, ◌++◌, Option, Some, None, Result, Ok, Err, sym, ap, ◌∙◌, refl, subst}
-use Rattle.std.specs.Bool.{IsTrue}
 use Rattle.std.specs.Option.{is_some}
 use Rattle.std.proofs.lemmas.Bool.Decides.{Decides-eqb}
 use Rattle.std.proofs.lemmas.Slice.Eq.{bytes_eq-Decides}
 use Rattle.symmetric_trees.specs.Generators.{IsTable}
 use Rattle.presentation_text.specs.Accepted.{ElementsAreAccepted}
-use Rattle.presentation_text.specs.DocumentForms.{Behind, LineFault, Whole, at_end, behind_header, counted_line, document_from, goes_on, if_last, lines_from, on_from, tail_begins, unless_refused, version_behind, version_begun, version_of, version_token}
+use Rattle.presentation_text.specs.DocumentForms.{Behind, LineFault, Whole, at_end, behind_header, counted_line, document_from, goes_on, lines_from, on_from, tail_begins, unless_refused, version_behind, version_of, version_token}
 use Rattle.presentation_text.specs.Grammar.{Adds, DocumentsAreAccepted, EndsWell, IsDocument, MayStand, Say, no_line, one_line, numbered_tokens}
 use Rattle.presentation_text.specs.LineForms.{Told, is, told_by_header}
 use Rattle.presentation_text.specs.Lines.{counts, lines}

@@ -1,15 +1,15 @@
 -- Each line of a presentation is read exactly where the grammar has it.
-use Rattle.std.proofs.Common.{◌≡◌, ◌<◌, ◌≤◌, ◌==◌, ℕ, suc, Bool, true, false, not, nat_le, nat_lt, codes, List, [], ◌∷◌, ◌++◌, length, Option, Some, None, Result, Ok, Err, append-nil, arith, sym, ap, ◌∙◌, refl, subst}
+use Rattle.std.proofs.Common.{◌≡◌, ◌<◌, ◌≤◌, ◌==◌, ℕ, suc, Bool, true, false, not, nat_le, nat_lt, codes, List, [], ◌∷◌, ◌++◌, length, Option, Some, None, Ok, Err, append-nil, arith, sym, ap, ◌∙◌, refl, subst}
 use Rattle.std.specs.Prelude.{if◌then◌else◌}
 use Rattle.std.proofs.lemmas.Bool.Decides.{Decides-eqb}
 use Rattle.symmetric_trees.specs.Generators.{IsTable}
 use Rattle.symmetric_trees.specs.declared.generators.Generator.{Generator}
-use Rattle.presentation_text.specs.Accepted.{AreDemanded, ElementsAreAccepted, EndsBefore, NotMarked}
+use Rattle.presentation_text.specs.Accepted.{AreDemanded, ElementsAreAccepted, EndsBefore}
 use Rattle.presentation_text.specs.Elements.{Written, element_tokens, said}
 use Rattle.presentation_text.specs.ElementForms.{arity_of_first, element_in}
 use Rattle.presentation_text.specs.Grammar.{Adds, a_field, an_order, a_generator, a_weight, a_relation, a_query, a_comparison, IsGeneratorLine}
 use Rattle.presentation_text.specs.LineForms.{Asked, Told, field_line, gen_line, generator_in, is_prime, is_weighed, known, order_line, order_named, prime_of, query, query_in, query_line, rel_line, same, same_in, same_line, weight_line, weighed, with_ask, with_generator}
-use Rattle.presentation_text.specs.Readings.{Fault, ◌>>=◌, end_in, first_row, is_mark, mark_in, number_in, refused, word_in}
+use Rattle.presentation_text.specs.Readings.{Fault, end_in, first_row, mark_in, number_in, refused, word_in}
 use Rattle.presentation_text.specs.TreeForms.{demands_of, index_of}
 use Rattle.presentation_text.specs.declared.document.OrderName.{OrderName}
 use Rattle.presentation_text.specs.declared.kinds.DocKind.TheVariants as kind

@@ -1,7 +1,6 @@
 -- The generator of a line is read exactly where the tokens are those of the grammar.
-use Rattle.std.proofs.Common.{◌≡◌, ◌<◌, ◌≤◌, ◌+◌, ◌==◌, ◌||◌, ◌⊎◌, inl, inr, ℕ, zero, suc, Bool, true, false, cond, not, nat_le, nat_lt, List, [], ◌∷◌, length, Option, Some, None, Result, Ok, Err, arith, sym, ap, ◌∙◌, refl, subst}
+use Rattle.std.proofs.Common.{◌≡◌, ◌<◌, ◌≤◌, ◌+◌, ◌==◌, ◌||◌, ◌⊎◌, inl, inr, ℕ, zero, suc, Bool, true, false, cond, nat_lt, List, [], ◌∷◌, length, Some, None, Ok, arith, sym, ap, ◌∙◌, refl, subst}
 use Rattle.std.specs.List.{sum_by}
-use Rattle.std.specs.Option.{is_some}
 use Rattle.std.proofs.lemmas.Bool.Decides.{Decides-eqb}
 use Rattle.std.proofs.lemmas.List.Sums.{sum_by-cons}
 use Rattle.symmetric_trees.specs.Generators.{IsArity}
@@ -9,8 +8,8 @@ use Rattle.symmetric_trees.specs.declared.generators.Generator.{Generator}
 use Rattle.symmetric_trees.specs.declared.generators.Part.{Part}
 use Rattle.symmetric_trees.specs.declared.generators.PartKind.{PartKind}
 use Rattle.presentation_text.specs.Grammar.{ArePartTokens, no_parts, one_part, IsSymmetry, ArePartsOf, IsGeneratorLine}
-use Rattle.presentation_text.specs.LineForms.{Told, all_parts_in, generator_in, inputs_in, is_arity, known, named_arity_in, part_in, part_named, parts_in, symmetry_in, symmetry_named}
-use Rattle.presentation_text.specs.Readings.{Fault, ◌>>=◌, end_in, first_row, number_in, refused, word_in}
+use Rattle.presentation_text.specs.LineForms.{Told, all_parts_in, generator_in, inputs_in, known, named_arity_in, part_in, part_named, parts_in, symmetry_in, symmetry_named}
+use Rattle.presentation_text.specs.Readings.{end_in, first_row, number_in, refused, word_in}
 use Rattle.presentation_text.specs.TreeForms.{index_of}
 use Rattle.presentation_text.specs.declared.kinds.DocKind.TheVariants.{PartsOut, Syntax}
 use Rattle.presentation_text.specs.declared.lexing.Token.{Token}

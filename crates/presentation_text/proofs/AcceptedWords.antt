@@ -1,27 +1,20 @@
 -- A line that counts is read exactly where its word may stand there and the grammar has it.
-use Rattle.std.proofs.Common.{◌≡◌, ◌==◌, ◌&&◌, ◌||◌, ◌⊎◌, inl, inr, ℕ, suc, Bool, true, false, not, cond, codes, List, [], ◌∷◌, ◌++◌, Option, Some, None, Result, Ok, Err, sym, ap, ◌∙◌, refl, subst}
-use Rattle.std.specs.Option.{is_some}
-use Rattle.std.specs.Str.{bytes_eq}
+use Rattle.std.proofs.Common.{◌≡◌, ◌==◌, ◌&&◌, ◌||◌, ℕ, Bool, true, false, not, cond, codes, List, [], ◌∷◌, Option, Some, None, Result, Ok, Err, sym, ap, ◌∙◌, refl, subst}
 use Rattle.std.proofs.lemmas.Bool.Decides.{Decides-eqb}
 use Rattle.std.proofs.lemmas.Slice.Eq.{bytes_eq-Decides}
 use Rattle.symmetric_trees.specs.Generators.{IsTable}
-use Rattle.symmetric_trees.specs.declared.generators.Generator.{Generator}
 use Rattle.symmetric_trees.proofs.Tables.{table-push}
 use Rattle.presentation_text.specs.Accepted.{ElementsAreAccepted}
-use Rattle.presentation_text.specs.DocumentForms.{Behind, LineFault, Whole, at_end, behind_header, counted_line, document_from, goes_on, if_last, lines_from, on_from, refused_at, tail_begins, unless_refused, unless_word, version_behind, version_begun, version_of, version_token, word_line}
-use Rattle.presentation_text.specs.Grammar.{Adds, a_field, an_order, a_generator, a_weight, a_relation, a_query, a_comparison, DocumentsAreAccepted, EndsWell, IsDocument, MayStand, Say, no_line, one_line, numbered_tokens}
-use Rattle.presentation_text.specs.LineForms.{Told, is, is_inside_tail, is_missing, is_out_of_order, is_unknown, rest_of_line, section_of, told_by_header, word_fault}
-use Rattle.presentation_text.specs.Lines.{counts, lines}
+use Rattle.presentation_text.specs.DocumentForms.{Behind, LineFault, counted_line, goes_on, refused_at, tail_begins, unless_word, word_line}
+use Rattle.presentation_text.specs.Grammar.{Adds, a_field, an_order, a_generator, a_weight, a_relation, a_query, a_comparison, MayStand}
+use Rattle.presentation_text.specs.LineForms.{Told, is, is_inside_tail, is_missing, is_out_of_order, is_unknown, rest_of_line, section_of, word_fault}
 use Rattle.presentation_text.specs.Readings.{Fault, first_row}
-use Rattle.presentation_text.specs.Tokens.{tokens}
 use Rattle.presentation_text.specs.declared.kinds.DocKind.{DocKind}
 use Rattle.presentation_text.specs.declared.lexing.Token.{Token}
 use Rattle.presentation_text.specs.declared.lexing.Token.TheVariants.{Word, Number, Long, Byte, Bad}
 use Rattle.presentation_text.proofs.AcceptedLines.{field_adds, field_accepted, order_adds, order_accepted, gen_adds, gen_accepted, weight_adds, weight_accepted, rel_adds, rel_accepted, query_adds, query_accepted, same_adds, same_accepted}
 use Rattle.presentation_text.proofs.AcceptedParts.{generator_accepted}
 use Rattle.presentation_text.proofs.LineFormsGenerators.{generator_welcome}
-use Rattle.presentation_text.proofs.LineFormsNumbers.{both_true}
-use Rattle.presentation_text.proofs.LineFormsTables.{table-empty}
 
 pub chosen : {A E P : Type 0} (b : Bool) (one other : Result A E) (x : A) → cond b one other ≡ Ok x → (b ≡ true → one ≡ Ok x → P) → (b ≡ false → other ≡ Ok x → P) → P
 chosen true one other x e f g = f refl e

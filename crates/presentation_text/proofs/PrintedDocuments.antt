@@ -1,14 +1,10 @@
 -- The text of a document is read back to the same.
-use Rattle.std.proofs.Common.{◌≡◌, ℕ, zero, suc, ◌+◌, ◌^◌, ◌<◌, ◌≤◌, ◌⊎◌, inl, inr, ⊎_elim, List, [], ◌∷◌, ◌++◌, length, map, codes, Option, Some, None, Ok, refl, ap, ap₂, sym, ◌∙◌, subst, arith, append-nil, append_assoc, length-append}
-use Rattle.std.specs.List.{All, AllByRecursion, flat_map}
-use Rattle.std.specs.Bool.{IsTrue}
-use Rattle.std.specs.Option.{is_some}
-use Rattle.std.specs.Fmt.{decimal}
+use Rattle.std.proofs.Common.{◌≡◌, ℕ, suc, ◌+◌, ◌^◌, ◌<◌, ◌≤◌, inl, inr, List, [], ◌∷◌, ◌++◌, length, map, codes, Option, Some, None, refl, ap, ap₂, sym, ◌∙◌, subst, arith, append-nil, append_assoc, length-append}
+use Rattle.std.specs.List.{All, flat_map}
 use Rattle.std.proofs.lemmas.List.{map-append}
 use Rattle.prime_field.specs.Primes.{IsFieldPrime}
-use Rattle.labelled_trees.specs.Trees.{Tree, Row, leaf, node, none, more}
+use Rattle.labelled_trees.specs.Trees.{Tree, leaf, node, none, more}
 use Rattle.labelled_trees.specs.Leaves.{leaf_count, leaf_count_row}
-use Rattle.labelled_trees.proofs.Leaves.{by_leaf}
 use Rattle.labelled_trees.proofs.Counts.{leaf_count-labelled}
 use Rattle.operad_ideals.specs.Laws.{arity}
 use Rattle.symmetric_trees.specs.Generators.{IsTable, parts_at}
@@ -19,22 +15,19 @@ use Rattle.symmetric_sums.specs.declared.term.Term.{Term}
 use Rattle.presentation_text.specs.declared.document.Ask.{Ask}
 use Rattle.presentation_text.specs.declared.document.AskKind.{AskKind}
 use Rattle.presentation_text.specs.declared.document.AskKind.TheVariants.{Query, Same}
-use Rattle.presentation_text.specs.declared.document.Document.{Document}
 use Rattle.presentation_text.specs.declared.document.OrderName.{OrderName}
-use Rattle.presentation_text.specs.declared.lexing.Token.{Token}
-use Rattle.presentation_text.specs.declared.lexing.Token.TheVariants.{Word, Number, Byte}
+use Rattle.presentation_text.specs.declared.lexing.Token.TheVariants.{Word, Byte}
 use Rattle.presentation_text.specs.Accepted.{AreDemanded}
-use Rattle.presentation_text.specs.DocumentText.{line_of, relation_text, ask_text, document_text}
+use Rattle.presentation_text.specs.DocumentText.{relation_text, ask_text}
 use Rattle.presentation_text.specs.DraftForms.{asked_kind}
 use Rattle.presentation_text.specs.ElementForms.{arity_of_first}
 use Rattle.presentation_text.specs.Elements.{Written, IsElementTree, element_tokens, said}
 use Rattle.presentation_text.specs.Grammar.{numbered_tokens, Adds, a_relation, a_query, a_comparison}
-use Rattle.presentation_text.specs.Laws.{IsReadBack}
 use Rattle.presentation_text.specs.LineForms.{Told, Asked, query as a_query_of, same as a_pair_of}
 use Rattle.presentation_text.specs.Lines.{HasNoFeed, lines}
 use Rattle.presentation_text.specs.ReadBack.{IsSaidRelation, IsSaidAsk}
-use Rattle.presentation_text.specs.PrintedElements.{IsSaidTerm, IsSaidOver}
-use Rattle.presentation_text.specs.SumText.{sum_text, IsPrintable}
+use Rattle.presentation_text.specs.PrintedElements.{IsSaidOver}
+use Rattle.presentation_text.specs.SumText.{sum_text}
 use Rattle.presentation_text.specs.TreeText.{HasWords}
 use Rattle.presentation_text.specs.Tokens.{tokens}
 use Rattle.presentation_text.proofs.LineTexts.{no_feed-word}

@@ -1,23 +1,22 @@
 -- The lines of generators and their weights in a printed document.
-use Rattle.std.proofs.Common.{◌≡◌, ℕ, zero, suc, ◌+◌, ◌^◌, ◌<◌, ◌≤◌, ◌⊎◌, inl, inr, ⊎_elim, true, false, Bool, ◌==◌, if◌then◌else◌, List, [], ◌∷◌, ◌++◌, length, map, codes, get_or, Option, Some, None, refl, ap, ap₂, sym, ◌∙◌, subst, arith, append-nil, append_assoc, length-append}
-use Rattle.std.specs.List.{All, AllPairs, AllByRecursion, flat_map, sum_by, HoldsAt}
+use Rattle.std.proofs.Common.{◌≡◌, ℕ, suc, ◌^◌, ◌<◌, ◌≤◌, ◌⊎◌, inl, inr, ⊎_elim, true, false, Bool, ◌==◌, if◌then◌else◌, List, [], ◌∷◌, ◌++◌, length, get_or, Some, refl, ap, ap₂, sym, ◌∙◌, subst, arith, append-nil, length-append}
+use Rattle.std.specs.List.{All, AllPairs, AllByRecursion, flat_map, sum_by}
 use Rattle.std.proofs.lemmas.List.{get_or_append_left}
 use Rattle.std.proofs.lemmas.List.Sums.{sum_by-cons}
 use Rattle.std.proofs.Math.Seq.{get_or-append_seam}
 use Rattle.std.specs.Fmt.{decimal}
-use Rattle.symmetric_trees.specs.Generators.{IsTable, SizesFit, IsArity, IsNamed, IsTaken}
+use Rattle.symmetric_trees.specs.Generators.{IsTable, SizesFit, IsArity, IsTaken}
 use Rattle.symmetric_trees.specs.declared.generators.Generator.{Generator}
 use Rattle.symmetric_trees.specs.declared.generators.Part.{Part}
 use Rattle.symmetric_trees.specs.declared.generators.PartKind.{PartKind}
 use Rattle.symmetric_trees.specs.declared.generators.PartKind.TheVariants.{Sym, Alt, Free}
 use Rattle.presentation_text.specs.declared.lexing.Token.{Token}
-use Rattle.presentation_text.specs.declared.lexing.Token.TheVariants.{Word, Number, Byte}
-use Rattle.presentation_text.specs.DocumentText.{line_of, part_word, symmetry_word, part_words, symmetry_words, generator_text, weight_text, generators_text}
+use Rattle.presentation_text.specs.declared.lexing.Token.TheVariants.{Word, Number}
+use Rattle.presentation_text.specs.DocumentText.{part_word, symmetry_word, part_words, symmetry_words}
 use Rattle.presentation_text.specs.Grammar.{ArePartTokens, no_parts, one_part, IsSymmetry, ArePartsOf, IsGeneratorLine}
 use Rattle.presentation_text.specs.LineForms.{Told, part_named, symmetry_named}
 use Rattle.presentation_text.specs.Lines.{HasNoFeed}
-use Rattle.presentation_text.specs.Tokens.{IsWord, StartsOtherwise, tokens}
-use Rattle.presentation_text.specs.TreeForms.{index_of}
+use Rattle.presentation_text.specs.Tokens.{IsWord, tokens}
 use Rattle.presentation_text.proofs.LineTexts.{no_feed-word, no_feed-decimal}
 use Rattle.presentation_text.proofs.TreeFormsSteps.{index-none}
 use Rattle.presentation_text.proofs.PrintedTokens.{tokens-decimal}

@@ -1,11 +1,11 @@
 -- The lines of a printed document, one after the other: what stands against none of their words, and what they add.
-use Rattle.std.proofs.Common.{◌≡◌, ℕ, zero, suc, ◌+◌, ◌^◌, ◌<◌, ◌≤◌, ◌⊎◌, inl, inr, ⊎_elim, true, false, Bool, not, ◌&&◌, ◌||◌, nat_lt, List, [], ◌∷◌, ◌++◌, length, map, codes, Option, Some, None, refl, ap, ap₂, sym, ◌∙◌, subst, arith, append-nil}
+use Rattle.std.proofs.Common.{◌≡◌, ℕ, suc, ◌≤◌, ◌⊎◌, ⊎_elim, true, false, nat_lt, List, [], ◌∷◌, ◌++◌, codes, Option, Some, None, refl, ap, sym, ◌∙◌, subst, arith}
 use Rattle.std.specs.List.{AllByRecursion, flat_map}
 use Rattle.labelled_trees.specs.Trees.{Tree}
 use Rattle.symmetric_trees.specs.declared.generators.Generator.{Generator}
 use Rattle.presentation_text.specs.declared.document.OrderName.{OrderName}
 use Rattle.presentation_text.specs.declared.lexing.Token.{Token}
-use Rattle.presentation_text.specs.declared.lexing.Token.TheVariants.{Word, Number, Byte}
+use Rattle.presentation_text.specs.declared.lexing.Token.TheVariants.{Word}
 use Rattle.presentation_text.specs.DocumentText.{blank_before, line_of}
 use Rattle.presentation_text.specs.Grammar.{numbered_tokens, Adds, MayStand, Say, no_line, one_line}
 use Rattle.presentation_text.specs.LineForms.{Told, Asked, told_by_header, word_fault, is_unknown, is_missing, is_out_of_order, is_inside_tail}

@@ -1,21 +1,19 @@
 -- The lines of all generators and their weights in a printed document lead to their table.
-use Rattle.std.proofs.Common.{◌≡◌, ℕ, zero, suc, ◌+◌, ◌^◌, ◌<◌, ◌≤◌, ◌⊎◌, inl, inr, ⊎_elim, true, false, Bool, ◌==◌, if◌then◌else◌, List, [], ◌∷◌, ◌++◌, length, map, codes, get_or, Option, Some, None, refl, ap, ap₂, sym, ◌∙◌, subst, arith, append-nil, append_assoc, length-append}
-use Rattle.std.specs.List.{All, AllPairs, AllByRecursion, flat_map, HoldsAt}
+use Rattle.std.proofs.Common.{◌≡◌, ℕ, zero, suc, ◌^◌, ◌<◌, ◌≤◌, ◌⊎◌, ⊎_elim, true, false, Bool, ◌==◌, List, [], ◌∷◌, ◌++◌, length, map, codes, Option, Some, None, refl, ap, ap₂, sym, ◌∙◌, subst, arith, append-nil, append_assoc, length-append}
+use Rattle.std.specs.List.{All, AllPairs}
 use Rattle.std.specs.Fmt.{decimal}
 use Rattle.std.proofs.lemmas.Bool.Decides.{nat_tests}
 use Rattle.std.proofs.lemmas.List.{get_or_append_left, map-append}
 use Rattle.std.proofs.Math.Seq.{get_or-append_seam}
-use Rattle.symmetric_trees.specs.Generators.{IsTable, IsNamed}
+use Rattle.symmetric_trees.specs.Generators.{IsTable}
 use Rattle.symmetric_trees.specs.declared.generators.Generator.{Generator}
 use Rattle.presentation_text.specs.declared.document.OrderName.{OrderName}
-use Rattle.presentation_text.specs.declared.lexing.Token.{Token}
 use Rattle.presentation_text.specs.declared.lexing.Token.TheVariants.{Word, Number}
 use Rattle.presentation_text.specs.DocumentText.{line_of, generator_text, weight_text, generators_text}
 use Rattle.presentation_text.specs.Grammar.{numbered_tokens, Adds, a_generator, a_weight, MayStand}
 use Rattle.presentation_text.specs.LineForms.{Told, is_weighed, weighed}
 use Rattle.presentation_text.specs.Lines.{lines}
 use Rattle.presentation_text.specs.Presentations.{weight_or_none}
-use Rattle.presentation_text.specs.Tokens.{tokens}
 use Rattle.presentation_text.specs.TreeForms.{index_of}
 use Rattle.presentation_text.proofs.LineTexts.{no_feed-word, no_feed-decimal}
 use Rattle.presentation_text.proofs.TreeFormsSteps.{first_named}

@@ -1,26 +1,20 @@
 -- The text of a writable document is read back to the same.
-use Rattle.std.proofs.Common.{◌≡◌, ◌≢◌, ℕ, zero, suc, ◌+◌, ◌^◌, ◌<◌, ◌≤◌, ◌⊎◌, inl, inr, ⊎_elim, true, Bool, List, [], ◌∷◌, ◌++◌, length, map, codes, get_or, Option, Some, None, Ok, refl, ap, ap₂, sym, ◌∙◌, subst, arith, append-nil, append_assoc}
-use Rattle.std.specs.List.{All, AllByRecursion, flat_map}
+use Rattle.std.proofs.Common.{◌≡◌, ◌≢◌, ℕ, ◌^◌, ◌<◌, ◌⊎◌, inl, inr, ⊎_elim, true, List, [], ◌∷◌, ◌++◌, map, codes, Some, None, refl, ap, sym, ◌∙◌, subst, arith, append-nil, append_assoc}
+use Rattle.std.specs.List.{All, flat_map}
 use Rattle.std.specs.Bool.{IsTrue}
 use Rattle.std.specs.Option.{is_some}
 use Rattle.std.specs.Fmt.{decimal}
 use Rattle.prime_field.specs.Primes.{IsFieldPrime}
-use Rattle.symmetric_trees.specs.Generators.{IsTable}
-use Rattle.symmetric_trees.specs.declared.generators.Generator.{Generator}
 use Rattle.symmetric_sums.specs.Terms.{terms_of}
 use Rattle.presentation_text.specs.declared.document.Document.{Document}
 use Rattle.presentation_text.specs.declared.document.OrderName.{OrderName}
 use Rattle.presentation_text.specs.declared.document.OrderName.TheVariants.{Path, PathShort, LeafPath, WeightPath}
-use Rattle.presentation_text.specs.declared.lexing.Token.{Token}
 use Rattle.presentation_text.specs.declared.lexing.Token.TheVariants.{Word, Number}
-use Rattle.presentation_text.specs.DocumentForms.{Whole, read_text}
-use Rattle.presentation_text.specs.DocumentText.{line_of, order_word, opening_text, generators_text, relation_text, ask_text, document_text}
-use Rattle.presentation_text.specs.Grammar.{numbered_tokens, a_field, an_order, IsDocument, DocumentsAreAccepted}
+use Rattle.presentation_text.specs.DocumentText.{line_of, order_word, generators_text, relation_text, ask_text, document_text}
+use Rattle.presentation_text.specs.Grammar.{numbered_tokens, a_field, an_order, DocumentsAreAccepted}
 use Rattle.presentation_text.specs.LineForms.{Told, told_by_header, is_prime, order_named}
 use Rattle.presentation_text.specs.Lines.{HasNoFeed, lines}
-use Rattle.presentation_text.specs.Presentations.{weight_or_none}
-use Rattle.presentation_text.specs.ReadBack.{IsWritable, IsOfVersionOne, SayAgain, IsReadBack}
-use Rattle.presentation_text.specs.TreeText.{HasWords}
+use Rattle.presentation_text.specs.ReadBack.{IsWritable, SayAgain, IsReadBack}
 use Rattle.presentation_text.specs.Tokens.{IsWord, tokens}
 use Rattle.presentation_text.proofs.LineTexts.{no_feed-word, no_feed-decimal}
 use Rattle.presentation_text.proofs.PrintedDocuments.{field_small, reach-relations, reach-asks}

@@ -1,5 +1,5 @@
 -- A document that was read is writable.
-use Rattle.std.proofs.Common.{◌≡◌, ◌≢◌, ℕ, zero, suc, ◌-◌, ◌%◌, ◌<◌, ◌≤◌, ◌⊎◌, inl, inr, ⊎_elim, true, false, Bool, ◌==◌, if◌then◌else◌, List, [], ◌∷◌, length, map, Option, Some, None, refl, ap, sym, ◌∙◌, subst, arith}
+use Rattle.std.proofs.Common.{◌≡◌, ℕ, zero, suc, ◌-◌, ◌%◌, ◌<◌, ◌≤◌, inl, inr, ⊎_elim, true, false, Bool, ◌==◌, if◌then◌else◌, List, [], ◌∷◌, length, map, Option, Some, None, refl, ap, sym, ◌∙◌, subst, arith}
 use Rattle.std.specs.List.{All}
 use Rattle.std.proofs.lemmas.Bool.Decides.{nat_tests}
 use Rattle.std.proofs.lemmas.List.{length-map}
@@ -13,21 +13,18 @@ use Rattle.operad_ideals.specs.Laws.{arity}
 use Rattle.symmetric_trees.specs.Generators.{IsTable, parts_at}
 use Rattle.symmetric_trees.specs.declared.generators.Generator.{Generator}
 use Rattle.symmetric_sums.specs.Terms.{terms_of}
-use Rattle.presentation_text.specs.declared.document.Ask.{Ask}
 use Rattle.presentation_text.specs.declared.document.AskKind.{AskKind}
 use Rattle.presentation_text.specs.declared.document.AskKind.TheVariants.{Query, Same}
 use Rattle.presentation_text.specs.declared.document.Document.{Document}
-use Rattle.presentation_text.specs.declared.document.OrderName.TheVariants.{WeightPath}
 use Rattle.presentation_text.specs.Accepted.{AreDemanded, ElementsAreAccepted}
 use Rattle.presentation_text.specs.DraftForms.{asked, asked_kind}
 use Rattle.presentation_text.specs.ElementForms.{arity_of_first}
 use Rattle.presentation_text.specs.Elements.{Written, IsElementTree, residue, said}
-use Rattle.presentation_text.specs.LineForms.{Asked, Told, prime_of}
+use Rattle.presentation_text.specs.LineForms.{Told, prime_of}
 use Rattle.presentation_text.specs.Presentations.{Says, weight_or_none}
 use Rattle.presentation_text.specs.PrintedElements.{IsSaidTerm, IsSaidOver}
 use Rattle.presentation_text.specs.ReadBack.{IsSaidRelation, IsSaidAsk, IsOfVersionOne, IsWritable, ReadDocumentsAreWritable}
-use Rattle.presentation_text.specs.TreeText.{HasWords, name_of}
-use Rattle.presentation_text.specs.Tokens.{IsWord}
+use Rattle.presentation_text.specs.TreeText.{HasWords}
 use Rattle.presentation_text.specs.WellFormed.{IsAsked, IsGeneratorName, IsSaid, IsWholeWellFormed}
 use Rattle.presentation_text.proofs.ToldLines.{documents_well}
 

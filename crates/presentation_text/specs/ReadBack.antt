@@ -1,17 +1,16 @@
 -- What is printed of a document is read back.
-use Rattle.std.specs.Prelude.{ℕ, ◌≡◌, ◌≢◌, ◌<◌, ◌≤◌, ◌⊎◌, List, [], ◌∷◌, length, map, Option, Some, None, Ok}
+use Rattle.std.specs.Prelude.{ℕ, ◌≡◌, ◌≢◌, ◌≤◌, ◌⊎◌, List, length, map, Some, None, Ok}
 use Rattle.std.specs.List.{All}
 use Rattle.prime_field.specs.Primes.{IsFieldPrime}
 use Rattle.labelled_trees.specs.Trees.{Tree}
 use Rattle.symmetric_trees.specs.Generators.{IsTable}
 use Rattle.symmetric_trees.specs.declared.generators.Generator.{Generator}
 use Rattle.symmetric_sums.specs.Terms.{terms_of}
-use Rattle.presentation_text.specs.declared.document.Ask.{Ask}
 use Rattle.presentation_text.specs.declared.document.AskKind.{AskKind}
 use Rattle.presentation_text.specs.declared.document.AskKind.TheVariants.{Query, Same}
 use Rattle.presentation_text.specs.declared.document.Document.{Document}
 use Rattle.presentation_text.specs.declared.document.OrderName.TheVariants.{WeightPath}
-use Rattle.presentation_text.specs.DocumentForms.{Whole, read_text}
+use Rattle.presentation_text.specs.DocumentForms.{read_text}
 use Rattle.presentation_text.specs.DocumentText.{document_text}
 use Rattle.presentation_text.specs.DraftForms.{asked_kind}
 use Rattle.presentation_text.specs.PrintedElements.{IsSaidOver}

@@ -1,4 +1,4 @@
-use Rattle.std.proofs.Common.{◌≡◌, ◌<◌, ◌++◌, ◌∙◌, get_or, ap, length, subst, sym, arith}
+use Rattle.std.proofs.Common.{◌++◌, ◌∙◌, get_or, ap, arith}
 use Rattle.presentation_text.specs.DocumentText.{weight_text}
 use Rattle.presentation_text.proofs.GeneratorTexts.{generators_text-one}
 use Rattle.presentation_text.proofs.document_writing.write_generators.Goals as goal

@@ -1,4 +1,4 @@
-use Rattle.std.proofs.Common.{◌≡◌, subst, sym}
+use Rattle.std.proofs.Common.{subst, sym}
 use Rattle.symmetric_sums.specs.Terms.{FitsOver}
 use Rattle.presentation_text.proofs.document_writing.write_relations.Goals as goal
 
