@@ -1,10 +1,10 @@
 -- When a block of steps holds.
-use Rattle.std.specs.Prelude.{ℕ, ◌<◌, ◌++◌, List, [], ◌∷◌, map, flat_map}
+use Rattle.std.specs.Prelude.{ℕ, ◌++◌, List, [], ◌∷◌, map, flat_map}
 use Rattle.std.specs.List.{All}
 use Rattle.labelled_trees.specs.Trees.{Tree}
 use Rattle.symmetric_trees.specs.Generators.{parts_at}
 use Rattle.symmetric_trees.specs.declared.generators.Generator.{Generator}
-use Rattle.symmetric_sums.specs.Terms.{FitsOver, terms_of}
+use Rattle.symmetric_sums.specs.Terms.{terms_of}
 use Rattle.symmetric_sums.specs.Collected.{HaveOneForm}
 use Rattle.symmetric_sums.specs.Instances.{rule_element, IsValid, instance_element}
 use Rattle.symmetric_sums.specs.declared.term.Term.{Term}

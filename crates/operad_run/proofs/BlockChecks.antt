@@ -1,5 +1,5 @@
 -- Checking one block after another.
-use Rattle.std.proofs.Common.{◌≡◌, ℕ, ◌+◌, ◌<◌, ◌≤◌, List, [], ◌∷◌, ◌++◌, length, take, drop, get_or, refl, ap, sym, ◌∙◌, subst, arith, length-take, take_all}
+use Rattle.std.proofs.Common.{◌≡◌, ℕ, ◌+◌, ◌<◌, ◌≤◌, List, length, take, drop, get_or, refl, ap, sym, ◌∙◌, subst, arith, length-take, take_all}
 use Rattle.std.specs.List.{All}
 use Rattle.std.proofs.lemmas.List.Elements.{All-push}
 use Rattle.presentation_text.specs.declared.document.Document.{Document}
@@ -10,7 +10,6 @@ use Rattle.certificate_check.specs.declared.answer.CheckAnswer.TheVariants.{Acce
 use Rattle.certificate_check.specs.declared.answer.CheckCause.{CheckCause}
 use Rattle.certificate_check.proofs.GoodUses.{split-at, taken}
 use Rattle.operad_run.specs.Certified.{Holds, IsRefusedBy}
-use Rattle.operad_run.specs.declared.checks.Refusal.{Refusal}
 
 -- one more block that holds
 pub hold_more : (document : Document) (blocks : List Block) (i : ℕ) (block : Block) → i < length blocks → block ≡ get_or blocks i block

@@ -1,10 +1,5 @@
 -- How runs of `operad_check` end.
-use Rattle.std.proofs.Common.{◌≡◌, ℕ, suc, ◌++◌, inl, inr, ⊎_elim, List, [], ◌∷◌, length, refl, sym, subst, arith}
-use Rattle.std.specs.List.{All}
-use Rattle.presentation_text.specs.declared.document.Document as document_of
-use Rattle.presentation_text.specs.declared.kinds.DocKind.{DocKind}
-use Rattle.certificate_text.specs.declared.block.Block.{Block}
-use Rattle.certificate_check.specs.Blocks.{BlockHolds}
+use Rattle.std.proofs.Common.{ℕ, ◌++◌, inl, inr, List, ◌∷◌, refl, subst}
 use Rattle.operad_run.specs.Certified.{IsCertified, IsFirstFault, Holds, IsAccepted, IsRefused, Tells}
 use Rattle.operad_run.specs.Runs.{Outside, Came, Told, Ends}
 use Rattle.operad_run.specs.CheckRuns.{IsMemberWord, Says, IsComplete, IsRun}

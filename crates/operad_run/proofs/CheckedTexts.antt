@@ -1,5 +1,5 @@
 -- What a checked text is told.
-use Rattle.std.proofs.Common.{◌≡◌, ℕ, zero, suc, ◌+◌, ◌<◌, ◌++◌, ◌∷◌, List, [], length, map, codes, ap, sym, ◌∙◌, subst, arith}
+use Rattle.std.proofs.Common.{◌≡◌, ℕ, zero, suc, ◌+◌, ◌++◌, ◌∷◌, List, [], length, map, codes, ap, sym, ◌∙◌, subst, arith}
 use Rattle.std.specs.List.{All}
 use Rattle.std.specs.Fmt.{decimal}
 use Rattle.modular_sums.specs.Sums.{AllTerms}
@@ -22,7 +22,7 @@ use Rattle.certificate_text.specs.declared.block.Block.{Block}
 use Rattle.certificate_check.specs.Soundness.{AreElements}
 use Rattle.certificate_check.proofs.HeldBlocks.{held_blocks}
 use Rattle.operad_run.specs.Answers.{line}
-use Rattle.operad_run.specs.Certified.{IsCertified, Holds, IsMember, IsAccepted, IsRefused, IsRefusedBy, cause_name}
+use Rattle.operad_run.specs.Certified.{Holds, IsMember, IsAccepted, IsRefused, IsRefusedBy, cause_name}
 use Rattle.operad_run.specs.declared.checks.Refusal.{Refusal}
 use Rattle.operad_run.proofs.Decides.{field_positive}
 

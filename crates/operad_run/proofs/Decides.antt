@@ -1,5 +1,5 @@
 -- Answers tell elements apart modulo symmetry.
-use Rattle.std.proofs.Common.{subst, ◌≡◌, ℕ, zero, suc, ◌+◌, ◌-◌, ◌<◌, ◌≤◌, ◌^◌, inl, inr, List, [], ◌∷◌, length, refl, ap, sym, ◌∙◌, arith}
+use Rattle.std.proofs.Common.{subst, ◌≡◌, ℕ, zero, suc, ◌+◌, ◌-◌, ◌<◌, ◌≤◌, ◌^◌, List, [], ◌∷◌, ap, sym, ◌∙◌, arith}
 use Rattle.std.specs.List.{All}
 use Rattle.modular_sums.specs.Sums.{AllTerms}
 use Rattle.labelled_trees.specs.Trees.{Tree}
@@ -10,13 +10,13 @@ use Rattle.prime_field.proofs.Primes.{field_prime}
 use Rattle.symmetric_trees.specs.Generators.{IsTable, parts_at}
 use Rattle.symmetric_trees.specs.Trees.{IsLabelled}
 use Rattle.symmetric_trees.specs.declared.generators.Generator.{Generator}
-use Rattle.symmetric_sums.specs.Collected.{IsReduced, IsCollected}
+use Rattle.symmetric_sums.specs.Collected.{IsCollected}
 use Rattle.symmetric_sums.proofs.Decisions.{collected_decide}
 use Rattle.symmetric_sums.proofs.FormTrees.{form_labelled}
 use Rattle.presentation_text.specs.SumText.{IsPrintable, sum_text}
 use Rattle.presentation_text.specs.TreeText.{HasWords}
 use Rattle.presentation_text.proofs.PrintedSums.{read_back}
-use Rattle.operad_run.specs.Answers.{IsAnswer, AnswersDecide, free}
+use Rattle.operad_run.specs.Answers.{AnswersDecide, free}
 
 -- small leaves are 1 or more and have few digits
 small_leaves : (generators : List Generator) (n : ℕ) (t : Tree ℕ) → n ≤ 9 → IsLabelled generators n t → AllLeaves t (λ i. (0 < i) × (i < 10 ^ 18))

@@ -1,9 +1,7 @@
 -- How runs of `operad` end.
-use Rattle.std.proofs.Common.{◌≡◌, ℕ, ◌+◌, inl, inr, ⊎_elim, List, [], length, get_or, refl, ap, sym, ◌∙◌, subst, arith}
-use Rattle.std.specs.List.{All}
-use Rattle.presentation_text.specs.declared.document.Document as document_of
+use Rattle.std.proofs.Common.{◌≡◌, ℕ, ◌+◌, inl, inr, ⊎_elim, List, [], get_or, refl, ap, sym, ◌∙◌, subst, arith}
 use Rattle.operad_run.specs.Commands.{IsForms, IsCommand}
-use Rattle.operad_run.specs.Forms.{IsAskWithin, IsFree, IsAnswered, Tells}
+use Rattle.operad_run.specs.Forms.{Tells}
 use Rattle.operad_run.specs.Runs.{Outside, Came, Told, Ends}
 use Rattle.operad_run.specs.FormsRuns.{Says, IsComplete, IsRun}
 use Rattle.operad_run.specs.declared.status.Status.{Status}

@@ -1,9 +1,7 @@
 -- What `forms` tells of a text is determined by its bytes.
-use Rattle.std.proofs.Common.{◌≡◌, ℕ, ◌<◌, ◌++◌, ◌∷◌, List, [], length, Option, Some, None, Ok, Err, ap, ap₂, sym, ◌∙◌, refl, subst, arith, codes}
-use Rattle.std.specs.List.{All, flat_map}
-use Rattle.std.specs.Fmt.{decimal}
+use Rattle.std.proofs.Common.{◌≡◌, ℕ, ◌<◌, ◌∷◌, List, ap, ap₂, sym, ◌∙◌, refl}
+use Rattle.std.specs.List.{flat_map}
 use Rattle.labelled_trees.specs.Trees.{Tree}
-use Rattle.prime_field.specs.Primes.{IsFieldPrime}
 use Rattle.symmetric_trees.specs.Generators.{parts_at}
 use Rattle.symmetric_trees.specs.declared.generators.Generator.{Generator}
 use Rattle.symmetric_sums.proofs.Forms.{one_collected}

@@ -1,18 +1,15 @@
 -- What a run tells is determined by the bytes.
-use Rattle.std.proofs.Common.{◌≡◌, ℕ, suc, ◌+◌, ◌≤◌, ◌<◌, ◌++◌, ◌∷◌, ◌⊎◌, inl, inr, ⊎_elim, List, [], length, Option, Some, None, Err, ap, ap₂, sym, ◌∙◌, refl, subst, arith, codes}
+use Rattle.std.proofs.Common.{◌≡◌, ℕ, suc, ◌<◌, ◌++◌, ◌∷◌, List, [], ap, sym, ◌∙◌, refl, subst, arith, codes}
 use Rattle.std.specs.List.{All}
 use Rattle.std.specs.Fmt.{decimal}
-use Rattle.prime_field.specs.Primes.{IsFieldPrime}
-use Rattle.presentation_text.specs.DocumentForms.{LineFault, read_text}
+use Rattle.presentation_text.specs.DocumentForms.{LineFault}
 use Rattle.presentation_text.specs.Presentations.{IsReadAs}
 use Rattle.presentation_text.specs.ReadBack.{ReadDocumentsAreWritable}
 use Rattle.presentation_text.specs.declared.document.Ask.{Ask}
 use Rattle.presentation_text.specs.declared.document.Document as document_of
-use Rattle.presentation_text.specs.declared.document.Tail.{Tail}
-use Rattle.presentation_text.specs.declared.kinds.DocKind.{DocKind}
-use Rattle.presentation_text.specs.declared.kinds.DocKind.TheVariants.{Block, NotBuilt}
+use Rattle.presentation_text.specs.declared.kinds.DocKind.TheVariants.{Block}
 use Rattle.operad_run.specs.Answers.{AreAnswered, line}
-use Rattle.operad_run.specs.Forms.{IsAskWithin, IsFirstWide, HasNoRelations, IsFree, IsRefused, by_line, by_tail, by_relation, IsTooWide, IsAnswered, Tells, queries}
+use Rattle.operad_run.specs.Forms.{IsAskWithin, IsFirstWide, IsFree, IsRefused, by_line, by_tail, by_relation, IsTooWide, IsAnswered, Tells, queries}
 use Rattle.operad_run.specs.Runs.{fault_text}
 use Rattle.operad_run.specs.Laws.{AnswersAreDetermined}
 use Rattle.operad_run.specs.declared.status.Status.{Status}

@@ -1,5 +1,5 @@
 -- Whether the blocks of a text hold is determined by its bytes.
-use Rattle.std.proofs.Common.{◌≡◌, ℕ, ◌+◌, ◌++◌, ◌∷◌, ◌⊎◌, inl, inr, ⊎_elim, List, [], length, Err, refl, ap, ap₂, sym, ◌∙◌, subst, arith, codes}
+use Rattle.std.proofs.Common.{ℕ, ⊎_elim, List, subst}
 use Rattle.std.specs.List.{All}
 use Rattle.symmetric_trees.specs.declared.generators.Generator.{Generator}
 use Rattle.symmetric_sums.specs.declared.term.Term.{Term}

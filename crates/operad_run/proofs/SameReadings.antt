@@ -1,5 +1,5 @@
 -- A text is read in one way: documents and blocks that are read from it are the same in all that a run asks of them.
-use Rattle.std.proofs.Common.{◌≡◌, ℕ, ◌+◌, List, [], ◌∷◌, ◌++◌, length, map, drop, Option, Some, None, Result, Ok, Err, refl, ap, ap₂, sym, ◌∙◌, subst, arith}
+use Rattle.std.proofs.Common.{◌≡◌, ℕ, List, [], ◌∷◌, ◌++◌, length, map, drop, Option, Some, None, Result, Ok, Err, refl, ap, ap₂, sym, ◌∙◌, subst, arith}
 use Rattle.labelled_trees.specs.Trees.{Tree}
 use Rattle.labelled_trees.specs.Meaning.{tree_of}
 use Rattle.labelled_trees.proofs.ProgramTrees.{one_to_one}
@@ -13,7 +13,7 @@ use Rattle.presentation_text.specs.declared.document.Document.{Document}
 use Rattle.presentation_text.specs.declared.document.Tail.{Tail}
 use Rattle.presentation_text.specs.DocumentForms.{LineFault, Whole, read_text}
 use Rattle.presentation_text.specs.DraftForms.{asked, asked_kind}
-use Rattle.presentation_text.specs.LineForms.{Asked, query, same}
+use Rattle.presentation_text.specs.LineForms.{Asked}
 use Rattle.presentation_text.specs.Lines.{lines}
 use Rattle.presentation_text.specs.Presentations.{IsReadAs, IsTail}
 use Rattle.certificate_text.specs.BlockForms.{Base, between, blocks_from, base_of, read_tail}

@@ -7,7 +7,7 @@ use Rattle.certificate_text.specs.declared.block.Block.{Block}
 use Rattle.operad_run.specs.Certified.{IsCertified, Holds, Tells}
 use Rattle.operad_run.specs.Runs.{Outside, Came, most_bytes, IsMisused, IsUnreadable, IsTooLong, Ends}
 use Rattle.operad_run.specs.declared.status.Status.{Status}
-use Rattle.operad_run.specs.declared.status.Status.TheVariants.{Done, Refused, Usage, Document, Limit, Budget, ReadFault, WriteFault, NoMemory}
+use Rattle.operad_run.specs.declared.status.Status.TheVariants.{Done, Refused, Usage, Document, Limit, ReadFault, NoMemory}
 
 -- the one word `member`
 abbrev pub IsMemberWord : List (List ℕ) → Type 0

@@ -7,7 +7,7 @@ use Rattle.operad_run.specs.Commands.{IsForms, IsCommand}
 use Rattle.operad_run.specs.Forms.{IsAskWithin, IsFree, Tells}
 use Rattle.operad_run.specs.Runs.{Outside, Came, most_bytes, IsMisused, IsUnreadable, IsTooLong, Ends}
 use Rattle.operad_run.specs.declared.status.Status.{Status}
-use Rattle.operad_run.specs.declared.status.Status.TheVariants.{Done, Refused, Usage, Document, Limit, Budget, ReadFault, WriteFault, NoMemory}
+use Rattle.operad_run.specs.declared.status.Status.TheVariants.{Done, Usage, Document, Limit, ReadFault, NoMemory}
 
 -- each status with its cause and the text that goes with it; the other statuses define no text
 abbrev pub Says : List (List ℕ) → Outside → Status → List ℕ → Type 0

@@ -1,4 +1,4 @@
-use Rattle.std.proofs.Common.{◌≡◌, ◌++◌, inl, inr, ap, codes, subst, ◌∙◌}
+use Rattle.std.proofs.Common.{◌++◌, inl, inr, ap, codes, subst, ◌∙◌}
 use Rattle.std.specs.Fmt.{decimal}
 use Rattle.std.specs.Option.{MatchOption}
 use Rattle.std.specs.List.{All}
@@ -6,7 +6,7 @@ use Rattle.presentation_text.specs.Presentations as documents
 use Rattle.certificate_text.specs.Tails as blocks
 use Rattle.operad_run.specs.Answers.{line}
 use Rattle.operad_run.specs.Certified.{Holds, IsRefusedBy}
-use Rattle.operad_run.proofs.CheckedTexts.{accepted, refused}
+use Rattle.operad_run.proofs.CheckedTexts.{accepted}
 use Rattle.operad_run.proofs.checks.check_text.Goals as goal
 
 pub returns-in-Err-At : goal.returns-in-Err-At

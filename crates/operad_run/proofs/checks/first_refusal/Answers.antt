@@ -1,5 +1,4 @@
-use Rattle.std.proofs.Common.{◌≡◌, ◌+◌, ◌≤◌, ap, arith, subst, sym}
-use Rattle.std.specs.Prelude.{Ok}
+use Rattle.std.proofs.Common.{◌+◌, ap, arith, subst, sym}
 use Rattle.certificate_text.specs.Tails.{IsReadyBlock}
 use Rattle.certificate_check.specs.Answers.{IsAnswer}
 use Rattle.operad_run.proofs.BlockChecks.{hold_more, refused_at, all_hold, accepted_holds}

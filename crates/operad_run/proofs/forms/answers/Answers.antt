@@ -1,4 +1,4 @@
-use Rattle.std.proofs.Common.{◌≡◌, ◌≤◌, ◌+◌, List, ◌<◌, ap, arith, get_or, length, subst, sym}
+use Rattle.std.proofs.Common.{◌≡◌, List, ◌<◌, ap, arith, get_or, length, subst}
 use Rattle.presentation_text.specs.declared.document.Ask.{Ask}
 use Rattle.operad_run.proofs.AnswerSteps.{none_answered, one_more, all_answered}
 use Rattle.operad_run.proofs.forms.answers.Goals as goal

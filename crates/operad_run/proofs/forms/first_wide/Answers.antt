@@ -1,4 +1,4 @@
-use Rattle.std.proofs.Common.{◌≡◌, ◌+◌, ◌≤◌, true, false, arith, refl}
+use Rattle.std.proofs.Common.{◌≡◌, true, false, arith, refl}
 use Rattle.operad_run.proofs.AnswerSteps.{within_more, all_within, first_wide}
 use Rattle.operad_run.proofs.forms.first_wide.Goals as goal
 

@@ -1,8 +1,8 @@
-use Rattle.std.proofs.Common.{◌≡◌, ◌∙◌, ap, false, true, refl, subst, sym}
+use Rattle.std.proofs.Common.{◌≡◌, false, true, refl, subst, sym}
 use Rattle.std.specs.List.{All}
 use Rattle.std.specs.Option.{MatchOption}
 use Rattle.presentation_text.specs.Presentations as documents
-use Rattle.operad_run.specs.Forms.{IsAskWithin, IsFirstWide, IsFree, IsRefused, by_line, by_tail, by_relation}
+use Rattle.operad_run.specs.Forms.{IsAskWithin, IsFirstWide, IsRefused, by_line, by_tail, by_relation}
 use Rattle.operad_run.proofs.AnswerSteps.{none_if}
 use Rattle.operad_run.proofs.Decides.{answers_decide}
 use Rattle.operad_run.proofs.forms.forms_text.Goals as goal

@@ -1,4 +1,4 @@
-use Rattle.std.proofs.Common.{◌≡◌, ◌≤◌, ◌↔◌, Some, subst, refl}
+use Rattle.std.proofs.Common.{subst, refl}
 use Rattle.std.proofs.lemmas.Bool.{leb-true, le-leb}
 use Rattle.symmetric_sums.specs.Terms.{ArityIs}
 use Rattle.operad_run.proofs.AnswerSteps.{arity_within}

@@ -1,4 +1,3 @@
-use Rattle.std.proofs.Common.{◌≡◌, ◌∙◌}
 use Rattle.operad_run.proofs.AnswerSteps.{some_arity}
 use Rattle.operad_run.proofs.forms.write_answer.Goals as goal
 

@@ -1,4 +1,4 @@
-use Rattle.std.proofs.Common.{◌≡◌, ℕ, List, [], ◌∷◌, map, string_bytes, codes, ap, sym, ◌∙◌, get_or}
+use Rattle.std.proofs.Common.{[], ◌∷◌, string_bytes, ap, sym, ◌∙◌, get_or}
 use Rattle.operad_run.proofs.Words.{one_word}
 use Rattle.operad_run.proofs.member.is_member.Goals as goal
 
