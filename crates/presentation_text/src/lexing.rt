@@ -20,6 +20,9 @@ pub enum Token {
 
 const LONGEST_NUMBER: usize = 18;
 
+// For how many tokens there is room at first.
+const FIRST_ROOM: usize = 256;
+
 fn is_letter(byte: u8) -> bool
     ensures { result ≡ spec.is_letter byte }
 {
@@ -124,7 +127,7 @@ pub fn tokens(alloc: Global, line: &[u8]) -> Result<Vec<Token>, AllocError>
     ensures defined { IfOk result (λ found. spec.AreTokens line.now found.items) }
     ensures found { IfOk result (λ found. found.items ≡ spec.tokens line.now) }
 {
-    let mut found = Vec::new(alloc);
+    let mut found = Vec::with_capacity(alloc, line.len().min(FIRST_ROOM))?;
     let mut rest = line;
     while !rest.is_empty() {
         let (token, len) = front(alloc, rest)?;

@@ -184,10 +184,11 @@ fn vertex_within(
     ensures fits { IfOk result (λ found. Fits table.now (tree_of found.tree)) }
     ensures further { IfOk result (λ found. at < found.end) }
 {
-    let mut inputs = Items::new(alloc);
+    let arity = table.get(generator).arity;
+    let mut inputs = Items::from_vec(Vec::with_capacity(alloc, usize::from(arity))?);
     let mut next = at;
     let mut leaves = 0;
-    for index in 0..table.get(generator).arity {
+    for index in 0..arity {
         next = before_input(tokens, next, index == 0)?;
         let input = input_within(alloc, table, tokens, next, depth, seen + leaves)?;
         inputs.push(input.tree)?;

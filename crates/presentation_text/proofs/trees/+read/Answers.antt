@@ -103,7 +103,7 @@ vertex_within-returns-in_err-next-clause-read t c =
     let g = c.args.generator in
     let is = arity_in-get table c.get.ensures.table g c.get.result.now c.requires.held c.get.ensures.found in
     let fewer : c.loop-index.index < arity_in table g = omega (arith, is, c.loop-index-test.true) in
-    tree-handed_on tokens (node_in table (Some inside) c.args.seen (Some g) (drop c.args.at tokens)) c.from_residual.result c.in_err-next.field-0.0 c.from_residual.ensures.0 c.from_residual.ensures.1
+    tree-handed_on tokens (node_in table (Some inside) c.args.seen (Some g) (drop c.args.at tokens)) c.from_residual-in_err-next.result c.in_err-next.field-0.0 c.from_residual-in_err-next.ensures.0 c.from_residual-in_err-next.ensures.1
     (steps.stops-no_mark table inside tokens c.args.at g c.args.seen (map tree_of c.loop-index.inputs) c.loop-index.index c.loop-index.next c.loop-index.leaves c.loop-index.invariant fewer c.in_err-next.field-0.0 c.in_err-next.ensures)
 
 pub vertex_within-returns-in_err-input-clause-read :
