@@ -11,6 +11,7 @@ use std::process::ExitCode;
 
 // The most bytes of all rows, and of what a run writes.
 const MOST_BYTES: u64 = 16_777_216;
+
 const ROOM: usize = 65536;
 
 // How many bytes a source gives, and a sink takes, in a call.
