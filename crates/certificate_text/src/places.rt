@@ -54,7 +54,7 @@ impl Place {
 }
 
 // The element of a line of a word and an element.
-fn sum_line(alloc: Global, document: &Document, tokens: &[Token]) -> Result<Sum, PartFail>
+fn sum_line(alloc: Global, document: &Document, tokens: &[Token<'_>]) -> Result<Sum, PartFail>
     requires word { 1 ≤ length tokens.now }
     ensures read { MatchResult result (λ sum. spec.sum_in document.now.field document.now.gens (drop 1 tokens.now) ≡ Ok (terms_of sum))
         (StopsAs tokens.now (spec.sum_in document.now.field document.now.gens (drop 1 tokens.now))) }
@@ -70,7 +70,7 @@ fn want_line(
     alloc: Global,
     document: &Document,
     blocks: Items<Block>,
-    tokens: &[Token],
+    tokens: &[Token<'_>],
 ) -> Result<Progress, PartFail>
     requires word { 1 ≤ length tokens.now }
     ensures { forms.GivesFollow tokens.now (spec.want_line document.now.field document.now.gens (map plain_block blocks) (drop 1 tokens.now)) result }
@@ -93,7 +93,7 @@ fn block_line(
     block: Block,
     blocks: Items<Block>,
     word: &str,
-    tokens: &[Token],
+    tokens: &[Token<'_>],
 ) -> Result<Progress, PartFail>
     requires word { 1 ≤ length tokens.now }
     ensures { forms.GivesFollow tokens.now (spec.block_line document.now.field document.now.gens (plain_block block) (map plain_block blocks) word.now (drop 1 tokens.now)) result }
@@ -126,7 +126,7 @@ fn step_line(
     step: Step,
     blocks: Items<Block>,
     word: &str,
-    tokens: &[Token],
+    tokens: &[Token<'_>],
 ) -> Result<Progress, PartFail>
     requires word { 1 ≤ length tokens.now }
     ensures { forms.GivesFollow tokens.now (spec.step_line document.now.field document.now.gens (plain_block block) (plain_step step) (map plain_block blocks) word.now (drop 1 tokens.now)) result }
@@ -151,7 +151,7 @@ pub fn follow(
     document: &Document,
     now: Progress,
     word: &str,
-    tokens: &[Token],
+    tokens: &[Token<'_>],
 ) -> Result<Progress, PartFail>
     requires word { 1 ≤ length tokens.now }
     ensures { forms.GivesFollow tokens.now (spec.rest_of_tail_line document.now.field document.now.gens (forms.place_of now.place) (map plain_block now.blocks) word.now (drop 1 tokens.now)) result }

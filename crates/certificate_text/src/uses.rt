@@ -44,13 +44,13 @@ fn cites_step(word: &str) -> Option<bool>
 }
 
 // What is cited at a place, with two tokens.
-fn cited_at(tokens: &[Token], at: usize) -> Result<Rule, PartFail>
+fn cited_at(tokens: &[Token<'_>], at: usize) -> Result<Rule, PartFail>
     requires within { at ≤ length tokens.now }
     ensures { MatchResult result (λ rule. (spec.cited_in (drop at tokens.now) ≡ Ok (rule, drop (at + 2) tokens.now)) × (at + 2 ≤ length tokens.now))
         (StopsAs tokens.now (spec.cited_in (drop at tokens.now))) }
 {
     let word = word_at(tokens, at)?;
-    let Some(step) = cites_step(word.as_str()) else {
+    let Some(step) = cites_step(word) else {
         return fail(at, DocKind::Syntax);
     };
     let number = cited_number(number_at(tokens, at + 1)?);
@@ -64,7 +64,7 @@ fn cited_at(tokens: &[Token], at: usize) -> Result<Rule, PartFail>
 fn inputs_at(
     alloc: Global,
     table: &GenTable,
-    tokens: &[Token],
+    tokens: &[Token<'_>],
     at: usize,
 ) -> Result<Items<Tree>, PartFail>
     requires within { at ≤ length tokens.now }
@@ -91,7 +91,7 @@ fn signed_residue(field: Field, negative: bool, number: u64) -> u32
 }
 
 // The sign and the number at a place, and the place behind them.
-fn coefficient_at(tokens: &[Token], at: usize) -> Result<(bool, u64, usize), PartFail>
+fn coefficient_at(tokens: &[Token<'_>], at: usize) -> Result<(bool, u64, usize), PartFail>
     requires within { at ≤ length tokens.now }
     ensures { MatchResult result (λ found. (spec.coefficient_in (drop at tokens.now) ≡ Ok ((found.0, found.1), drop found.2 tokens.now)) × (found.2 ≤ length tokens.now))
         (StopsAs tokens.now (spec.coefficient_in (drop at tokens.now))) }
@@ -109,7 +109,7 @@ pub fn use_line(
     alloc: Global,
     field: Field,
     table: &GenTable,
-    tokens: &[Token],
+    tokens: &[Token<'_>],
 ) -> Result<Instance, PartFail>
     requires word { 1 ≤ length tokens.now }
     ensures read { MatchResult result (λ item. spec.use_in field table.now (drop 1 tokens.now) ≡ Ok (plain_use item))

@@ -5,13 +5,36 @@ ghost use Rattle.presentation_text.specs.Laws.{TokensAreDefined, WordsAreWords};
 
 use crate::lines::is_blank;
 use std::alloc::{AllocError, Global};
-use symmetric_trees::Name;
+use std::marker::Model;
 
-/// A word, a number, a number of more than 18 digits, a single byte of `+ - * ( ) , ; =`,
-/// or a byte that begins no token.
+/// A word of a line, lent from it: contracts see its bytes.
 #[derive(Debug, Drop)]
-pub enum Token {
-    Word(Name),
+pub struct Word<'a> {
+    text: &'a str,
+}
+
+impl<'a> Model for Word<'a> {
+    ghost use Rattle.std.specs.Prelude.{List, ℕ};
+
+    ghost Value = { List ℕ };
+
+    ghost view = { λ word. word.text.now };
+}
+
+impl<'a> Word<'a> {
+    /// The word as text.
+    pub fn as_str(&self) -> &'a str
+        ensures bytes { result.now ≡ self.now }
+    {
+        self.text
+    }
+}
+
+/// A token, of which a word is lent from the line: a word, a number, a number of more than 18 digits, a single byte of
+/// `+ - * ( ) , ; =`, or a byte that begins no token.
+#[derive(Debug, Drop)]
+pub enum Token<'a> {
+    Word(Word<'a>),
     Number(u64),
     Long,
     Byte(u8),
@@ -73,7 +96,7 @@ fn value(digits: &[u8]) -> u64
     value
 }
 
-fn numeral(digits: &[u8]) -> Token
+fn numeral<'a>(digits: &[u8]) -> Token<'a>
     requires { IsTrue (list_all spec.is_digit digits.now) }
     ensures { result ≡ spec.numeral digits.now }
 {
@@ -84,53 +107,53 @@ fn numeral(digits: &[u8]) -> Token
     }
 }
 
-fn word(alloc: Global, bytes: &[u8]) -> Result<Token, AllocError>
+fn lent_word(bytes: &[u8]) -> Token<'_>
     requires { IsTrue (list_all spec.is_word_byte bytes.now) }
-    ensures { IfOk result (λ token. token ≡ Token.Word bytes.now) }
+    ensures { result ≡ Token.Word bytes.now }
 {
     let text = std::str::from_utf8(bytes).unwrap();
-    Ok(Token::Word(Name::new(alloc, text)?))
+    Token::Word(Word { text })
 }
 
 // The token at the front, if the first byte is no blank, and how many bytes it takes.
-fn front(alloc: Global, rest: &[u8]) -> Result<(Option<Token>, usize), AllocError>
-    ensures within { IfOk result (λ found. found.1 ≤ length rest.now) }
-    ensures some { IfOk result (λ found. 0 < length rest.now → 0 < found.1) }
-    ensures read { IfOk result (λ found. MatchOption found.0
-        (spec.tokens rest.now ≡ spec.tokens_behind found.1 rest.now)
-        (λ token. spec.tokens rest.now ≡ token ∷ spec.tokens_behind found.1 rest.now)) }
+fn front(rest: &[u8]) -> (Option<Token<'_>>, usize)
+    ensures within { result.1 ≤ length rest.now }
+    ensures some { 0 < length rest.now → 0 < result.1 }
+    ensures read { MatchOption result.0
+        (spec.tokens rest.now ≡ spec.tokens_behind result.1 rest.now)
+        (λ token. spec.tokens rest.now ≡ token ∷ spec.tokens_behind result.1 rest.now) }
 {
     match rest {
-        [] => Ok((None, 0)),
+        [] => (None, 0),
         [byte, more @ ..] => {
             if is_blank(*byte) {
-                return Ok((None, 1));
+                return (None, 1);
             }
             if is_letter(*byte) {
                 let len = word_len(more);
-                return Ok((Some(word(alloc, &rest[..len + 1])?), len + 1));
+                return (Some(lent_word(&rest[..len + 1])), len + 1);
             }
             if is_digit(*byte) {
                 let len = digits_len(more);
-                return Ok((Some(numeral(&rest[..len + 1])), len + 1));
+                return (Some(numeral(&rest[..len + 1])), len + 1);
             }
             if is_single(*byte) {
-                return Ok((Some(Token::Byte(*byte)), 1));
+                return (Some(Token::Byte(*byte)), 1);
             }
-            Ok((Some(Token::Bad), 1))
+            (Some(Token::Bad), 1)
         }
     }
 }
 
 /// The tokens of a line. `AllocError` comes for want of memory alone.
-pub fn tokens(alloc: Global, line: &[u8]) -> Result<Vec<Token>, AllocError>
+pub fn tokens(alloc: Global, line: &[u8]) -> Result<Vec<Token<'_>>, AllocError>
     ensures defined { IfOk result (λ found. spec.AreTokens line.now found.items) }
     ensures found { IfOk result (λ found. found.items ≡ spec.tokens line.now) }
 {
     let mut found = Vec::with_capacity(alloc, line.len().min(FIRST_ROOM))?;
     let mut rest = line;
     while !rest.is_empty() {
-        let (token, len) = front(alloc, rest)?;
+        let (token, len) = front(rest);
         if let Some(token) = token {
             found.push(token)?;
         }

@@ -10,7 +10,7 @@ use crate::document::{Ask, AskKind, OrderName};
 use crate::draft::Draft;
 use crate::kinds::{DocKind, PartFail};
 use crate::lexing::Token;
-use crate::parts::{end_at, mark_at, number_at, word_at};
+use crate::parts::{end_at, fail, mark_at, number_at, word_at};
 use crate::terms::element_at;
 use prime_field::Field;
 use sqlite_items::Items;
@@ -25,16 +25,10 @@ const MOST_GENERATORS: u16 = 12;
 
 const GREATEST_WEIGHT: u64 = 1_000_000;
 
-fn fail<T>(token: usize, kind: DocKind) -> Result<T, PartFail>
-    ensures { result ≡ Err (PartFail.At token kind) }
-{
-    Err(PartFail::At { token, kind })
-}
-
 // ---- the field and the order
 
 // The rest of a line `field P`.
-pub(crate) fn field_line(draft: Draft, tokens: &[Token]) -> Result<Draft, PartFail>
+pub(crate) fn field_line(draft: Draft, tokens: &[Token<'_>]) -> Result<Draft, PartFail>
     requires word { 1 ≤ length tokens.now }
     requires sound { IsSound draft }
     requires first { draft.field ≡ None }
@@ -64,13 +58,13 @@ fn order_named(version: u8, name: &str) -> Option<OrderName>
 }
 
 // The rest of a line `order NAME`.
-pub(crate) fn order_line(draft: Draft, tokens: &[Token]) -> Result<Draft, PartFail>
+pub(crate) fn order_line(draft: Draft, tokens: &[Token<'_>]) -> Result<Draft, PartFail>
     requires word { 1 ≤ length tokens.now }
     requires sound { IsSound draft }
     ensures { GivesDraft tokens.now (spec.order_line (told_of draft) (drop 1 tokens.now)) result }
 {
     let name = word_at(tokens, 1)?;
-    let Some(order) = order_named(draft.version, name.as_str()) else {
+    let Some(order) = order_named(draft.version, name) else {
         return fail(1, DocKind::OrderUnknown);
     };
     end_at(tokens, 2)?;
@@ -108,7 +102,7 @@ fn part_named(word: &str) -> Option<PartKind>
 fn symmetry_at(
     alloc: Global,
     arity: u8,
-    tokens: &[Token],
+    tokens: &[Token<'_>],
     at: usize,
 ) -> Result<Items<Part>, PartFail>
     requires within { at ≤ length tokens.now }
@@ -116,7 +110,7 @@ fn symmetry_at(
         (StopsAs tokens.now (spec.symmetry_in arity (drop at tokens.now))) }
 {
     let word = word_at(tokens, at)?;
-    let Some(kind) = symmetry_named(word.as_str()) else {
+    let Some(kind) = symmetry_named(word) else {
         return fail(at, DocKind::Syntax);
     };
     end_at(tokens, at + 1)?;
@@ -126,7 +120,7 @@ fn symmetry_at(
 }
 
 // A part, of two tokens; the sizes before it add up to `sum`.
-fn part_at(arity: u8, sum: u8, tokens: &[Token], at: usize) -> Result<Part, PartFail>
+fn part_at(arity: u8, sum: u8, tokens: &[Token<'_>], at: usize) -> Result<Part, PartFail>
     requires within { at ≤ length tokens.now }
     requires small { sum ≤ arity }
     ensures read { MatchResult result (λ part. spec.part_in arity sum (drop at tokens.now) ≡ Ok (part, drop (at + 2) tokens.now))
@@ -135,7 +129,7 @@ fn part_at(arity: u8, sum: u8, tokens: &[Token], at: usize) -> Result<Part, Part
     ensures within { IfOk result (λ part. at + 2 ≤ length tokens.now) }
 {
     let word = word_at(tokens, at)?;
-    let Some(kind) = part_named(word.as_str()) else {
+    let Some(kind) = part_named(word) else {
         return fail(at, DocKind::Syntax);
     };
     let size = number_at(tokens, at + 1)?;
@@ -149,7 +143,7 @@ fn part_at(arity: u8, sum: u8, tokens: &[Token], at: usize) -> Result<Part, Part
 }
 
 // The parts of version 2, one at least, to the end of the line.
-fn parts_at(alloc: Global, arity: u8, tokens: &[Token], at: usize) -> Result<Items<Part>, PartFail>
+fn parts_at(alloc: Global, arity: u8, tokens: &[Token<'_>], at: usize) -> Result<Items<Part>, PartFail>
     requires within { at ≤ length tokens.now }
     ensures { MatchResult result (λ parts. spec.all_parts_in arity 0 (drop at tokens.now) ≡ Ok parts)
         (StopsAs tokens.now (spec.all_parts_in arity 0 (drop at tokens.now))) }
@@ -194,7 +188,7 @@ fn name_fault(table: &GenTable, name: &str) -> Option<DocKind>
 }
 
 // The name and the arity of a `gen` line.
-fn named_arity<'a>(table: &GenTable, tokens: &'a [Token]) -> Result<(&'a Name, u8), PartFail>
+fn named_arity<'a>(table: &GenTable, tokens: &'a [Token<'_>]) -> Result<(&'a str, u8), PartFail>
     requires word { 1 ≤ length tokens.now }
     ensures { MatchResult result (λ found. (spec.named_arity_in table.now (drop 1 tokens.now) ≡ Ok ((found.0.now, found.1), drop 3 tokens.now)) × (2 < length tokens.now))
         (StopsAs tokens.now (spec.named_arity_in table.now (drop 1 tokens.now))) }
@@ -203,7 +197,7 @@ fn named_arity<'a>(table: &GenTable, tokens: &'a [Token]) -> Result<(&'a Name, u
         return fail(0, DocKind::TooManyGens);
     }
     let name = word_at(tokens, 1)?;
-    if let Some(kind) = name_fault(table, name.as_str()) {
+    if let Some(kind) = name_fault(table, name) {
         return fail(1, kind);
     }
     let arity = number_at(tokens, 2)?;
@@ -218,7 +212,7 @@ fn inputs_at(
     alloc: Global,
     version: u8,
     arity: u8,
-    tokens: &[Token],
+    tokens: &[Token<'_>],
     at: usize,
 ) -> Result<Items<Part>, PartFail>
     requires within { at ≤ length tokens.now }
@@ -236,7 +230,7 @@ fn generator_at(
     alloc: Global,
     version: u8,
     table: &GenTable,
-    tokens: &[Token],
+    tokens: &[Token<'_>],
 ) -> Result<Generator, PartFail>
     requires word { 1 ≤ length tokens.now }
     ensures { MatchResult result (λ generator. spec.generator_in version table.now (drop 1 tokens.now) ≡ Ok generator)
@@ -245,7 +239,7 @@ fn generator_at(
     let (name, arity) = named_arity(table, tokens)?;
     let parts = inputs_at(alloc, version, arity, tokens, 3)?;
     Ok(Generator {
-        name: name.copy(alloc)?,
+        name: Name::new(alloc, name)?,
         arity,
         parts,
     })
@@ -263,7 +257,7 @@ fn out_of_memory(fail: GenFail) -> PartFail
 }
 
 // The rest of a line `gen NAME ARITY SYMMETRY`, or in version 2 `gen NAME ARITY PART` with any number of further parts.
-pub(crate) fn gen_line(alloc: Global, draft: Draft, tokens: &[Token]) -> Result<Draft, PartFail>
+pub(crate) fn gen_line(alloc: Global, draft: Draft, tokens: &[Token<'_>]) -> Result<Draft, PartFail>
     requires word { 1 ≤ length tokens.now }
     requires sound { IsSound draft }
     ensures { GivesDraft tokens.now (spec.gen_line (told_of draft) (drop 1 tokens.now)) result }
@@ -280,13 +274,13 @@ pub(crate) fn gen_line(alloc: Global, draft: Draft, tokens: &[Token]) -> Result<
 }
 
 // The rest of a line `weight NAME W`.
-pub(crate) fn weight_line(draft: Draft, tokens: &[Token]) -> Result<Draft, PartFail>
+pub(crate) fn weight_line(draft: Draft, tokens: &[Token<'_>]) -> Result<Draft, PartFail>
     requires word { 1 ≤ length tokens.now }
     requires sound { IsSound draft }
     ensures { GivesDraft tokens.now (spec.weight_line (told_of draft) (drop 1 tokens.now)) result }
 {
     let name = word_at(tokens, 1)?;
-    let Some(generator) = draft.gens.find(name.as_str()) else {
+    let Some(generator) = draft.gens.find(name) else {
         return fail(1, DocKind::NameUnknown);
     };
     let index = generator as usize;
@@ -307,7 +301,7 @@ pub(crate) fn weight_line(draft: Draft, tokens: &[Token]) -> Result<Draft, PartF
 // ---- relations and questions
 
 // The rest of a line `rel ELEMENT`.
-pub(crate) fn rel_line(alloc: Global, draft: Draft, tokens: &[Token]) -> Result<Draft, PartFail>
+pub(crate) fn rel_line(alloc: Global, draft: Draft, tokens: &[Token<'_>]) -> Result<Draft, PartFail>
     requires word { 1 ≤ length tokens.now }
     requires sound { IsSound draft }
     requires field { IsTrue (is_some draft.field) }
@@ -332,7 +326,7 @@ fn query_at(
     alloc: Global,
     field: Field,
     table: &GenTable,
-    tokens: &[Token],
+    tokens: &[Token<'_>],
 ) -> Result<AskKind, PartFail>
     requires word { 1 ≤ length tokens.now }
     ensures { GivesAsk field table.now tokens.now (spec.query_in field table.now (drop 1 tokens.now)) result }
@@ -347,7 +341,7 @@ fn same_at(
     alloc: Global,
     field: Field,
     table: &GenTable,
-    tokens: &[Token],
+    tokens: &[Token<'_>],
 ) -> Result<AskKind, PartFail>
     requires word { 1 ≤ length tokens.now }
     ensures { GivesAsk field table.now tokens.now (spec.same_in field table.now (drop 1 tokens.now)) result }
@@ -378,7 +372,7 @@ pub(crate) fn query_line(
     alloc: Global,
     draft: Draft,
     number: u32,
-    tokens: &[Token],
+    tokens: &[Token<'_>],
 ) -> Result<Draft, PartFail>
     requires word { 1 ≤ length tokens.now }
     requires sound { IsSound draft }
@@ -397,7 +391,7 @@ pub(crate) fn same_line(
     alloc: Global,
     draft: Draft,
     number: u32,
-    tokens: &[Token],
+    tokens: &[Token<'_>],
 ) -> Result<Draft, PartFail>
     requires word { 1 ≤ length tokens.now }
     requires sound { IsSound draft }

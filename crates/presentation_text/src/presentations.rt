@@ -57,7 +57,7 @@ fn fail<T>(line: u32, kind: DocKind) -> Result<T, ReadDocFail>
 }
 
 // The version of a header.
-fn version_of(tokens: &[Token]) -> Option<u8>
+fn version_of(tokens: &[Token<'_>]) -> Option<u8>
     ensures { result ≡ spec.version_of tokens.now }
 {
     match tokens {
@@ -78,7 +78,7 @@ fn rest_of_line(
     draft: Draft,
     number: u32,
     word: &str,
-    tokens: &[Token],
+    tokens: &[Token<'_>],
 ) -> Result<Draft, PartFail>
     requires word { 1 ≤ length tokens.now }
     requires sound { IsSound draft }

@@ -38,7 +38,7 @@ struct TermRead {
 }
 
 // Whether the number 0 stands at the place, not followed by '*'.
-fn is_nothing(tokens: &[Token], at: usize) -> bool
+fn is_nothing(tokens: &[Token<'_>], at: usize) -> bool
     requires within { at ≤ length tokens.now }
     ensures { result ≡ spec.is_nothing (drop at tokens.now) }
 {
@@ -49,7 +49,7 @@ fn is_nothing(tokens: &[Token], at: usize) -> bool
 }
 
 // The number before '*' at the place, and the place behind the two; else nothing and the place itself.
-fn coefficient_at(tokens: &[Token], at: usize) -> (Option<u64>, usize)
+fn coefficient_at(tokens: &[Token<'_>], at: usize) -> (Option<u64>, usize)
     requires within { at ≤ length tokens.now }
     ensures coefficient { result.0 ≡ spec.coefficient (drop at tokens.now) }
     ensures behind { drop result.1 tokens.now ≡ spec.behind_coefficient result.0 (drop at tokens.now) }
@@ -68,7 +68,7 @@ fn coefficient_at(tokens: &[Token], at: usize) -> (Option<u64>, usize)
 }
 
 // The sign before a further term: whether it is '-'.
-fn sign_at(tokens: &[Token], at: usize) -> Option<bool>
+fn sign_at(tokens: &[Token<'_>], at: usize) -> Option<bool>
     requires within { at ≤ length tokens.now }
     ensures { result ≡ spec.sign (drop at tokens.now) }
 {
@@ -80,7 +80,7 @@ fn sign_at(tokens: &[Token], at: usize) -> Option<bool>
 }
 
 // Whether '-' stands at the place, and the place behind it; else the place itself.
-fn minus_at(tokens: &[Token], at: usize) -> (bool, usize)
+fn minus_at(tokens: &[Token<'_>], at: usize) -> (bool, usize)
     requires within { at ≤ length tokens.now }
     ensures minus { result.0 ≡ begins_with 45 (drop at tokens.now) }
     ensures behind { drop result.1 tokens.now ≡ (if result.0 then spec.behind_one (drop at tokens.now) else drop at tokens.now) }
@@ -98,7 +98,7 @@ fn term_at(
     alloc: Global,
     table: &GenTable,
     demands: Demands,
-    tokens: &[Token],
+    tokens: &[Token<'_>],
     at: usize,
     negative: bool,
 ) -> Result<TermRead, PartFail>
@@ -156,7 +156,7 @@ fn further_at(
     alloc: Global,
     field: Field,
     table: &GenTable,
-    tokens: &[Token],
+    tokens: &[Token<'_>],
     least: u8,
     begun: ElementAt,
 ) -> Result<ElementAt, PartFail>
@@ -196,7 +196,7 @@ pub fn element_at(
     alloc: Global,
     field: Field,
     table: &GenTable,
-    tokens: &[Token],
+    tokens: &[Token<'_>],
     at: usize,
     least: u8,
     arity: Option<u8>,

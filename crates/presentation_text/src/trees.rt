@@ -10,12 +10,12 @@ ghost use Rattle.presentation_text.specs.TreeForms as spec;
 ghost use Rattle.presentation_text.specs.declared.lexing.Token.{Token};
 
 use crate::kinds::{DocKind, PartFail};
-use crate::lexing::Token;
-use crate::parts::{has_mark, mark_at, misfit, token_at};
+use crate::lexing::{Token, Word};
+use crate::parts::{fail, has_mark, mark_at, misfit, token_at};
 use labelled_trees::Tree;
 use sqlite_items::Items;
 use std::alloc::Global;
-use symmetric_trees::{GenTable, Name, arity_of};
+use symmetric_trees::{GenTable, arity_of};
 
 // What is asked of a tree beside its form.
 #[derive(Clone, Copy, Debug, PartialEq, Eq)]
@@ -45,14 +45,8 @@ const MOST_LEAVES: u8 = 9;
 
 const GREATEST_LEAF: u64 = 99;
 
-fn fail<T>(token: usize, kind: DocKind) -> Result<T, PartFail>
-    ensures { result ≡ Err (PartFail.At token kind) }
-{
-    Err(PartFail::At { token, kind })
-}
-
 // The index of the generator with this name.
-fn generator_named(table: &GenTable, name: &Name) -> Option<u16>
+fn generator_named(table: &GenTable, name: &Word<'_>) -> Option<u16>
     ensures index { result ≡ spec.index_of name.now table.now }
     ensures held { IfSome result (λ index. index < length table.now) }
 {
@@ -62,7 +56,7 @@ fn generator_named(table: &GenTable, name: &Name) -> Option<u16>
 }
 
 // The place behind '(' before the first input, or behind ',' before a further one.
-fn before_input(tokens: &[Token], at: usize, first: bool) -> Result<usize, PartFail>
+fn before_input(tokens: &[Token<'_>], at: usize, first: bool) -> Result<usize, PartFail>
     requires within { at ≤ length tokens.now }
     ensures { GivesBehind tokens.now (spec.before_in first (drop at tokens.now)) result }
 {
@@ -76,7 +70,7 @@ fn before_input(tokens: &[Token], at: usize, first: bool) -> Result<usize, PartF
 }
 
 // The place behind the ')' of a vertex.
-fn behind_inputs(tokens: &[Token], at: usize) -> Result<usize, PartFail>
+fn behind_inputs(tokens: &[Token<'_>], at: usize) -> Result<usize, PartFail>
     requires within { at ≤ length tokens.now }
     ensures { GivesBehind tokens.now (spec.close_in (drop at tokens.now)) result }
 {
@@ -112,7 +106,7 @@ fn leaf(at: usize, number: u64, seen: u8) -> Result<TreeRead, PartFail>
 fn tree_within(
     alloc: Global,
     table: &GenTable,
-    tokens: &[Token],
+    tokens: &[Token<'_>],
     at: usize,
     depth: u8,
     seen: u8,
@@ -147,7 +141,7 @@ fn tree_within(
 fn input_within(
     alloc: Global,
     table: &GenTable,
-    tokens: &[Token],
+    tokens: &[Token<'_>],
     at: usize,
     depth: u8,
     seen: u8,
@@ -170,7 +164,7 @@ fn input_within(
 fn vertex_within(
     alloc: Global,
     table: &GenTable,
-    tokens: &[Token],
+    tokens: &[Token<'_>],
     at: usize,
     generator: u16,
     depth: u8,
@@ -234,7 +228,7 @@ pub(crate) fn demanded_tree_at(
     alloc: Global,
     table: &GenTable,
     demands: Demands,
-    tokens: &[Token],
+    tokens: &[Token<'_>],
     at: usize,
 ) -> Result<TreeRead, PartFail>
     requires within { at ≤ length tokens.now }
@@ -263,7 +257,7 @@ pub(crate) fn demanded_tree_at(
 pub fn tree_at(
     alloc: Global,
     table: &GenTable,
-    tokens: &[Token],
+    tokens: &[Token<'_>],
     at: usize,
     loose: bool,
 ) -> Result<(Tree, usize), PartFail>

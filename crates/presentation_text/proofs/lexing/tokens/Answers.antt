@@ -9,15 +9,15 @@ use Rattle.presentation_text.proofs.lexing.tokens.Goals.{in-Some+in_ok-push, in_
 pub loop-rest-preserved : goal.loop-rest-preserved
 loop-rest-preserved c =
     let rest = c.loop-rest.rest.now in
-    let behind = spec.tokens_behind c.in_ok-token.len rest in
+    let behind = spec.tokens_behind c.front-token.result.1 rest in
     elim c.match-token.branch [
-      | in-Some+in_ok-push w ↦ tokens_step c.loop-rest.found.items c.match-token.found.items w.in-Some.token rest c.split_at.result.1.now c.args.line.now c.in_ok-token.len
+      | in-Some+in_ok-push w ↦ tokens_step c.loop-rest.found.items c.match-token.found.items w.in-Some.token rest c.split_at.result.1.now c.args.line.now c.front-token.result.1
           (ap (λ found. found.items) w.found-is ∙ w.in_ok-push.ensures.items)
-          (MatchOption-at_some (spec.tokens rest ≡ behind) (λ token. spec.tokens rest ≡ token ∷ behind) w.in-Some.token w.in-Some.is c.in_ok-token.ensures.read)
+          (MatchOption-at_some (spec.tokens rest ≡ behind) (λ token. spec.tokens rest ≡ token ∷ behind) w.in-Some.token w.in-Some.is c.front-token.ensures.read)
           c.split_at.ensures.back c.loop-rest.invariant
       | in_default w ↦ let same : c.match-token.found.items ≡ c.loop-rest.found.items = ap (λ found. found.items) w.found-is in
-          rw same (tokens_skip c.loop-rest.found.items rest c.split_at.result.1.now c.args.line.now c.in_ok-token.len
-          (MatchOption-at_none (spec.tokens rest ≡ behind) (λ token. spec.tokens rest ≡ token ∷ behind) w.in_default.is c.in_ok-token.ensures.read)
+          rw same (tokens_skip c.loop-rest.found.items rest c.split_at.result.1.now c.args.line.now c.front-token.result.1
+          (MatchOption-at_none (spec.tokens rest ≡ behind) (λ token. spec.tokens rest ≡ token ∷ behind) w.in_default.is c.front-token.ensures.read)
           c.split_at.ensures.back c.loop-rest.invariant)
     ]
 
