@@ -15,7 +15,6 @@ use Rattle.labelled_trees.specs.Meaning.{tree_of}
 use Rattle.labelled_trees.proofs.Counts.{is_label, is_label-one, sum_leaves-is_label, labels_upto-each}
 use Rattle.labelled_trees.proofs.Leaves.{by_leaf, sum_leaves-same}
 use Rattle.operad_ideals.specs.Laws.{arity}
-use Rattle.symmetric_trees.specs.Generators.{parts_at}
 use Rattle.symmetric_trees.specs.Trees.{IsLabelled}
 use Rattle.symmetric_trees.specs.declared.generators.Generator.{Generator}
 use Rattle.labelled_trees.specs.Labelled.{IsNumbered}

@@ -1,14 +1,12 @@
 -- Arities of lists of terms.
-use Rattle.std.proofs.Common.{◌≡◌, ◌≢◌, ℕ, suc, ◌+◌, ◌*◌, ◌-◌, ◌%◌, ◌<◌, ◌≤◌, List, [], ◌∷◌, ◌++◌, length, map, get_or, Some, None, Option, refl, sym, ap, ◌∙◌, subst, arith, ⊎_elim, inl, inr, ◌⊎◌, length-append}
+use Rattle.std.proofs.Common.{◌≡◌, ◌≢◌, ℕ, suc, ◌+◌, ◌*◌, ◌-◌, ◌%◌, ◌<◌, List, [], ◌∷◌, ◌++◌, length, map, get_or, Some, None, Option, refl, sym, ap, ◌∙◌, subst, arith, ⊎_elim, inl, inr, ◌⊎◌, length-append}
 use Rattle.std.specs.List.{All}
 use Rattle.std.proofs.Math.Nat.{mod-eq_of_lt}
 use Rattle.std.proofs.lemmas.Nat.{mod_below}
 use Rattle.std.proofs.lemmas.List.{length-map, get_or_append_left, get_or-append-add}
 use Rattle.std.proofs.lemmas.List.Elements.{All-append, All-push, All-map}
-use Rattle.labelled_trees.specs.Trees.{Tree}
 use Rattle.labelled_trees.specs.Labelled.{IsNumbered}
-use Rattle.labelled_trees.specs.Labelled as labelled
-use Rattle.labelled_trees.proofs.Numbered.{one_number, numbered_of_labelled}
+use Rattle.labelled_trees.proofs.Numbered.{one_number}
 use Rattle.labelled_trees.specs.Meaning.{tree_of}
 use Rattle.labelled_trees.specs.declared.Tree.TheVariants.{Leaf}
 use Rattle.operad_ideals.proofs.SortedLists.{tested}
@@ -149,11 +147,11 @@ sum-scaled p c terms new o listed pc lc positive h a e = subst (λ xs. IsSum xs 
 })
 
 -- a tree of another arity doesn't join a list with terms
-pub joins-refused : (arity : ℕ → ℕ) (terms : List Term) (tree : program.Tree) (coef own theirs : ℕ) → labelled.IsLabelled arity own (tree_of tree) → ArityIs terms (Some theirs) → theirs ≢ own
+pub joins-refused : (terms : List Term) (tree : program.Tree) (coef own theirs : ℕ) → IsNumbered own (tree_of tree) → ArityIs terms (Some theirs) → theirs ≢ own
     → 0 < coef → Joins coef tree terms → ⊥
-joins-refused arity terms tree coef own theirs h a ne positive joins =
+joins-refused terms tree coef own theirs h a ne positive joins =
     let j = joins positive in
-    let mine : own ≡ j.0 = one_number own j.0 (tree_of tree) (numbered_of_labelled h) j.1 in
+    let mine : own ≡ j.0 = one_number own j.0 (tree_of tree) h j.1 in
     ne (one_arity terms theirs j.0 a j.2 ∙ sym mine)
 
 some_of : (terms : List Term) → (terms ≡ [] → ⊥) → 0 < length terms

@@ -10,7 +10,7 @@ use prime_field::Field;
 use sqlite_items::Items;
 use std::alloc::{AllocError, Global};
 use std::marker::Model;
-use symmetric_trees::{GenTable, Tree, arity_of};
+use symmetric_trees::{GenTable, Tree, arity_of, numbered};
 use thiserror::Error;
 
 /// Why a term isn't added to a sum, or a sum not subtracted from one.
@@ -131,7 +131,7 @@ impl Sum {
         if coef == 0 {
             return Ok(());
         }
-        let Some(arity) = arity_of(&tree, table) else {
+        let Some(arity) = numbered(&tree) else {
             unreachable!();
         };
         if let Some(theirs) = self.arity() {

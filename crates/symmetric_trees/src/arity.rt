@@ -1,5 +1,6 @@
 ghost use Rattle.std.specs.Prelude.{◌≡◌, ◌≢◌, ◌↔◌, ◌≤◌, ◌<◌, ℕ, IfNone, IfSome, IsTrue, length, slice_index};
 ghost use Rattle.labelled_trees.specs.Meaning.{tree_of};
+ghost use Rattle.labelled_trees.specs.Labelled.{IsNumbered};
 ghost use Rattle.labelled_trees.specs.Leaves.{leaf_count};
 ghost use Rattle.operad_ideals.specs.Laws.{arity};
 ghost use Rattle.symmetric_trees.specs.Generators.{parts_at};
@@ -64,16 +65,12 @@ fn fits(tree: &Tree, table: &GenTable) -> bool
     }
 }
 
-/// The arity of a tree over a table: the number `n` of its leaves, from 1 to 255, where each vertex names a generator
-/// of the table and has as many inputs as its arity, and the leaves carry 1 to `n`, each once.
-/// `None` exactly where one of these fails.
-pub fn arity_of(tree: &Tree, table: &GenTable) -> Option<u8>
-    ensures labelled { IfSome result (λ n. spec.IsLabelled table.now n (tree_of tree.now)) }
-    ensures none { IfNone result ((n : ℕ) → spec.IsLabelled table.now n (tree_of tree.now) → ⊥) }
+/// The number `n` of a tree's leaves, up to 255, where they carry 1 to `n`, each once. `None` exactly where they don't.
+/// The generators and the numbers of inputs may be any; so a tree without leaves has 0.
+pub fn numbered(tree: &Tree) -> Option<u8>
+    ensures numbered { IfSome result (λ n. IsNumbered n (tree_of tree.now)) }
+    ensures none { IfNone result ((n : ℕ) → IsNumbered n (tree_of tree.now) → ⊥) }
 {
-    if !fits(tree, table) {
-        return None;
-    }
     let mut counts = LeafCounts {
         times: [0; 256],
         total: 0,
@@ -89,4 +86,17 @@ pub fn arity_of(tree: &Tree, table: &GenTable) -> Option<u8>
         }
     }
     Some(leaves)
+}
+
+/// The arity of a tree over a table: the number `n` of its leaves, from 1 to 255, where each vertex names a generator
+/// of the table and has as many inputs as its arity, and the leaves carry 1 to `n`, each once.
+/// `None` exactly where one of these fails.
+pub fn arity_of(tree: &Tree, table: &GenTable) -> Option<u8>
+    ensures labelled { IfSome result (λ n. spec.IsLabelled table.now n (tree_of tree.now)) }
+    ensures none { IfNone result ((n : ℕ) → spec.IsLabelled table.now n (tree_of tree.now) → ⊥) }
+{
+    if !fits(tree, table) {
+        return None;
+    }
+    numbered(tree)
 }

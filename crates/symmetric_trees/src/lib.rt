@@ -8,7 +8,7 @@ mod grafting;
 mod order;
 mod spelling;
 
-pub use arity::arity_of;
+pub use arity::{arity_of, numbered};
 pub use generators::{GenFail, GenTable, Generator, Name, Part, PartKind};
 pub use grafting::{fill, graft};
 pub use labelled_trees::Tree;

@@ -3,7 +3,8 @@ ghost use Rattle.labelled_trees.specs.Leaves.{AllLeaves};
 ghost use Rattle.labelled_trees.specs.Meaning.{tree_of};
 
 use crate::{
-    GenFail, GenTable, Generator, Name, Part, PartKind, Sign, Tree, arity_of, fill, graft, spelled,
+    GenFail, GenTable, Generator, Name, Part, PartKind, Sign, Tree, arity_of, fill, graft,
+    numbered, spelled,
 };
 use sqlite_items::Items;
 use std::alloc::{AllocError, Global};
@@ -181,6 +182,23 @@ fn counts_leaves(rt: HostRuntime) -> Result<(), Fail> {
         ("k(1,2)", None),
     ] {
         assert_eq!(rt; arity_of(&tree(alloc, text)?, &table), arity, "{text}");
+    }
+    Ok(())
+}
+
+#[test]
+fn numbers_leaves(rt: HostRuntime) -> Result<(), Fail> {
+    let alloc = rt.alloc();
+    for (text, leaves) in [
+        ("1", Some(1)),
+        ("2", None),
+        ("l(2,1)", Some(2)),
+        ("l(1,1)", None),
+        ("l(1,3)", None),
+        ("k(1)", Some(1)),
+        ("k()", Some(0)),
+    ] {
+        assert_eq!(rt; numbered(&tree(alloc, text)?), leaves, "{text}");
     }
     Ok(())
 }

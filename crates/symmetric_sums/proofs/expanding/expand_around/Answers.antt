@@ -1,8 +1,6 @@
 use Rattle.std.proofs.Common.{◌≡◌, ◌≢◌, ◌∙◌, ◌⊎◌, ◌<◌, ◌++◌, ◌∷◌, [], ℕ, Some, inl, inr, ap, sym, subst, arith, length, get_or, refl}
 use Rattle.std.specs.List.{All}
 use Rattle.labelled_trees.specs.Meaning.{tree_of}
-use Rattle.operad_ideals.specs.Laws.{arity}
-use Rattle.symmetric_trees.specs.Generators.{parts_at}
 use Rattle.symmetric_trees.specs.Trees.{IsLabelled}
 use Rattle.labelled_trees.specs.Labelled.{IsNumbered}
 use Rattle.symmetric_sums.specs.Terms.{terms_of}

@@ -1,6 +1,4 @@
 use Rattle.std.proofs.Common.{refl, sym, subst, arith, ◌<◌}
-use Rattle.operad_ideals.specs.Laws.{arity}
-use Rattle.symmetric_trees.specs.Generators.{parts_at}
 use Rattle.symmetric_sums.specs.Terms.{HaveArity}
 use Rattle.labelled_trees.proofs.Numbered.{numbered_of_labelled}
 use Rattle.symmetric_sums.proofs.Numberings.{joins-refused, sum-push, same_arity, any_arity}
@@ -8,7 +6,7 @@ use Rattle.symmetric_sums.proofs.sum.Sum.add_term.Goals as goal
 use Rattle.symmetric_sums.proofs.sum.Sum.add_term.Goals.{in-Some-arity+else-theirs-arity, in_default-arity}
 
 pub unreachable-requires : goal.unreachable-requires
-unreachable-requires c = c.in_default.ensures.none c.requires.labelled.0 c.requires.labelled.1
+unreachable-requires c = c.in_default.ensures.none c.requires.labelled.0 (numbered_of_labelled c.requires.labelled.1)
 
 pub returns-then-theirs-arity : goal.returns-then-theirs-arity
 returns-then-theirs-arity c =
@@ -16,7 +14,7 @@ returns-then-theirs-arity c =
     record {
       answer = (
         refl,
-        joins-refused (arity (parts_at c.args.table.now)) c.args.self.now c.args.tree c.args.coef c.in-Some.arity c.in-Some-arity.theirs c.in-Some.ensures.labelled c.in-Some-arity.ensures.arity c.if-theirs-arity.true positive,
+        joins-refused c.args.self.now c.args.tree c.args.coef c.in-Some.arity c.in-Some-arity.theirs c.in-Some.ensures.numbered c.in-Some-arity.ensures.arity c.if-theirs-arity.true positive,
       );
     }
 
@@ -28,4 +26,4 @@ invariant_of-self c =
       | in_default-arity w ↦ any_arity c.args.self.now c.arity.result c.in-Some.arity c.arity.ensures.arity w.in_default-arity.is
     ] in
     sum-push c.self.inside.terms c.push.new.self c.self.inside.arity _ c.in-Some.arity c.self.invariant positive
-    (numbered_of_labelled c.in-Some.ensures.labelled) (subst (HaveArity c.in-Some.arity) (sym c.self.view_is) have) c.in-Ok.ensures.ok
+    c.in-Some.ensures.numbered (subst (HaveArity c.in-Some.arity) (sym c.self.view_is) have) c.in-Ok.ensures.ok

@@ -3,8 +3,6 @@ use Rattle.std.specs.List.{All}
 use Rattle.std.proofs.lemmas.List.{take_all}
 use Rattle.std.proofs.lemmas.List.Elements.{All-more}
 use Rattle.labelled_trees.specs.Meaning.{tree_of}
-use Rattle.operad_ideals.specs.Laws.{arity}
-use Rattle.symmetric_trees.specs.Generators.{parts_at}
 use Rattle.symmetric_trees.specs.Trees.{Fits}
 use Rattle.labelled_trees.specs.Labelled.{IsNumbered}
 use Rattle.symmetric_sums.specs.Terms.{HaveArity}
