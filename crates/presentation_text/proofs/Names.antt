@@ -21,10 +21,10 @@ pub other_name : (a b : List ℕ) → (a ≡ b → ⊥) → bytes_eq a b ≡ fal
 other_name a b e = not_true (bytes_eq a b) (λ k. e ((bytes_eq-Decides a b).0 k))
 
 -- the answer of a look-up by name
-pub index_found : (generators : List Generator) (text name : List ℕ) (found : Option ℕ) → IsTable generators → text ≡ name
-    → IfSome found (λ i. (i < length generators) × HoldsAt (IsNamed text) generators i) → IfNone found (IsTaken text generators → ⊥) → index_of name generators ≡ found
-index_found generators text name (Some i) table e some none = subst (λ n. index_of n generators ≡ Some i) e (index-some generators text i table some.0 some.1)
-index_found generators text name None table e some none = subst (λ n. index_of n generators ≡ None) e (index-none generators text none)
+pub index_found : (generators : List Generator) (name : List ℕ) (found : Option ℕ) → IsTable generators
+    → IfSome found (λ i. (i < length generators) × HoldsAt (IsNamed name) generators i) → IfNone found (IsTaken name generators → ⊥) → index_of name generators ≡ found
+index_found generators name (Some i) table some none = index-some generators name i table some.0 some.1
+index_found generators name None table some none = index-none generators name none
 
 -- ---- names that are known
 

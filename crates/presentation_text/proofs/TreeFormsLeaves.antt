@@ -8,12 +8,7 @@ use native.Mathlib.Decide.{dec_lt}
 use Rattle.labelled_trees.specs.Trees.{Tree}
 use Rattle.labelled_trees.specs.Leaves.{leaf_count, occurs}
 use Rattle.labelled_trees.specs.Labelled.{IsNumbered}
-use Rattle.labelled_trees.proofs.Counts.{only_within, leaf_count-labelled}
-use Rattle.labelled_trees.proofs.Numbered.{labelled_of_numbered}
-use Rattle.operad_ideals.specs.Laws.{arity}
-use Rattle.symmetric_trees.specs.Generators.{parts_at}
-use Rattle.symmetric_trees.specs.Trees.{Fits, IsLabelled}
-use Rattle.symmetric_trees.specs.declared.generators.Generator.{Generator}
+use Rattle.labelled_trees.proofs.Counts.{only_within, leaf_count-numbered}
 use Rattle.presentation_text.specs.TreeForms.{has_each}
 
 pub both : (a b : Bool) → (a && b) ≡ true → (a ≡ true) × (b ≡ true)
@@ -40,10 +35,10 @@ has-each (suc n) t each =
 pub numbered-had : (t : Tree ℕ) → has_each (leaf_count t) t ≡ true → IsNumbered (leaf_count t) t
 numbered-had t e = record { each = each-had (leaf_count t) t e; only = only_within (leaf_count t) t refl (each-had (leaf_count t) t e) }
 
--- whether a tree has an arity
-pub labelled-tested : (generators : List Generator) (t : Tree ℕ) (found : Option ℕ) → Fits generators t → IfSome found (λ n. IsLabelled generators n t)
-    → IfNone found ((n : ℕ) → IsLabelled generators n t → ⊥) → is_some found ≡ has_each (leaf_count t) t
-labelled-tested generators t (Some n) fits h k =
-    let labelled : IsLabelled generators n t = h in
-    sym (has-each (leaf_count t) t (λ i a b. labelled.each i a (subst (λ m. i ≤ m) (leaf_count-labelled (arity (parts_at generators)) n t labelled) b)))
-labelled-tested generators t None fits h k = sym (false_from_ne_true (has_each (leaf_count t) t) (λ e. k (leaf_count t) (labelled_of_numbered fits (numbered-had t e))))
+-- whether a tree is numbered
+pub numbered-tested : (t : Tree ℕ) (found : Option ℕ) → IfSome found (λ n. IsNumbered n t) → IfNone found ((n : ℕ) → IsNumbered n t → ⊥)
+    → is_some found ≡ has_each (leaf_count t) t
+numbered-tested t (Some n) h k =
+    let numbered : IsNumbered n t = h in
+    sym (has-each (leaf_count t) t (λ i a b. numbered.each i a (subst (λ m. i ≤ m) (leaf_count-numbered n t numbered) b)))
+numbered-tested t None h k = sym (false_from_ne_true (has_each (leaf_count t) t) (λ e. k (leaf_count t) (numbered-had t e)))

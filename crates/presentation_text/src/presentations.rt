@@ -60,15 +60,19 @@ fn fail<T>(line: u32, kind: DocKind) -> Result<T, ReadDocFail>
 fn version_of(tokens: &[Token<'_>]) -> Option<u8>
     ensures { result ≡ spec.version_of tokens.now }
 {
-    match tokens {
-        [Token::Word(word), Token::Number(number)] => {
-            if word.as_str() == "operad" && (*number == 1 || *number == 2) {
-                Some(*number as u8)
-            } else {
-                None
-            }
-        }
-        _ => None,
+    let [word, number] = tokens else {
+        return None;
+    };
+    let Token::Word(word) = word else {
+        return None;
+    };
+    let Token::Number(number) = number else {
+        return None;
+    };
+    if word.as_str() == "operad" && (*number == 1 || *number == 2) {
+        Some(*number as u8)
+    } else {
+        None
     }
 }
 

@@ -15,7 +15,7 @@ use crate::parts::{fail, has_mark, mark_at, misfit, token_at};
 use labelled_trees::Tree;
 use sqlite_items::Items;
 use std::alloc::Global;
-use symmetric_trees::{GenTable, arity_of};
+use symmetric_trees::{GenTable, numbered};
 
 // What is asked of a tree beside its form.
 #[derive(Clone, Copy, Debug, PartialEq, Eq)]
@@ -198,20 +198,18 @@ fn vertex_within(
 }
 
 // Whether the leaves carry 1 to their number, each once.
-fn is_numbered(table: &GenTable, tree: &Tree) -> bool
-    requires fits { Fits table.now (tree_of tree.now) }
+fn is_numbered(tree: &Tree) -> bool
     ensures { result ≡ spec.has_each (leaf_count (tree_of tree.now)) (tree_of tree.now) }
 {
-    arity_of(tree, table).is_some()
+    numbered(tree).is_some()
 }
 
 // What stands against a whole tree at its last token.
-fn against(table: &GenTable, demands: Demands, found: &TreeRead) -> Option<DocKind>
-    requires fits { Fits table.now (tree_of found.now.tree) }
+fn against(demands: Demands, found: &TreeRead) -> Option<DocKind>
     requires leaves { found.now.leaves ≡ leaf_count (tree_of found.now.tree) }
     ensures { result ≡ first_row (spec.against demands (tree_of found.now.tree)) }
 {
-    if !demands.loose && !is_numbered(table, &found.tree) {
+    if !demands.loose && !is_numbered(&found.tree) {
         return Some(DocKind::Labels);
     }
     if found.leaves < demands.least {
@@ -238,7 +236,7 @@ pub(crate) fn demanded_tree_at(
     ensures further { IfOk result (λ found. at < found.end) }
 {
     let found = tree_within(alloc, table, tokens, at, MOST_NESTED, 0)?;
-    if let Some(kind) = against(table, demands, &found) {
+    if let Some(kind) = against(demands, &found) {
         return fail(found.end - 1, kind);
     }
     Ok(found)

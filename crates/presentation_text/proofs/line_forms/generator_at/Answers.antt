@@ -19,4 +19,4 @@ returns-in_err-parts c =
 
 pub returns : goal.returns
 unfolding generator_in
-returns c = rw (c.in_ok-name.ensures.0, c.in_ok-parts.ensures) (ap (λ name. Ok (record { name = name; arity = c.in_ok-name.arity; parts = c.in_ok-parts.parts })) (sym c.in_ok-copy.ensures.same))
+returns c = rw (c.in_ok-name.ensures.0, c.in_ok-parts.ensures) (ap (λ name. Ok (record { name = name; arity = c.in_ok-name.arity; parts = c.in_ok-parts.parts })) (sym c.in_ok-new.ensures.bytes))

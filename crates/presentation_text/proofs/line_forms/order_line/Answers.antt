@@ -14,20 +14,20 @@ returns-in_err-name c =
 pub returns-in_default : goal.returns-in_default
 unfolding order_line
 returns-in_default c =
-    let none : order_named c.args.draft.version c.in_ok-name.name.now ≡ None = sym (c.in_default.ensures ∙ ap (order_named c.args.draft.version) c.as_str.ensures.bytes) in
+    let none : order_named c.args.draft.version c.in_ok-name.name.now ≡ None = sym c.in_default.ensures in
     draft_fails c.args.tokens.now 1 OrderUnknown _ c.fail.result c.in_ok-name.ensures.1 (rw (c.in_ok-name.ensures.0, none) refl) c.fail.ensures
 
 pub returns-in_err-end_at : goal.returns-in_err-end_at
 unfolding order_line
 returns-in_err-end_at c =
-    let some : order_named c.args.draft.version c.in_ok-name.name.now ≡ Some c.in-Some.order = sym (c.in-Some.ensures ∙ ap (order_named c.args.draft.version) c.as_str.ensures.bytes) in
+    let some : order_named c.args.draft.version c.in_ok-name.name.now ≡ Some c.in-Some.order = sym c.in-Some.ensures in
     draft_stops c.args.tokens.now _ c.from_residual-in_err-end_at.result c.in_err-end_at.field-0.0 c.from_residual-in_err-end_at.ensures.0 c.from_residual-in_err-end_at.ensures.1
     (rw (c.in_ok-name.ensures.0, some) (stops_on c.args.tokens.now (end_in (drop 2 c.args.tokens.now)) _ _ c.in_err-end_at.ensures))
 
 pub returns : goal.returns
 unfolding order_line
 returns c =
-    let some : order_named c.args.draft.version c.in_ok-name.name.now ≡ Some c.in-Some.order = sym (c.in-Some.ensures ∙ ap (order_named c.args.draft.version) c.as_str.ensures.bytes) in (
+    let some : order_named c.args.draft.version c.in_ok-name.name.now ≡ Some c.in-Some.order = sym c.in-Some.ensures in (
       rw (c.in_ok-name.ensures.0, some, c.in_ok-end_at.ensures) refl,
       record {
         table = c.requires.sound.table;

@@ -16,13 +16,13 @@ returns-in_err-word-clause-read c =
 pub returns-in_default-clause-read : goal.returns-in_default-clause-read
 unfolding part_in
 returns-in_default-clause-read c =
-    let none : part_named c.in_ok-word.word.now ≡ None = sym (c.in_default.ensures ∙ ap part_named c.as_str.ensures.bytes) in
+    let none : part_named c.in_ok-word.word.now ≡ None = sym c.in_default.ensures in
     part_fails c.args.tokens.now c.args.at Syntax _ _ c.fail.result c.in_ok-word.ensures.1 (rw (c.in_ok-word.ensures.0, none) refl) c.fail.ensures
 
 pub returns-in_err-size-clause-read : goal.returns-in_err-size-clause-read
 unfolding part_in
 returns-in_err-size-clause-read c =
-    let some : part_named c.in_ok-word.word.now ≡ Some c.in-Some.kind = sym (c.in-Some.ensures ∙ ap part_named c.as_str.ensures.bytes) in
+    let some : part_named c.in_ok-word.word.now ≡ Some c.in-Some.kind = sym c.in-Some.ensures in
     part_stops _ (StopsAs c.args.tokens.now (part_in c.args.arity c.args.sum (drop c.args.at c.args.tokens.now))) c.from_residual-in_err-size.result c.in_err-size.field-0.0
     c.from_residual-in_err-size.ensures.0 c.from_residual-in_err-size.ensures.1
     (rw (c.in_ok-word.ensures.0, some) (stops_on c.args.tokens.now (number_in (drop (c.args.at + 1) c.args.tokens.now)) _ _ c.in_err-size.ensures))
@@ -30,7 +30,7 @@ returns-in_err-size-clause-read c =
 pub returns-then-size-eq0-clause-read : goal.returns-then-size-eq0-clause-read
 unfolding part_in
 returns-then-size-eq0-clause-read c =
-    let some : part_named c.in_ok-word.word.now ≡ Some c.in-Some.kind = sym (c.in-Some.ensures ∙ ap part_named c.as_str.ensures.bytes) in
+    let some : part_named c.in_ok-word.word.now ≡ Some c.in-Some.kind = sym c.in-Some.ensures in
     let out : (c.in_ok-size.size == 0 || nat_lt c.args.arity (c.args.sum + c.in_ok-size.size)) ≡ true = elim c.then-size-eq0.branch [
       | then-size-eq0-via-then-size-eq0 w ↦ size_zero c.args.arity c.args.sum c.in_ok-size.size w.if-size-eq0.true
       | then-size-eq0-via-else-size-eq0+then-size-from w ↦ size_above c.args.arity c.args.sum c.in_ok-size.size (omega arith)
@@ -42,7 +42,7 @@ pub returns-clause-read : goal.returns-clause-read
 unfolding part_in
 returns-clause-read c =
     let two : c.args.at + 1 + 1 ≡ c.args.at + 2 = omega arith in
-    let some : part_named c.in_ok-word.word.now ≡ Some c.in-Some.kind = sym (c.in-Some.ensures ∙ ap part_named c.as_str.ensures.bytes) in
+    let some : part_named c.in_ok-word.word.now ≡ Some c.in-Some.kind = sym c.in-Some.ensures in
     let right : (c.in_ok-size.size == 0 || nat_lt c.args.arity (c.args.sum + c.in_ok-size.size)) ≡ false = size_fits c.args.arity c.args.sum c.in_ok-size.size c.if-size-eq0.false (omega arith) in
     rw (c.in_ok-word.ensures.0, some, c.in_ok-size.ensures.0, right)
     (ap (λ at. Ok (record { kind = c.in-Some.kind; size = c.in_ok-size.size }, drop at c.args.tokens.now)) two)

@@ -21,14 +21,14 @@ pub returns-in_default : goal.returns-in_default
 unfolding weight_line
 returns-in_default c =
     let unknown : index_of c.in_ok-name.name.now c.args.draft.gens ≡ None =
-    index_found c.args.draft.gens c.as_str.result.now c.in_ok-name.name.now c.find.result c.requires.sound.table c.as_str.ensures.bytes c.find.ensures.found c.find.ensures.absent ∙ c.in_default.is in
+    index_found c.args.draft.gens c.in_ok-name.name.now c.find.result c.requires.sound.table c.find.ensures.found c.find.ensures.absent ∙ c.in_default.is in
     draft_fails c.args.tokens.now 1 NameUnknown _ c.fail.result c.in_ok-name.ensures.1 (rw (c.in_ok-name.ensures.0, unknown) refl) c.fail.ensures
 
 pub returns-then-is_some : goal.returns-then-is_some
 unfolding weight_line
 returns-then-is_some c =
     let known : index_of c.in_ok-name.name.now c.args.draft.gens ≡ Some c.in-Some.generator =
-    index_found c.args.draft.gens c.as_str.result.now c.in_ok-name.name.now c.find.result c.requires.sound.table c.as_str.ensures.bytes c.find.ensures.found c.find.ensures.absent ∙ c.in-Some.is in
+    index_found c.args.draft.gens c.in_ok-name.name.now c.find.result c.requires.sound.table c.find.ensures.found c.find.ensures.absent ∙ c.in-Some.is in
     let taken : is_weighed c.in-Some.generator c.args.draft.weights ≡ true =
     weighed_is c.in-Some.generator c.args.draft.weights None (omega (arith, c.requires.sound.weights, c.in-Some.ensures.found.0))
     ∙ ap (λ weights. is_some (get_or weights c.in-Some.generator None)) (sym c.as_slice.ensures) ∙ sym c.if-is_some.ensures in
@@ -38,7 +38,7 @@ pub returns-in_err-weight : goal.returns-in_err-weight
 unfolding weight_line
 returns-in_err-weight c =
     let known : index_of c.in_ok-name.name.now c.args.draft.gens ≡ Some c.in-Some.generator =
-    index_found c.args.draft.gens c.as_str.result.now c.in_ok-name.name.now c.find.result c.requires.sound.table c.as_str.ensures.bytes c.find.ensures.found c.find.ensures.absent ∙ c.in-Some.is in
+    index_found c.args.draft.gens c.in_ok-name.name.now c.find.result c.requires.sound.table c.find.ensures.found c.find.ensures.absent ∙ c.in-Some.is in
     let untaken : is_weighed c.in-Some.generator c.args.draft.weights ≡ false =
     weighed_is c.in-Some.generator c.args.draft.weights None (omega (arith, c.requires.sound.weights, c.in-Some.ensures.found.0))
     ∙ ap (λ weights. is_some (get_or weights c.in-Some.generator None)) (sym c.as_slice.ensures) ∙ sym c.if-is_some.ensures in
@@ -49,7 +49,7 @@ pub returns-then-weight-gt-GREATEST_WEIGHT : goal.returns-then-weight-gt-GREATES
 unfolding weight_line
 returns-then-weight-gt-GREATEST_WEIGHT c =
     let known : index_of c.in_ok-name.name.now c.args.draft.gens ≡ Some c.in-Some.generator =
-    index_found c.args.draft.gens c.as_str.result.now c.in_ok-name.name.now c.find.result c.requires.sound.table c.as_str.ensures.bytes c.find.ensures.found c.find.ensures.absent ∙ c.in-Some.is in
+    index_found c.args.draft.gens c.in_ok-name.name.now c.find.result c.requires.sound.table c.find.ensures.found c.find.ensures.absent ∙ c.in-Some.is in
     let untaken : is_weighed c.in-Some.generator c.args.draft.weights ≡ false =
     weighed_is c.in-Some.generator c.args.draft.weights None (omega (arith, c.requires.sound.weights, c.in-Some.ensures.found.0))
     ∙ ap (λ weights. is_some (get_or weights c.in-Some.generator None)) (sym c.as_slice.ensures) ∙ sym c.if-is_some.ensures in
@@ -61,7 +61,7 @@ pub returns-in_err-end_at : goal.returns-in_err-end_at
 unfolding weight_line
 returns-in_err-end_at c =
     let known : index_of c.in_ok-name.name.now c.args.draft.gens ≡ Some c.in-Some.generator =
-    index_found c.args.draft.gens c.as_str.result.now c.in_ok-name.name.now c.find.result c.requires.sound.table c.as_str.ensures.bytes c.find.ensures.found c.find.ensures.absent ∙ c.in-Some.is in
+    index_found c.args.draft.gens c.in_ok-name.name.now c.find.result c.requires.sound.table c.find.ensures.found c.find.ensures.absent ∙ c.in-Some.is in
     let untaken : is_weighed c.in-Some.generator c.args.draft.weights ≡ false =
     weighed_is c.in-Some.generator c.args.draft.weights None (omega (arith, c.requires.sound.weights, c.in-Some.ensures.found.0))
     ∙ ap (λ weights. is_some (get_or weights c.in-Some.generator None)) (sym c.as_slice.ensures) ∙ sym c.if-is_some.ensures in
@@ -73,7 +73,7 @@ pub returns : goal.returns
 unfolding weight_line
 returns c =
     let known : index_of c.in_ok-name.name.now c.args.draft.gens ≡ Some c.in-Some.generator =
-    index_found c.args.draft.gens c.as_str.result.now c.in_ok-name.name.now c.find.result c.requires.sound.table c.as_str.ensures.bytes c.find.ensures.found c.find.ensures.absent ∙ c.in-Some.is in
+    index_found c.args.draft.gens c.in_ok-name.name.now c.find.result c.requires.sound.table c.find.ensures.found c.find.ensures.absent ∙ c.in-Some.is in
     let untaken : is_weighed c.in-Some.generator c.args.draft.weights ≡ false =
     weighed_is c.in-Some.generator c.args.draft.weights None (omega (arith, c.requires.sound.weights, c.in-Some.ensures.found.0))
     ∙ ap (λ weights. is_some (get_or weights c.in-Some.generator None)) (sym c.as_slice.ensures) ∙ sym c.if-is_some.ensures in
