@@ -1,6 +1,6 @@
 -- Stopping at a place among tokens.
-use Rattle.std.proofs.Common.{◌≡◌, ◌≤◌, ◌-◌, ℕ, List, [], Result, Ok, Err, length, drop, ap, sym, ◌∙◌, subst, length-drop}
-use Rattle.std.specs.Result.{IsErr, IsErrAnd}
+use Rattle.std.proofs.Common.{◌≡◌, ◌≤◌, ◌-◌, ℕ, List, [], Result, Ok, Err, length, drop, ap, sym, ◌∙◌, subst, refl, length-drop}
+use Rattle.std.specs.Result.{IsErr, IsErrAnd, MatchResult}
 use Rattle.labelled_trees.specs.Trees.{Tree}
 use Rattle.presentation_text.specs.declared.kinds.DocKind.{DocKind}
 use Rattle.presentation_text.specs.declared.kinds.PartFail.{PartFail}
@@ -42,6 +42,11 @@ pub tree-handed_on : (tokens : List Token) (reading : Reading (Tree ℕ)) (resul
     → StopsAs tokens reading fail → GivesTree tokens reading result
 tree-handed_on tokens reading (Ok found) fail h e stops = absurd e
 tree-handed_on tokens reading (Err other) fail h e stops = subst (StopsAs tokens reading) (sym e) stops
+
+-- a function gave up at a place, where anything is given
+pub fault-at : {A B : Type 0} (tokens : List Token) (at : ℕ) (kind : DocKind) (Given : A → Type 0) (reading : Result B Fault) (result : Result A PartFail) → at ≤ length tokens
+    → reading ≡ Err (length (drop at tokens), kind) → result ≡ Err (At at kind) → MatchResult result Given (StopsAs tokens reading)
+fault-at tokens at kind Given reading result l e f = subst (λ r. MatchResult r Given (StopsAs tokens reading)) (sym f) (stops-at tokens at kind reading (At at kind) l e refl)
 
 -- a function that reads a tree gave up at a place
 pub tree-fault : (tokens : List Token) (at : ℕ) (kind : DocKind) (reading : Reading (Tree ℕ)) (result : Result TreeRead PartFail) → at ≤ length tokens

@@ -237,33 +237,29 @@ row_in-no_end inside first seen ts fault e = row_in-last inside first seen ts �
 pub row_in-closed : (inside : Inside) (first : Bool) (seen : ℕ) (ts rest : List Token) → close_in ts ≡ Ok rest → row_in inside first 0 seen ts ≡ Ok (none, rest)
 row_in-closed inside first seen ts rest e = row_in-last inside first seen ts ∙ ap (λ r. r >>= (λ rest. Ok (none, rest))) e
 
--- Behind the name of generator g these inputs were read, up to a place.
-pub record IsReadSoFar (generators : List Generator) (inside : Inside) (tokens : List Token) (at g seen : ℕ) (us : List (Tree ℕ)) (index next leaves : ℕ) : Type 0 where
-  pub led : row_in inside true (arity_in generators g) seen (drop at tokens) ≡ behind us (row_in inside (nat_eq index 0) (arity_in generators g - index) (seen + leaves) (drop next tokens))
+-- Behind the name of generator g these inputs were read, up to a place; so many leaves of the whole tree were seen by then.
+pub record IsReadSoFar (generators : List Generator) (inside : Inside) (tokens : List Token) (at g seen : ℕ) (us : List (Tree ℕ)) (index next now : ℕ) : Type 0 where
+  pub led : row_in inside true (arity_in generators g) seen (drop at tokens) ≡ behind us (row_in inside (nat_eq index 0) (arity_in generators g - index) now (drop next tokens))
   pub begins : at ≤ next
   pub within : next ≤ length tokens
-  pub leaves_are : leaves ≡ leaf_count_row (row us)
-  pub narrow : seen + leaves ≤ 9
+  pub leaves_are : now ≡ seen + leaf_count_row (row us)
+  pub narrow : now ≤ 9
   pub fit : FitsRow (arity_in generators) (row us)
   pub count : length us ≡ index
 
-pub none-read : (generators : List Generator) (inside : Inside) (tokens : List Token) (at g seen : ℕ) → at ≤ length tokens → seen ≤ 9 → IsReadSoFar generators inside tokens at g seen [] 0 at 0
+pub none-read : (generators : List Generator) (inside : Inside) (tokens : List Token) (at g seen : ℕ) → at ≤ length tokens → seen ≤ 9 → IsReadSoFar generators inside tokens at g seen [] 0 at seen
 none-read generators inside tokens at g seen l narrow = record {
   led =
       behind-none (row_in inside true (arity_in generators g) seen (drop at tokens))
-      ∙ ap (λ s. behind [] (row_in inside true (arity_in generators g) s (drop at tokens))) plus_none
-      ∙ ap (λ k. behind [] (row_in inside true k (seen + 0) (drop at tokens))) less_none;
+      ∙ ap (λ k. behind [] (row_in inside true k seen (drop at tokens))) less_none;
   begins = omega arith;
   within = l;
-  leaves_are = refl;
-  narrow = omega arith;
+  leaves_are = omega arith;
+  narrow = narrow;
   fit = tt;
   count = refl;
 }
   where
-    plus_none : seen ≡ seen + 0
-    plus_none = omega arith
-
     less_none : arity_in generators g ≡ arity_in generators g - 0
     less_none = omega arith
 
@@ -281,11 +277,11 @@ one_less arity index l = omega arith
 not_first : (index : ℕ) → nat_eq (index + 1) 0 ≡ false
 not_first index = grind (arith, nat_tests)
 
-module _ (generators : List Generator) (inside : Inside) (tokens : List Token) (at g seen : ℕ) (us : List (Tree ℕ)) (index next leaves : ℕ)
-    (so_far : IsReadSoFar generators inside tokens at g seen us index next leaves) where
+module _ (generators : List Generator) (inside : Inside) (tokens : List Token) (at g seen : ℕ) (us : List (Tree ℕ)) (index next now : ℕ)
+    (so_far : IsReadSoFar generators inside tokens at g seen us index next now) where
   -- what the inputs to come give
   abbrev coming : Reading (Row ℕ)
-  coming = row_in inside (nat_eq index 0) (arity_in generators g - index) (seen + leaves) (drop next tokens)
+  coming = row_in inside (nat_eq index 0) (arity_in generators g - index) now (drop next tokens)
 
   abbrev whole : Reading (Tree ℕ)
   whole = node_in generators (Some inside) seen (Some g) (drop at tokens)
@@ -293,32 +289,32 @@ module _ (generators : List Generator) (inside : Inside) (tokens : List Token) (
   node_stops : (fault : Fault) → coming ≡ Err fault → whole ≡ Err fault
   node_stops fault e = ap (λ r. r >>= (λ found. Ok (node g found.0, found.1))) (so_far.led ∙ ap (behind us) e)
 
-  further_inputs : index < arity_in generators g → coming ≡ row_in inside (nat_eq index 0) (suc (arity_in generators g - (index + 1))) (seen + leaves) (drop next tokens)
-  further_inputs l = ap (λ k. row_in inside (nat_eq index 0) k (seen + leaves) (drop next tokens)) (one_less (arity_in generators g) index l)
+  further_inputs : index < arity_in generators g → coming ≡ row_in inside (nat_eq index 0) (suc (arity_in generators g - (index + 1))) now (drop next tokens)
+  further_inputs l = ap (λ k. row_in inside (nat_eq index 0) k now (drop next tokens)) (one_less (arity_in generators g) index l)
 
   -- no mark stands before the next input
   pub stops-no_mark : index < arity_in generators g → (fail : PartFail) → StopsAs tokens (before_in (nat_eq index 0) (drop next tokens)) fail → StopsAs tokens whole fail
   stops-no_mark l fail h = stops-on tokens (before_in (nat_eq index 0) (drop next tokens)) whole
-      (λ fault e. node_stops fault (further_inputs l ∙ row_in-no_mark inside (nat_eq index 0) (arity_in generators g - (index + 1)) (seen + leaves) (drop next tokens) fault e)) fail h
+      (λ fault e. node_stops fault (further_inputs l ∙ row_in-no_mark inside (nat_eq index 0) (arity_in generators g - (index + 1)) now (drop next tokens) fault e)) fail h
 
   -- the next input isn't read
   pub stops-no_input : index < arity_in generators g → (place : ℕ) → before_in (nat_eq index 0) (drop next tokens) ≡ Ok (drop place tokens)
-      → (fail : PartFail) → StopsAs tokens (input_in inside (seen + leaves) (drop place tokens)) fail → StopsAs tokens whole fail
-  stops-no_input l place e fail h = stops-on tokens (input_in inside (seen + leaves) (drop place tokens)) whole
-      (λ fault f. node_stops fault (further_inputs l ∙ row_in-no_input inside (nat_eq index 0) (arity_in generators g - (index + 1)) (seen + leaves) (drop next tokens) (drop place tokens) fault e f)) fail h
+      → (fail : PartFail) → StopsAs tokens (input_in inside now (drop place tokens)) fail → StopsAs tokens whole fail
+  stops-no_input l place e fail h = stops-on tokens (input_in inside now (drop place tokens)) whole
+      (λ fault f. node_stops fault (further_inputs l ∙ row_in-no_input inside (nat_eq index 0) (arity_in generators g - (index + 1)) now (drop next tokens) (drop place tokens) fault e f)) fail h
 
-  none_to_come : arity_in generators g ≤ index → coming ≡ row_in inside (nat_eq index 0) 0 (seen + leaves) (drop next tokens)
-  none_to_come l = let none_left : arity_in generators g - index ≡ 0 = omega arith in ap (λ k. row_in inside (nat_eq index 0) k (seen + leaves) (drop next tokens)) none_left
+  none_to_come : arity_in generators g ≤ index → coming ≡ row_in inside (nat_eq index 0) 0 now (drop next tokens)
+  none_to_come l = let none_left : arity_in generators g - index ≡ 0 = omega arith in ap (λ k. row_in inside (nat_eq index 0) k now (drop next tokens)) none_left
 
   -- ')' is missing
   pub stops-no_end : arity_in generators g ≤ index → (fail : PartFail) → StopsAs tokens (close_in (drop next tokens)) fail → StopsAs tokens whole fail
   stops-no_end l fail h = stops-on tokens (close_in (drop next tokens)) whole
-      (λ fault e. node_stops fault (none_to_come l ∙ row_in-no_end inside (nat_eq index 0) (seen + leaves) (drop next tokens) fault e)) fail h
+      (λ fault e. node_stops fault (none_to_come l ∙ row_in-no_end inside (nat_eq index 0) now (drop next tokens) fault e)) fail h
 
   -- the next input is read
   pub more-read : index < arity_in generators g → (place : ℕ) → place ≤ length tokens → before_in (nat_eq index 0) (drop next tokens) ≡ Ok (drop place tokens) → (found : TreeRead)
-      → IsTreeRead tokens (input_in inside (seen + leaves) (drop place tokens)) found → place < found.end → seen + leaves + found.leaves ≤ 9 → Fits generators (tree_of found.tree)
-      → IsReadSoFar generators inside tokens at g seen (us ++ tree_of found.tree ∷ []) (index + 1) found.end (leaves + found.leaves)
+      → IsTreeRead tokens (input_in inside now (drop place tokens)) found → place < found.end → now + found.leaves ≤ 9 → Fits generators (tree_of found.tree)
+      → IsReadSoFar generators inside tokens at g seen (us ++ tree_of found.tree ∷ []) (index + 1) found.end (now + found.leaves)
   more-read l place held e found read further narrow fit =
       let t = tree_of found.tree in
       let k = arity_in generators g - (index + 1) in
@@ -330,14 +326,14 @@ module _ (generators : List Generator) (inside : Inside) (tokens : List Token) (
       let c = so_far.leaves_are in
       let d = so_far.count in
       let leaves_is = read.leaves_are in
-      let sum : seen + leaves + leaf_count t ≡ seen + (leaves + found.leaves) = omega arith in
+      let sum : now + leaf_count t ≡ now + found.leaves = omega arith in
       record {
         led =
             so_far.led
-            ∙ ap (behind us) (further_inputs l ∙ row_in-more inside (nat_eq index 0) k (seen + leaves) (drop next tokens) (drop place tokens) (drop found.end tokens) t e read.reading_is)
-            ∙ behind-push us t (row_in inside false k (seen + leaves + leaf_count t) (drop found.end tokens))
+            ∙ ap (behind us) (further_inputs l ∙ row_in-more inside (nat_eq index 0) k now (drop next tokens) (drop place tokens) (drop found.end tokens) t e read.reading_is)
+            ∙ behind-push us t (row_in inside false k (now + leaf_count t) (drop found.end tokens))
             ∙ ap (λ s. behind (us ++ t ∷ []) (row_in inside false k s (drop found.end tokens))) sum
-            ∙ ap (λ (b : Bool). behind (us ++ t ∷ []) (row_in inside b k (seen + (leaves + found.leaves)) (drop found.end tokens))) (sym (not_first index));
+            ∙ ap (λ (b : Bool). behind (us ++ t ∷ []) (row_in inside b k (now + found.leaves) (drop found.end tokens))) (sym (not_first index));
         begins = omega arith;
         within = read.within;
         leaves_are = omega (arith, leaf_count-push us t);
@@ -350,7 +346,7 @@ module _ (generators : List Generator) (inside : Inside) (tokens : List Token) (
   pub all_read : arity_in generators g ≤ index → (end : ℕ) → close_in (drop next tokens) ≡ Ok (drop end tokens) → whole ≡ Ok (node g (row us), drop end tokens)
   all_read l end e =
       ap (λ r. r >>= (λ found. Ok (node g found.0, found.1)))
-      (so_far.led ∙ ap (behind us) (none_to_come l ∙ row_in-closed inside (nat_eq index 0) (seen + leaves) (drop next tokens) (drop end tokens) e) ∙ ap (λ r. Ok (r, drop end tokens)) (begun_row-none us))
+      (so_far.led ∙ ap (behind us) (none_to_come l ∙ row_in-closed inside (nat_eq index 0) now (drop next tokens) (drop end tokens) e) ∙ ap (λ r. Ok (r, drop end tokens)) (begun_row-none us))
 
 -- ---- whole trees
 

@@ -1,5 +1,5 @@
 -- Reading a tree: what may stand at each token, and what is refused.
-use Rattle.std.specs.Prelude.{ℕ, zero, suc, ◌≡◌, ◌≤◌, ◌+◌, Bool, true, false, not, ◌&&◌, ◌==◌, nat_le, nat_lt, if◌then◌else◌, List, [], ◌∷◌, length, drop, Option, Some, None, Result, Ok, Err}
+use Rattle.std.specs.Prelude.{ℕ, zero, suc, ◌≡◌, ◌≤◌, ◌+◌, Bool, true, false, not, ◌&&◌, ◌==◌, nat_le, nat_lt, if◌then◌else◌, List, [], ◌∷◌, ◌++◌, length, drop, Option, Some, None, Result, Ok, Err, MatchResult}
 use Rattle.std.specs.Str.{bytes_eq}
 use Rattle.labelled_trees.specs.Trees.{Tree, Row, leaf, node, none, more}
 use Rattle.labelled_trees.specs.Leaves.{leaf_count, occurs}
@@ -7,6 +7,7 @@ use Rattle.labelled_trees.specs.Meaning.{tree_of}
 use Rattle.labelled_trees.specs.declared.Tree as program
 use Rattle.operad_ideals.specs.Laws.{arity}
 use Rattle.symmetric_trees.specs.Generators.{parts_at}
+use Rattle.symmetric_trees.specs.Trees.{Fits}
 use Rattle.symmetric_trees.specs.declared.generators.Generator.{Generator}
 use Rattle.presentation_text.specs.declared.kinds.DocKind.{DocKind}
 use Rattle.presentation_text.specs.declared.kinds.DocKind.TheVariants.{NameUnknown, TooDeep, TooWide, InputCount, Labels, ArityOut, MixedArity}
@@ -14,6 +15,7 @@ use Rattle.presentation_text.specs.declared.kinds.PartFail.{PartFail}
 use Rattle.presentation_text.specs.declared.lexing.Token.{Token}
 use Rattle.presentation_text.specs.declared.lexing.Token.TheVariants.{Word, Number}
 use Rattle.presentation_text.specs.declared.trees.Demands.{Demands}
+use Rattle.presentation_text.specs.declared.trees.Inputs.{Inputs}
 use Rattle.presentation_text.specs.declared.trees.TreeRead.{TreeRead}
 use Rattle.presentation_text.specs.Readings.{Fault, Reading, ◌>>=◌, first_row, refused, is_mark, misplaced, misfit, mark_in, StopsAs}
 
@@ -141,6 +143,19 @@ pub record IsTreeRead (tokens : List Token) (reading : Reading (Tree ℕ)) (foun
 abbrev pub GivesTree : List Token → Reading (Tree ℕ) → Result TreeRead PartFail → Type 0
 GivesTree tokens reading (Ok found) = IsTreeRead tokens reading found
 GivesTree tokens reading (Err fail) = StopsAs tokens reading fail
+
+-- A tree was read and put behind the inputs before it.
+pub record IsInputRead (generators : List Generator) (tokens : List Token) (reading : Reading (Tree ℕ)) (before after : Inputs) (end : ℕ) : Type 0 where
+  pub tree : program.Tree
+  pub leaves : ℕ
+  pub read : IsTreeRead tokens reading (record { tree = tree; leaves = leaves; end = end })
+  pub put : after.trees ≡ before.trees ++ tree ∷ []
+  pub seen : after.seen ≡ before.seen + leaves
+  pub fits : Fits generators (tree_of tree)
+
+-- a function put the tree that reading gives behind the inputs before it, and gave the place behind it, or it stops as reading does
+abbrev pub GivesInput : List Generator → List Token → Reading (Tree ℕ) → Inputs → Inputs → Result ℕ PartFail → Type 0
+GivesInput generators tokens reading before after result = MatchResult result (IsInputRead generators tokens reading before after) (StopsAs tokens reading)
 
 -- the same for a tree and the place behind it alone
 abbrev pub GivesTreeAt : List Token → Reading (Tree ℕ) → Result (program.Tree × ℕ) PartFail → Type 0

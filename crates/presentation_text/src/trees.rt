@@ -37,6 +37,14 @@ pub struct TreeRead {
     pub end: usize,
 }
 
+// The inputs of a vertex that were read so far. A tree is put here as soon as it is read, so that it moves once.
+#[derive(Drop)]
+pub struct Inputs {
+    pub trees: Items<Tree>,
+    /// How many leaves of the whole tree stand before what comes next.
+    pub seen: u8,
+}
+
 // How many generators may stand one inside the other.
 const MOST_NESTED: u8 = 8;
 
@@ -81,27 +89,25 @@ fn behind_inputs(tokens: &[Token<'_>], at: usize) -> Result<usize, PartFail>
 }
 
 // A leaf at a place.
-fn leaf(at: usize, number: u64, seen: u8) -> Result<TreeRead, PartFail>
+fn leaf(at: usize, number: u64, inputs: &mut Inputs) -> Result<usize, PartFail>
     requires room { at + 1 < 2 ^ 64 }
-    ensures read { (tokens : List Token) → at < length tokens → spec.GivesTree tokens (spec.leaf_in seen number (drop (at + 1) tokens)) result }
-    ensures narrow { IfOk result (λ found. seen + found.leaves ≤ 9) }
-    ensures fits { (generators : List Generator) → IfOk result (λ found. Fits generators (tree_of found.tree)) }
-    ensures further { IfOk result (λ found. at < found.end) }
+    ensures read { (tokens : List Token) (generators : List Generator) → at < length tokens → spec.GivesInput generators tokens (spec.leaf_in inputs.old.seen number (drop (at + 1) tokens)) inputs.old inputs.new result }
+    ensures narrow { IfOk result (λ _. inputs.new.seen ≤ 9) }
+    ensures further { IfOk result (λ end. at < end) }
 {
-    if seen >= MOST_LEAVES {
+    if inputs.seen >= MOST_LEAVES {
         return fail(at, DocKind::TooWide);
     }
     if number > GREATEST_LEAF {
         return fail(at, DocKind::Labels);
     }
-    Ok(TreeRead {
-        tree: Tree::Leaf(number as u8),
-        leaves: 1,
-        end: at + 1,
-    })
+    inputs.trees.push(Tree::Leaf(number as u8))?;
+    inputs.seen += 1;
+    Ok(at + 1)
 }
 
-// A tree at a place, of which `depth` generators may still stand one inside the other; so many leaves of the whole tree stand before.
+// A tree at a place, of which `depth` generators may still stand one inside the other, and the place behind it. It joins
+// the inputs of the vertex above it.
 #[cycle(read)]
 fn tree_within(
     alloc: Global,
@@ -109,26 +115,25 @@ fn tree_within(
     tokens: &[Token<'_>],
     at: usize,
     depth: u8,
-    seen: u8,
-) -> Result<TreeRead, PartFail>
+    inputs: &mut Inputs,
+) -> Result<usize, PartFail>
     requires within { at ≤ length tokens.now }
-    requires narrow { seen ≤ 9 }
-    ensures read { spec.GivesTree tokens.now (spec.tree_in table.now depth seen (drop at tokens.now)) result }
-    ensures narrow { IfOk result (λ found. seen + found.leaves ≤ 9) }
-    ensures fits { IfOk result (λ found. Fits table.now (tree_of found.tree)) }
-    ensures further { IfOk result (λ found. at < found.end) }
+    requires narrow { inputs.old.seen ≤ 9 }
+    ensures read { spec.GivesInput table.now tokens.now (spec.tree_in table.now depth inputs.old.seen (drop at tokens.now)) inputs.old inputs.new result }
+    ensures narrow { IfOk result (λ _. inputs.new.seen ≤ 9) }
+    ensures further { IfOk result (λ end. at < end) }
 {
     let Some(token) = token_at(tokens, at) else {
         return Err(misfit(tokens, at));
     };
     match token {
-        Token::Number(number) => leaf(at, *number, seen),
+        Token::Number(number) => leaf(at, *number, inputs),
         Token::Word(name) => match generator_named(table, name) {
             Some(generator) => {
                 if depth == 0 {
                     return fail(at, DocKind::TooDeep);
                 }
-                vertex_within(alloc, table, tokens, at + 1, generator, depth - 1, seen)
+                vertex_within(alloc, table, tokens, at + 1, generator, depth - 1, inputs)
             }
             None => fail(at, DocKind::NameUnknown),
         },
@@ -136,7 +141,7 @@ fn tree_within(
     }
 }
 
-// An input, where no ')' may stand.
+// An input, where no ')' may stand, and the place behind it.
 #[cycle(read)]
 fn input_within(
     alloc: Global,
@@ -144,22 +149,21 @@ fn input_within(
     tokens: &[Token<'_>],
     at: usize,
     depth: u8,
-    seen: u8,
-) -> Result<TreeRead, PartFail>
+    inputs: &mut Inputs,
+) -> Result<usize, PartFail>
     requires within { at ≤ length tokens.now }
-    requires narrow { seen ≤ 9 }
-    ensures read { spec.GivesTree tokens.now (spec.input_in (spec.tree_in table.now depth) seen (drop at tokens.now)) result }
-    ensures narrow { IfOk result (λ found. seen + found.leaves ≤ 9) }
-    ensures fits { IfOk result (λ found. Fits table.now (tree_of found.tree)) }
-    ensures further { IfOk result (λ found. at < found.end) }
+    requires narrow { inputs.old.seen ≤ 9 }
+    ensures read { spec.GivesInput table.now tokens.now (spec.input_in (spec.tree_in table.now depth) inputs.old.seen (drop at tokens.now)) inputs.old inputs.new result }
+    ensures narrow { IfOk result (λ _. inputs.new.seen ≤ 9) }
+    ensures further { IfOk result (λ end. at < end) }
 {
     if has_mark(tokens, at, b')') {
         return fail(at, DocKind::InputCount);
     }
-    tree_within(alloc, table, tokens, at, depth, seen)
+    tree_within(alloc, table, tokens, at, depth, inputs)
 }
 
-// The vertex of a generator whose name stands before the place.
+// The vertex of a generator whose name stands before the place, and the place behind it. It joins the inputs above it.
 #[cycle(read)]
 fn vertex_within(
     alloc: Global,
@@ -168,31 +172,55 @@ fn vertex_within(
     at: usize,
     generator: u16,
     depth: u8,
-    seen: u8,
+    above: &mut Inputs,
+) -> Result<usize, PartFail>
+    requires within { at ≤ length tokens.now }
+    requires narrow { above.old.seen ≤ 9 }
+    requires held { generator < length table.now }
+    ensures read { spec.GivesInput table.now tokens.now (spec.node_in table.now (Some (spec.tree_in table.now depth)) above.old.seen (Some generator) (drop at tokens.now)) above.old above.new result }
+    ensures narrow { IfOk result (λ _. above.new.seen ≤ 9) }
+    ensures further { IfOk result (λ end. at < end) }
+{
+    let arity = table.get(generator).arity;
+    let mut inputs = Inputs {
+        trees: Items::from_vec(Vec::with_capacity(alloc, usize::from(arity))?),
+        seen: above.seen,
+    };
+    let mut next = at;
+    for index in 0..arity {
+        next = before_input(tokens, next, index == 0)?;
+        next = input_within(alloc, table, tokens, next, depth, &mut inputs)?;
+    }
+    let end = behind_inputs(tokens, next)?;
+    above.seen = inputs.seen;
+    above.trees.push(Tree::Node(generator, inputs.trees))?;
+    Ok(end)
+}
+
+// The tree at a place, of which no more is asked than that it is one within the limits.
+fn any_tree_at(
+    alloc: Global,
+    table: &GenTable,
+    tokens: &[Token<'_>],
+    at: usize,
 ) -> Result<TreeRead, PartFail>
     requires within { at ≤ length tokens.now }
-    requires narrow { seen ≤ 9 }
-    requires held { generator < length table.now }
-    ensures read { spec.GivesTree tokens.now (spec.node_in table.now (Some (spec.tree_in table.now depth)) seen (Some generator) (drop at tokens.now)) result }
-    ensures narrow { IfOk result (λ found. seen + found.leaves ≤ 9) }
+    ensures read { spec.GivesTree tokens.now (spec.tree_in table.now 8 0 (drop at tokens.now)) result }
+    ensures narrow { IfOk result (λ found. found.leaves ≤ 9) }
     ensures fits { IfOk result (λ found. Fits table.now (tree_of found.tree)) }
     ensures further { IfOk result (λ found. at < found.end) }
 {
-    let arity = table.get(generator).arity;
-    let mut inputs = Items::from_vec(Vec::with_capacity(alloc, usize::from(arity))?);
-    let mut next = at;
-    let mut leaves = 0;
-    for index in 0..arity {
-        next = before_input(tokens, next, index == 0)?;
-        let input = input_within(alloc, table, tokens, next, depth, seen + leaves)?;
-        inputs.push(input.tree)?;
-        leaves += input.leaves;
-        next = input.end;
-    }
-    let end = behind_inputs(tokens, next)?;
+    let mut found = Inputs {
+        trees: Items::from_vec(Vec::with_capacity(alloc, 1)?),
+        seen: 0,
+    };
+    let end = tree_within(alloc, table, tokens, at, MOST_NESTED, &mut found)?;
+    let Some(tree) = found.trees.pop() else {
+        unreachable!();
+    };
     Ok(TreeRead {
-        tree: Tree::Node(generator, inputs),
-        leaves,
+        tree,
+        leaves: found.seen,
         end,
     })
 }
@@ -235,7 +263,7 @@ pub(crate) fn demanded_tree_at(
     ensures fits { IfOk result (λ found. Fits table.now (tree_of found.tree)) }
     ensures further { IfOk result (λ found. at < found.end) }
 {
-    let found = tree_within(alloc, table, tokens, at, MOST_NESTED, 0)?;
+    let found = any_tree_at(alloc, table, tokens, at)?;
     if let Some(kind) = against(demands, &found) {
         return fail(found.end - 1, kind);
     }

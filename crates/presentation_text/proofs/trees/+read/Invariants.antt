@@ -14,4 +14,4 @@ abbrev pub decreases-vertex_within : goal.decreases-vertex_within
 decreases-vertex_within l = 3 * l.depth + 2
 
 abbrev pub invariant-vertex_within-loop-index : goal.invariant-vertex_within-loop-index
-invariant-vertex_within-loop-index l = IsReadSoFar l.table (tree_in l.table l.depth) l.tokens l.at l.generator l.seen (map tree_of l.inputs) l.index l.next l.leaves
+invariant-vertex_within-loop-index l = IsReadSoFar l.table (tree_in l.table l.depth) l.tokens l.at l.generator l.above.seen (map tree_of l.inputs.trees) l.index l.next l.inputs.seen
