@@ -1,4 +1,4 @@
-ghost use Rattle.std.specs.Prelude.{◌≡◌, ◌++◌, ◌<◌, [], ℕ, IfOk, IfSome, IfNone, IsTrue, ◌↔◌, MatchResult, length};
+ghost use Rattle.std.specs.Prelude.{◌≡◌, ◌++◌, ◌<◌, [], ℕ, IfOk, IfSome, IfNone, IsTrue, ◌↔◌, MatchResult, OnErr, OnOk, ◌∷◌, length};
 ghost use Rattle.std.specs.List.{All};
 ghost use Rattle.labelled_trees.specs.Meaning.{tree_of};
 ghost use Rattle.symmetric_trees.specs.Trees.{IsLabelled};
@@ -118,7 +118,7 @@ impl Sum {
     /// sum has terms and the tree's arity isn't theirs, `NoMemory` for want of memory alone. After an error the sum is as before.
     pub fn add_term(
         &mut self,
-        _alloc: Global,
+        alloc: Global,
         field: Field,
         table: &GenTable,
         coef: u32,
@@ -139,7 +139,7 @@ impl Sum {
                 return Err(SumFail::ArityDiffers);
             }
         }
-        match self.terms.push(Term { coef, tree }) {
+        match push_term(alloc, &mut self.terms, Term { coef, tree }) {
             Ok(()) => {
                 self.arity = Some(arity);
                 Ok(())
@@ -221,6 +221,17 @@ impl Sum {
         }
         Ok(Sum::of_terms(terms, arity))
     }
+}
+
+// Most sums have one term: so the first one takes room for itself alone.
+fn push_term(alloc: Global, terms: &mut Items<Term>, term: Term) -> Result<(), AllocError>
+    ensures ok { OnOk result (terms.new ≡ terms.old ++ term ∷ []) }
+    ensures err { OnErr result (terms.new ≡ terms.old) }
+{
+    if terms.is_empty() {
+        *terms = Items::from_vec(Vec::with_capacity(alloc, 1)?);
+    }
+    terms.push(term)
 }
 
 // The terms of the one list, then the negated terms of the other.

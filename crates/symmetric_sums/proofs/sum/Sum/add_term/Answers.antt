@@ -25,5 +25,5 @@ invariant_of-self c =
       | in-Some-arity+else-theirs-arity w ↦ same_arity c.args.self.now w.in-Some-arity.theirs c.in-Some.arity w.in-Some-arity.ensures.arity w.if-theirs-arity.false
       | in_default-arity w ↦ any_arity c.args.self.now c.arity.result c.in-Some.arity c.arity.ensures.arity w.in_default-arity.is
     ] in
-    sum-push c.self.inside.terms c.push.new.self c.self.inside.arity _ c.in-Some.arity c.self.invariant positive
+    sum-push c.self.inside.terms c.push_term.new.terms c.self.inside.arity _ c.in-Some.arity c.self.invariant positive
     c.in-Some.ensures.numbered (subst (HaveArity c.in-Some.arity) (sym c.self.view_is) have) c.in-Ok.ensures.ok
