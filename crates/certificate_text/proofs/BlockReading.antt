@@ -1,8 +1,8 @@
 -- Reading the lines of blocks one after the other.
-use Rattle.std.proofs.Common.{◌≡◌, ◌<◌, ◌≤◌, ◌+◌, ◌-◌, ℕ, zero, suc, Bool, true, false, not, List, [], ◌∷◌, ◌++◌, codes, length, map, drop, get_or, Option, Some, None, Result, Ok, Err, add-one, arith, ap, refl, subst, sym, ◌∙◌}
+use Rattle.std.proofs.Common.{◌≡◌, ◌<◌, ◌+◌, ℕ, true, false, List, [], ◌∷◌, length, map, drop, get_or, Some, None, Result, Ok, Err, add-one, arith, ap, refl, subst, sym, ◌∙◌}
 use Rattle.std.specs.Result.{IsErr, IsErrAnd, MatchResult}
 use Rattle.presentation_text.specs.DocumentForms.{LineFault}
-use Rattle.presentation_text.specs.LineForms.{is, is_unknown}
+use Rattle.presentation_text.specs.LineForms.{is_unknown}
 use Rattle.presentation_text.specs.Lines.{counts}
 use Rattle.presentation_text.specs.Readings.{Fault, StopsAs}
 use Rattle.presentation_text.specs.Tokens.{tokens}
@@ -12,7 +12,7 @@ use Rattle.presentation_text.specs.declared.kinds.PartFail.{PartFail}
 use Rattle.presentation_text.specs.declared.lexing.Token.{Token}
 use Rattle.presentation_text.specs.declared.lexing.Token.TheVariants.{Word}
 use Rattle.certificate_text.specs.BlockForms.{Base, Follow, Place, at_end, blocks_from, may_follow, refused_at, rest_of_tail_line, tail_line, tail_word_fault, unless_refused, word_line}
-use Rattle.certificate_text.specs.PlaceForms.{GivesFollow, StopsAtLine, follow_of, place_of}
+use Rattle.certificate_text.specs.PlaceForms.{GivesFollow, StopsAtLine, place_of}
 use Rattle.certificate_text.specs.Plain.{PlainBlock, plain_block}
 use Rattle.certificate_text.specs.declared.cert_fail.ReadCertFail.{ReadCertFail}
 use Rattle.certificate_text.specs.declared.cert_fail.ReadCertFail.TheVariants.{At, NoMemory}

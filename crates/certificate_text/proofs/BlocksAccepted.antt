@@ -1,6 +1,5 @@
 -- Which lines are accepted as those of blocks.
-use Rattle.std.proofs.Common.{◌≡◌, ◌↔◌, ℕ, zero, suc, Bool, true, false, not, ◌&&◌, ◌||◌, ◌==◌, if◌then◌else◌, List, [], ◌∷◌, ◌++◌, codes, Option, Some, None, Result, Ok, Err, append-nil, append_assoc, ap, filter, map, refl, subst, sym, ◌∙◌}
-use Rattle.labelled_trees.specs.Trees.{Tree}
+use Rattle.std.proofs.Common.{◌≡◌, ℕ, suc, Bool, true, false, not, ◌||◌, if◌then◌else◌, List, [], ◌∷◌, ◌++◌, codes, Option, Some, None, Result, Ok, Err, append-nil, append_assoc, ap, filter, map, refl, subst, sym, ◌∙◌}
 use Rattle.symmetric_trees.specs.Generators.{IsTable}
 use Rattle.symmetric_trees.specs.declared.generators.Generator.{Generator}
 use Rattle.presentation_text.specs.Accepted.{ElementsAreAccepted, TreesAreAccepted}
@@ -16,13 +15,10 @@ use Rattle.presentation_text.specs.declared.lexing.Token.{Token}
 use Rattle.presentation_text.specs.declared.lexing.Token.TheVariants.{Word, Number, Long, Byte, Bad}
 use Rattle.certificate_text.specs.BlockForms.{Base, Follow, Place, at_end, between, block_line, blocks_from, in_block, in_step, may_follow, refused_at, rest_of_tail_line, step_line, sum_in, tail_line, tail_word_fault, unless_refused, unless_word, use_in, want_line, with_step, with_use, word_line}
 use Rattle.certificate_text.specs.BlockText.{AreBlockLines, AreStepLines, AreUseLines, IsSum, end_line, no_blocks, no_steps, no_uses, one_block, one_step, one_use}
-use Rattle.certificate_text.specs.Laws.{BlocksAreAccepted}
 use Rattle.certificate_text.specs.Plain.{PlainBlock, PlainStep, PlainUse}
-use Rattle.certificate_text.specs.UseText.{IsUse}
-use Rattle.certificate_text.proofs.BlockReading.{word_may_follow}
 use Rattle.certificate_text.proofs.ReadingStops.{both_read, end_read, one_value}
 use Rattle.certificate_text.proofs.TokensRead.{is_word}
-use Rattle.certificate_text.proofs.UsesAccepted.{sum_read, sum_told, use_read, use_told}
+use Rattle.certificate_text.proofs.UsesAccepted.{sum_told, use_told}
 
 -- ---- what lines behind a place say
 

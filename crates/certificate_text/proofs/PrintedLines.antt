@@ -1,5 +1,5 @@
 -- The lines of printed blocks are lines of blocks that say the same.
-use Rattle.std.proofs.Common.{◌≡◌, ◌≢◌, ℕ, zero, suc, Bool, true, false, if◌then◌else◌, List, [], ◌∷◌, ◌++◌, map, filter, codes, None, Ok, refl, ap, sym, ◌∙◌, subst, arith, append-nil, append_assoc}
+use Rattle.std.proofs.Common.{◌≡◌, ℕ, true, List, [], ◌∷◌, ◌++◌, codes, None, refl, ap, sym, ◌∙◌, subst, append-nil, append_assoc}
 use Rattle.std.specs.List.{All, AllByRecursion, flat_map}
 use Rattle.std.proofs.lemmas.List.Elements.{All-head, All-tail}
 use Rattle.labelled_trees.specs.Trees.{Tree}
@@ -14,7 +14,6 @@ use Rattle.presentation_text.specs.Tokens.{IsWord, tokens}
 use Rattle.presentation_text.specs.TreeText.{HasWords}
 use Rattle.presentation_text.specs.declared.lexing.Token.{Token}
 use Rattle.presentation_text.specs.declared.lexing.Token.TheVariants.{Word}
-use Rattle.certificate_text.specs.BlockForms.{between}
 use Rattle.certificate_text.specs.BlockText.{AreBlockLines, AreStepLines, AreUseLines, IsSum, end_line, no_blocks, no_steps, no_uses, one_block, one_step, one_use}
 use Rattle.certificate_text.specs.Laws.{BlocksAreAccepted}
 use Rattle.certificate_text.specs.Plain.{PlainBlock, PlainStep, PlainUse}

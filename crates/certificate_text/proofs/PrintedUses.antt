@@ -1,5 +1,5 @@
 -- The printed line of a use has the tokens of a use that says the same.
-use Rattle.std.proofs.Common.{◌≡◌, ◌≢◌, ℕ, zero, suc, ◌+◌, ◌-◌, ◌%◌, ◌^◌, ◌<◌, ◌≤◌, Bool, true, false, if◌then◌else◌, List, [], ◌∷◌, ◌++◌, min, codes, Option, Some, None, refl, ap, sym, ◌∙◌, subst, arith, append-nil, append_assoc, inl, inr}
+use Rattle.std.proofs.Common.{◌≡◌, ℕ, ◌-◌, ◌%◌, ◌^◌, ◌<◌, ◌≤◌, Bool, true, false, if◌then◌else◌, List, [], ◌∷◌, ◌++◌, codes, refl, ap, sym, ◌∙◌, arith, append-nil, append_assoc, inl, inr}
 use Rattle.std.specs.List.{All, AllByRecursion, flat_map}
 use Rattle.std.specs.Fmt.{decimal}
 use Rattle.std.proofs.Math.Nat.{min-eq_left, mod-eq_of_lt}
@@ -14,7 +14,6 @@ use Rattle.symmetric_trees.specs.declared.generators.Generator.{Generator}
 use Rattle.symmetric_sums.specs.declared.instance.Rule.{Rule}
 use Rattle.symmetric_sums.specs.declared.instance.Rule.TheVariants.{Rel, Swap, Step}
 use Rattle.presentation_text.specs.Accepted.{IsDemanded}
-use Rattle.presentation_text.specs.DocumentText.{blank_before, line_of}
 use Rattle.presentation_text.specs.Lines.{HasNoFeed}
 use Rattle.presentation_text.specs.SumText.{is_negative, magnitude}
 use Rattle.presentation_text.specs.Tokens.{tokens}
@@ -26,7 +25,7 @@ use Rattle.presentation_text.proofs.PrintedTokens.{read_back, tokens-decimal}
 use Rattle.presentation_text.proofs.TokenLaws.{tokens-single}
 use Rattle.certificate_text.specs.Plain.{PlainUse}
 use Rattle.certificate_text.specs.PrintedBlocks.{coefficient_text, input_words, rule_words}
-use Rattle.certificate_text.specs.UseText.{IsUse, cited_rule, greatest_cited, inputs_tokens, signed_residue, use_tokens}
+use Rattle.certificate_text.specs.UseText.{IsUse, cited_rule, inputs_tokens, signed_residue}
 use Rattle.certificate_text.specs.Writable.{IsCited, IsWritableUse}
 use Rattle.presentation_text.proofs.LineTexts.{no_feed-decimal, no_feed-word}
 use Rattle.presentation_text.proofs.PrintedFeeds.{no_feed-tree}

@@ -1,12 +1,11 @@
 -- The blocks of a tail may be written, and are as a checker asks.
-use Rattle.std.proofs.Common.{◌≡◌, ◌<◌, ◌≤◌, ◌-◌, ◌^◌, ℕ, Bool, true, false, if◌then◌else◌, List, [], ◌∷◌, length, map, filter, drop, take, Ok, Err, Result, ap, arith, length-drop, refl, subst, sym, ◌∙◌}
+use Rattle.std.proofs.Common.{◌≡◌, ◌<◌, ◌≤◌, ◌-◌, ℕ, Bool, true, false, if◌then◌else◌, List, [], ◌∷◌, length, map, filter, drop, take, Ok, Err, Result, ap, arith, length-drop}
 use Rattle.std.specs.List.{All}
 use Rattle.std.specs.Result.{IfOk, MatchResult}
 use Rattle.std.proofs.lemmas.List.{length-map}
 use Rattle.prime_field.proofs.Primes.{field_prime}
 use Rattle.prime_field.specs.Primes.{IsFieldPrime}
 use Rattle.symmetric_trees.specs.Generators.{IsTable}
-use Rattle.symmetric_trees.specs.declared.generators.Generator.{Generator}
 use Rattle.presentation_text.specs.Accepted.{ElementsAreAccepted, TreesAreAccepted}
 use Rattle.presentation_text.specs.Grammar.{counted_tokens}
 use Rattle.presentation_text.specs.Lines.{counts, lines}

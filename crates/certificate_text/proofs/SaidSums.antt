@@ -1,8 +1,7 @@
 -- Sums that may be said fit, and so do blocks that may be written.
-use Rattle.std.proofs.Common.{◌≡◌, ◌<◌, ◌≤◌, ◌-◌, ◌^◌, ℕ, true, List, [], ◌∷◌, length, map, get_or, arith, ap, sym, subst}
+use Rattle.std.proofs.Common.{◌<◌, ◌-◌, ◌^◌, ℕ, true, List, [], ◌∷◌, length, map}
 use Rattle.std.specs.List.{All}
 use Rattle.std.proofs.lemmas.List.Elements.{All-nil, All-head, All-tail, All-cons}
-use Rattle.labelled_trees.specs.Trees.{Tree}
 use Rattle.labelled_trees.specs.Meaning.{tree_of}
 use Rattle.labelled_trees.specs.declared.Tree as program
 use Rattle.symmetric_trees.specs.Trees.{Fits}
@@ -11,7 +10,7 @@ use Rattle.symmetric_sums.specs.Terms.{FitsOver, HaveResidues, terms_of}
 use Rattle.symmetric_sums.specs.declared.instance.Instance.{Instance}
 use Rattle.symmetric_sums.specs.declared.term.Term.{Term}
 use Rattle.presentation_text.specs.Accepted.{IsDemanded}
-use Rattle.presentation_text.specs.PrintedElements.{IsSaidOver, IsSaidTerm}
+use Rattle.presentation_text.specs.PrintedElements.{IsSaidTerm}
 use Rattle.presentation_text.specs.TreeForms.{any_arity}
 use Rattle.certificate_text.specs.Plain.{plain_block, plain_step, plain_use}
 use Rattle.certificate_text.specs.Tails.{IsReadyBlock, IsReadyStep}

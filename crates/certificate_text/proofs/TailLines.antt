@@ -1,5 +1,5 @@
 -- The lines of a tail are few.
-use Rattle.std.proofs.Common.{◌≡◌, ◌<◌, ◌≤◌, ◌+◌, ◌-◌, ◌==◌, ℕ, suc, Bool, true, false, if◌then◌else◌, List, [], ◌∷◌, ◌++◌, length, drop, take, Option, None, Some, arith, ap, subst, sym, length-append, length-drop, ◌∙◌}
+use Rattle.std.proofs.Common.{◌≡◌, ◌<◌, ◌≤◌, ◌+◌, ◌-◌, ◌==◌, ℕ, suc, Bool, true, false, if◌then◌else◌, List, [], ◌∷◌, length, drop, take, Option, None, Some, arith, ap, subst, length-append, length-drop, ◌∙◌}
 use Rattle.std.proofs.lemmas.List.{take_all}
 use Rattle.presentation_text.specs.Lines.{in_front, lines}
 use Rattle.presentation_text.specs.Presentations.{IsReadAs, IsTail, IsTailAt}

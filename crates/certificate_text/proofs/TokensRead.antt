@@ -1,12 +1,12 @@
 -- What single tokens are, where they were read.
-use Rattle.std.proofs.Common.{◌≡◌, ◌≢◌, ◌==◌, ℕ, zero, suc, Bool, true, false, not, ◌||◌, if◌then◌else◌, List, [], ◌∷◌, ◌++◌, codes, length, Option, Some, None, Result, Ok, Err, ap, arith, refl, subst, sym, ◌∙◌}
+use Rattle.std.proofs.Common.{◌≡◌, ℕ, suc, Bool, true, false, if◌then◌else◌, List, [], ◌∷◌, ◌++◌, codes, length, Some, None, Ok, ap, arith, refl, subst, ◌∙◌}
 use Rattle.std.proofs.lemmas.Bool.Decides.{nat_tests}
 use Rattle.std.proofs.lemmas.Slice.Eq.{bytes_eq-Decides}
 use Rattle.symmetric_sums.specs.declared.instance.Rule.{Rule}
 use Rattle.presentation_text.specs.ElementForms.{behind_one}
 use Rattle.presentation_text.specs.TreeForms.{begins_with}
 use Rattle.presentation_text.specs.LineForms.{is, known}
-use Rattle.presentation_text.specs.Readings.{Fault, ◌>>=◌, is_mark, mark_in, misfit, number_in, word_in}
+use Rattle.presentation_text.specs.Readings.{is_mark, mark_in, misfit, number_in, word_in}
 use Rattle.presentation_text.specs.declared.kinds.DocKind.TheVariants.{Syntax}
 use Rattle.presentation_text.specs.declared.lexing.Token.{Token}
 use Rattle.presentation_text.specs.declared.lexing.Token.TheVariants.{Word, Number, Long, Byte, Bad}

@@ -1,5 +1,5 @@
 -- Which tokens are accepted as those of a sum or a use.
-use Rattle.std.proofs.Common.{◌≡◌, ◌≤◌, ◌<◌, ◌+◌, ◌↔◌, ℕ, zero, suc, Bool, true, false, if◌then◌else◌, List, [], ◌∷◌, ◌++◌, codes, length, None, Result, Ok, Err, append-nil, append_assoc, length-append, arith, ap, refl, subst, sym, ◌∙◌}
+use Rattle.std.proofs.Common.{◌≡◌, ◌≤◌, ℕ, zero, suc, Bool, true, if◌then◌else◌, List, [], ◌∷◌, ◌++◌, codes, length, None, Ok, append-nil, length-append, arith, ap, refl, subst, sym, ◌∙◌}
 use Rattle.std.specs.List.{All}
 use Rattle.std.proofs.lemmas.List.Elements.{All-nil, All-cons, All-head, All-tail}
 use Rattle.labelled_trees.specs.Trees.{Tree}
@@ -9,7 +9,7 @@ use Rattle.symmetric_sums.specs.declared.instance.Rule.{Rule}
 use Rattle.presentation_text.specs.Accepted.{ElementsAreAccepted, EndsBefore, IsDemanded, TreesAreAccepted}
 use Rattle.presentation_text.specs.ElementForms.{element_in}
 use Rattle.presentation_text.specs.Elements.{Written, element_tokens, said}
-use Rattle.presentation_text.specs.Readings.{Fault, ◌>>=◌, end_in, mark_in}
+use Rattle.presentation_text.specs.Readings.{end_in, mark_in}
 use Rattle.presentation_text.specs.TreeForms.{any_arity, demands_of}
 use Rattle.presentation_text.specs.TreeText.{tree_tokens}
 use Rattle.presentation_text.specs.declared.lexing.Token.{Token}
@@ -17,7 +17,7 @@ use Rattle.presentation_text.specs.declared.lexing.Token.TheVariants.{Word, Numb
 use Rattle.certificate_text.specs.BlockForms.{cited_in, coefficient_in, free_tree_in, inputs_in, sum_in, use_in}
 use Rattle.certificate_text.specs.BlockText.{IsSum}
 use Rattle.certificate_text.specs.Plain.{PlainUse}
-use Rattle.certificate_text.specs.UseText.{HasUseTrees, IsUse, WrittenUse, behind_tokens, cited_rule, inputs_tokens, said_use, signed_residue, use_tokens}
+use Rattle.certificate_text.specs.UseText.{IsUse, behind_tokens, inputs_tokens, signed_residue}
 use Rattle.certificate_text.proofs.ReadingStops.{both_read, end_read, one_value}
 use Rattle.certificate_text.proofs.TokensRead.{cited_read, cited_there, coefficient_read, coefficient_there, mark_read, minus}
 use Rattle.certificate_text.proofs.UseReading.{no_input}

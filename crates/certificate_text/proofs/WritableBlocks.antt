@@ -1,7 +1,6 @@
 -- What is read may be written.
-use Rattle.std.proofs.Common.{◌≡◌, ◌<◌, ◌≤◌, ◌+◌, ◌-◌, ◌%◌, ◌^◌, ◌==◌, ℕ, zero, suc, Bool, true, false, if◌then◌else◌, List, [], ◌∷◌, ◌++◌, length, map, filter, min, None, Ok, Err, Result, ap, arith, length-append, refl, subst, sym, ◌∙◌}
+use Rattle.std.proofs.Common.{◌≡◌, ◌<◌, ◌≤◌, ◌-◌, ◌%◌, ◌==◌, ℕ, zero, suc, Bool, true, false, if◌then◌else◌, List, [], ◌∷◌, length, None, arith, length-append, refl, subst, sym}
 use Rattle.std.specs.List.{All}
-use Rattle.std.specs.Result.{IfOk, MatchResult}
 use Rattle.std.proofs.Math.Nat.{mod-lt}
 use Rattle.std.proofs.lemmas.Bool.Decides.{nat_tests}
 use Rattle.std.proofs.lemmas.List.Elements.{All-nil, All-cons, All-head, All-tail}
@@ -13,7 +12,7 @@ use Rattle.presentation_text.specs.PrintedElements.{IsSaidOver, IsSaidTerm}
 use Rattle.presentation_text.specs.declared.lexing.Token.{Token}
 use Rattle.certificate_text.specs.BlockText.{AreBlockLines, AreStepLines, AreUseLines, IsSum, end_line, no_blocks, no_steps, no_uses, one_block, one_step, one_use}
 use Rattle.certificate_text.specs.Plain.{PlainBlock, PlainStep, PlainUse}
-use Rattle.certificate_text.specs.UseText.{IsUse, cited_rule, greatest_cited, signed_residue}
+use Rattle.certificate_text.specs.UseText.{IsUse, cited_rule, signed_residue}
 use Rattle.certificate_text.specs.Writable.{IsCited, IsSaidSum, IsWritable, IsWritableStep, IsWritableUse}
 
 residue_small : (p : ℕ) (negative : Bool) (number : ℕ) → 0 < p → signed_residue p negative number < p

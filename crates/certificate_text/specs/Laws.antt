@@ -1,5 +1,5 @@
 -- What holds of the tails of texts and their blocks.
-use Rattle.std.specs.Prelude.{ℕ, ◌≡◌, ◌↔◌, List, [], map, Ok}
+use Rattle.std.specs.Prelude.{ℕ, ◌≡◌, ◌↔◌, List, [], Ok}
 use Rattle.symmetric_trees.specs.Generators.{IsTable}
 use Rattle.presentation_text.specs.Grammar.{counted_tokens}
 use Rattle.certificate_text.specs.BlockForms.{Base, between, blocks_from}

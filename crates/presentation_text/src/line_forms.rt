@@ -143,7 +143,12 @@ fn part_at(arity: u8, sum: u8, tokens: &[Token<'_>], at: usize) -> Result<Part, 
 }
 
 // The parts of version 2, one at least, to the end of the line.
-fn parts_at(alloc: Global, arity: u8, tokens: &[Token<'_>], at: usize) -> Result<Items<Part>, PartFail>
+fn parts_at(
+    alloc: Global,
+    arity: u8,
+    tokens: &[Token<'_>],
+    at: usize,
+) -> Result<Items<Part>, PartFail>
     requires within { at ≤ length tokens.now }
     ensures { MatchResult result (λ parts. spec.all_parts_in arity 0 (drop at tokens.now) ≡ Ok parts)
         (StopsAs tokens.now (spec.all_parts_in arity 0 (drop at tokens.now))) }

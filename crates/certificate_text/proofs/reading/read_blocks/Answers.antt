@@ -1,5 +1,3 @@
-use Rattle.certificate_text.specs.BlockForms.{base_of, between, blocks_from}
-use Rattle.certificate_text.specs.PlaceForms.{StopsAtLine}
 use Rattle.certificate_text.proofs.PresentationLaws.{document_sound, elements_are_accepted, trees_are_accepted}
 use Rattle.certificate_text.proofs.ReadyBlocks.{tail_ready, tail_writable}
 use Rattle.certificate_text.proofs.TailLines.{tail_short}

@@ -1,4 +1,4 @@
-use Rattle.std.proofs.Common.{◌∙◌, ap, refl, sym}
+use Rattle.std.proofs.Common.{◌∙◌, ap, sym}
 use Rattle.std.specs.Option.{is_some}
 use Rattle.presentation_text.proofs.Names.{index_found}
 use Rattle.presentation_text.proofs.line_forms.is_taken.Goals as goal

@@ -1,4 +1,4 @@
-use Rattle.std.proofs.Common.{◌≡◌, ◌∙◌, None, Some, ap, arith, drop, false, length, nat_le, refl, sym, true}
+use Rattle.std.proofs.Common.{◌≡◌, None, Some, arith, drop, false, length, nat_le, refl, sym, true}
 use Rattle.presentation_text.specs.LineForms.{is_arity, name_fault, named_arity_in}
 use Rattle.presentation_text.specs.Readings.{StopsAs, number_in, word_in}
 use Rattle.presentation_text.specs.declared.kinds.DocKind.TheVariants.{ArityOut, TooManyGens}

@@ -1,4 +1,4 @@
-use Rattle.std.proofs.Common.{◌≡◌, ◌∙◌, ap, drop, refl, sym, None, Some}
+use Rattle.std.proofs.Common.{◌≡◌, drop, refl, sym, None, Some}
 use Rattle.presentation_text.specs.LineForms.{order_line, order_named}
 use Rattle.presentation_text.specs.Readings.{word_in, end_in}
 use Rattle.presentation_text.specs.declared.kinds.DocKind.TheVariants.{OrderUnknown}

@@ -1,4 +1,4 @@
-use Rattle.std.proofs.Common.{◌≡◌, ◌∙◌, ◌+◌, ◌==◌, ◌||◌, ap, arith, drop, false, nat_lt, refl, sym, true, None, Ok, Some}
+use Rattle.std.proofs.Common.{◌≡◌, ◌+◌, ◌==◌, ◌||◌, ap, arith, drop, false, nat_lt, refl, sym, true, None, Ok, Some}
 use Rattle.presentation_text.specs.LineForms.{part_in, part_named}
 use Rattle.presentation_text.specs.Readings.{StopsAs, number_in, word_in}
 use Rattle.presentation_text.specs.declared.kinds.DocKind.TheVariants.{PartsOut, Syntax}
