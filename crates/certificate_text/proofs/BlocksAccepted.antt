@@ -16,8 +16,9 @@ use Rattle.presentation_text.specs.declared.lexing.Token.TheVariants.{Word, Numb
 use Rattle.certificate_text.specs.BlockForms.{Base, Follow, Place, at_end, between, block_line, blocks_from, in_block, in_step, may_follow, refused_at, rest_of_tail_line, step_line, sum_in, tail_line, tail_word_fault, unless_refused, unless_word, use_in, want_line, with_step, with_use, word_line}
 use Rattle.certificate_text.specs.BlockText.{AreBlockLines, AreStepLines, AreUseLines, IsSum, end_line, no_blocks, no_steps, no_uses, one_block, one_step, one_use}
 use Rattle.certificate_text.specs.Plain.{PlainBlock, PlainStep, PlainUse}
-use Rattle.certificate_text.proofs.ReadingStops.{both_read, end_read, one_value}
-use Rattle.certificate_text.proofs.TokensRead.{is_word}
+use Rattle.presentation_text.proofs.AcceptedParts.{end_read}
+use Rattle.presentation_text.proofs.LineFormsRead.{both_read, one_value}
+use Rattle.presentation_text.proofs.ToldLines.{is_word}
 use Rattle.certificate_text.proofs.UsesAccepted.{sum_told, use_told}
 
 -- ---- what lines behind a place say

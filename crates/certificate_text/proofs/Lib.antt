@@ -1,4 +1,4 @@
-pub mod ReadingStops
+pub mod MarkPlaces
 pub mod UseReading
 pub mod BlockReading
 pub mod SaidSums

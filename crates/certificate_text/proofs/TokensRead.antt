@@ -1,7 +1,6 @@
 -- What single tokens are, where they were read.
 use Rattle.std.proofs.Common.{◌≡◌, ℕ, suc, Bool, true, false, if◌then◌else◌, List, [], ◌∷◌, ◌++◌, codes, length, Some, None, Ok, ap, arith, refl, subst, ◌∙◌}
 use Rattle.std.proofs.lemmas.Bool.Decides.{nat_tests}
-use Rattle.std.proofs.lemmas.Slice.Eq.{bytes_eq-Decides}
 use Rattle.symmetric_sums.specs.declared.instance.Rule.{Rule}
 use Rattle.presentation_text.specs.ElementForms.{behind_one}
 use Rattle.presentation_text.specs.TreeForms.{begins_with}
@@ -12,10 +11,8 @@ use Rattle.presentation_text.specs.declared.lexing.Token.{Token}
 use Rattle.presentation_text.specs.declared.lexing.Token.TheVariants.{Word, Number, Long, Byte, Bad}
 use Rattle.certificate_text.specs.BlockForms.{cited_in, cites_step, coefficient_in}
 use Rattle.certificate_text.specs.UseText.{cited_rule}
-use Rattle.certificate_text.proofs.ReadingStops.{both_read, number_read, was_known, word_read}
-
-pub is_word : (w other : List ℕ) → is w other ≡ true → w ≡ other
-is_word w other e = (bytes_eq-Decides w other).0 e
+use Rattle.presentation_text.proofs.LineFormsRead.{both_read, number_read, was_known, word_read}
+use Rattle.presentation_text.proofs.ToldLines.{is_word}
 
 marked : (c : ℕ) (token : Token) → is_mark c token ≡ true → token ≡ Byte c
 marked c (Byte d) e = let same : d ≡ c = grind (arith, nat_tests) in ap Byte same

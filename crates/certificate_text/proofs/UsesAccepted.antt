@@ -18,7 +18,8 @@ use Rattle.certificate_text.specs.BlockForms.{cited_in, coefficient_in, free_tre
 use Rattle.certificate_text.specs.BlockText.{IsSum}
 use Rattle.certificate_text.specs.Plain.{PlainUse}
 use Rattle.certificate_text.specs.UseText.{IsUse, behind_tokens, inputs_tokens, signed_residue}
-use Rattle.certificate_text.proofs.ReadingStops.{both_read, end_read, one_value}
+use Rattle.presentation_text.proofs.AcceptedParts.{end_read}
+use Rattle.presentation_text.proofs.LineFormsRead.{both_read, one_value}
 use Rattle.certificate_text.proofs.TokensRead.{cited_read, cited_there, coefficient_read, coefficient_there, mark_read, minus}
 use Rattle.certificate_text.proofs.UseReading.{no_input}
 

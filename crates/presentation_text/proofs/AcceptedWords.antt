@@ -1,5 +1,5 @@
 -- A line that counts is read exactly where its word may stand there and the grammar has it.
-use Rattle.std.proofs.Common.{◌≡◌, ◌==◌, ◌&&◌, ◌||◌, ℕ, Bool, true, false, not, cond, codes, List, [], ◌∷◌, Option, Some, None, Result, Ok, Err, sym, ap, ◌∙◌, refl, subst}
+use Rattle.std.proofs.Common.{◌≡◌, ◌==◌, ◌&&◌, ◌||◌, ℕ, Bool, true, false, not, cond, codes, List, [], ◌∷◌, Option, None, Result, Ok, sym, ap, ◌∙◌, refl, subst}
 use Rattle.std.proofs.lemmas.Bool.Decides.{Decides-eqb}
 use Rattle.std.proofs.lemmas.Slice.Eq.{bytes_eq-Decides}
 use Rattle.symmetric_trees.specs.Generators.{IsTable}
@@ -15,6 +15,7 @@ use Rattle.presentation_text.specs.declared.lexing.Token.TheVariants.{Word, Numb
 use Rattle.presentation_text.proofs.AcceptedLines.{field_adds, field_accepted, order_adds, order_accepted, gen_adds, gen_accepted, weight_adds, weight_accepted, rel_adds, rel_accepted, query_adds, query_accepted, same_adds, same_accepted}
 use Rattle.presentation_text.proofs.AcceptedParts.{generator_accepted}
 use Rattle.presentation_text.proofs.LineFormsGenerators.{generator_welcome}
+use Rattle.presentation_text.proofs.ToldLines.{free_word, no_tail, went_on}
 
 pub chosen : {A E P : Type 0} (b : Bool) (one other : Result A E) (x : A) → cond b one other ≡ Ok x → (b ≡ true → one ≡ Ok x → P) → (b ≡ false → other ≡ Ok x → P) → P
 chosen true one other x e f g = f refl e
@@ -71,18 +72,6 @@ line_adds accepted told now number w ts table free section read =
     let t = last_word (is w (codes "field")) (is w (codes "order")) (is w (codes "gen")) (told.version == 2 && is w (codes "weight")) (is w (codes "rel")) (is w (codes "query")) (is w (codes "same"))
     (is w (codes "want") || is w (codes "cert")) (is_inside_tail w) a b c (and_false (told.version == 2) (is w (codes "weight")) d) e f outside.1 section outside.0 in
     word_as told now number w (codes "same") ts t (same_adds accepted told table now number ts r)))))))
-
-free_word : (number : ℕ) (fault : Option DocKind) (reading : Result Behind LineFault) (behind : Behind) → unless_word number fault reading ≡ Ok behind → (fault ≡ None) × (reading ≡ Ok behind)
-free_word number None reading behind e = (refl, e)
-free_word number (Some kind) reading behind e = absurd cc
-
-went_on : (number : ℕ) (reading : Result Told Fault) (now : Told) → refused_at number reading ≡ Ok (goes_on now) → reading ≡ Ok now
-went_on number (Ok told) now e = let same : told ≡ now = cc in ap Ok same
-went_on number (Err fault) now e = absurd cc
-
-no_tail : (number : ℕ) (reading : Result Told Fault) → refused_at number reading ≡ Ok tail_begins → ⊥
-no_tail number (Ok told) e = cc
-no_tail number (Err fault) e = cc
 
 -- a line of a presentation, and what it adds
 pub counted_adds : ElementsAreAccepted → (told now : Told) (number : ℕ) (ts : List Token) → IsTable told.generators → counted_line told number ts ≡ Ok (goes_on now) → MayStand told ts × Adds told number ts now

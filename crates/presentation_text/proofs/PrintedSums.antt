@@ -37,7 +37,7 @@ all_written p = map (written_of p)
 abbrev MayPrint : ℕ → List Generator → ℕ × Tree ℕ → Type 0
 MayPrint p generators x = (0 < x.0) × (x.0 < p) × Fits generators x.1 × AllLeaves x.1 (λ n. (0 < n) × (n < 10 ^ 18))
 
-small_prime : (p : ℕ) → IsFieldPrime p → p < 10 ^ 18
+pub small_prime : (p : ℕ) → IsFieldPrime p → p < 10 ^ 18
 small_prime p (inl e) = omega arith
 small_prime p (inr (inl e)) = omega arith
 small_prime p (inr (inr (inl e))) = omega arith

@@ -22,6 +22,7 @@ use Rattle.presentation_text.proofs.PrintedGenerators.{MayPrint, tokens-number}
 use Rattle.presentation_text.proofs.PrintedStages.{Reach, numbered-first, reach-line, stage, with_field, IsVersion, stands-field, stands-order}
 use Rattle.presentation_text.proofs.PrintedTables.{MayWeigh, reach-generators}
 use Rattle.presentation_text.proofs.TreeTokens.{name_of-is}
+use Rattle.presentation_text.proofs.PrintedSums.{small_prime}
 
 -- ---- the opening
 
@@ -33,15 +34,6 @@ prime_is_known p (inr (inr (inr (inl e)))) = ap is_prime e
 prime_is_known p (inr (inr (inr (inr (inl e))))) = ap is_prime e
 prime_is_known p (inr (inr (inr (inr (inr (inl e)))))) = ap is_prime e
 prime_is_known p (inr (inr (inr (inr (inr (inr e)))))) = absurd e
-
-small_prime : (p : ℕ) → IsFieldPrime p → p < 10 ^ 18
-small_prime p (inl e) = omega arith
-small_prime p (inr (inl e)) = omega arith
-small_prime p (inr (inr (inl e))) = omega arith
-small_prime p (inr (inr (inr (inl e)))) = omega arith
-small_prime p (inr (inr (inr (inr (inl e))))) = omega arith
-small_prime p (inr (inr (inr (inr (inr (inl e)))))) = omega arith
-small_prime p (inr (inr (inr (inr (inr (inr e)))))) = absurd e
 
 order_is_named : (version : ℕ) (order : OrderName) → (version ≡ 2) ⊎ (order ≢ WeightPath) → order_named version (order_word order) ≡ Some order
 order_is_named version Path h = refl

@@ -45,7 +45,7 @@ section_rises told w e =
     let h = against told w e in
     rises (section_of told.version w) told.section (is_inside_tail w) (is w (codes "field") && is_some told.field) (is w (codes "order") && is_some told.order) h.2 h.0 h.1
 
-is_word : (w other : List ℕ) → is w other ≡ true → w ≡ other
+pub is_word : (w other : List ℕ) → is w other ≡ true → w ≡ other
 is_word w other e = (bytes_eq-Decides w other).0 e
 
 -- in version 1 no line has a weight
@@ -94,15 +94,15 @@ line_stands accepted number told now w ts words h free e =
     rel_stands accepted number told now ts h (omega (arith, low, most)) f) (λ u g.
     choose (is w (codes "query")) _ _ now g (λ t f. query_stands accepted number told now ts h f) (λ t f. same_stands accepted number told now ts h f))))))
 
-free_word : (number : ℕ) (fault : Option DocKind) (reading : Result Behind LineFault) (behind : Behind) → unless_word number fault reading ≡ Ok behind → (fault ≡ None) × (reading ≡ Ok behind)
+pub free_word : (number : ℕ) (fault : Option DocKind) (reading : Result Behind LineFault) (behind : Behind) → unless_word number fault reading ≡ Ok behind → (fault ≡ None) × (reading ≡ Ok behind)
 free_word number None reading behind e = (refl, e)
 free_word number (Some kind) reading behind e = absurd cc
 
-went_on : (number : ℕ) (reading : Result Told Fault) (now : Told) → refused_at number reading ≡ Ok (goes_on now) → reading ≡ Ok now
+pub went_on : (number : ℕ) (reading : Result Told Fault) (now : Told) → refused_at number reading ≡ Ok (goes_on now) → reading ≡ Ok now
 went_on number (Ok told) now e = let same : told ≡ now = cc in ap Ok same
 went_on number (Err fault) now e = absurd cc
 
-no_tail : (number : ℕ) (reading : Result Told Fault) → refused_at number reading ≡ Ok tail_begins → ⊥
+pub no_tail : (number : ℕ) (reading : Result Told Fault) → refused_at number reading ≡ Ok tail_begins → ⊥
 no_tail number (Ok told) e = cc
 no_tail number (Err fault) e = cc
 

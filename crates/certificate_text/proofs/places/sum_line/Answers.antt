@@ -3,7 +3,7 @@ use Rattle.presentation_text.specs.ElementForms.{element_in}
 use Rattle.presentation_text.specs.Readings.{StopsAs, end_in}
 use Rattle.presentation_text.specs.TreeForms.{demands_of}
 use Rattle.certificate_text.specs.BlockForms.{sum_in}
-use Rattle.certificate_text.proofs.ReadingStops.{part_stops, stops_on}
+use Rattle.presentation_text.proofs.LineFormsStops.{part_stops, stops_on}
 use Rattle.certificate_text.proofs.places.sum_line.Goals as goal
 
 pub returns-in_err-element-clause-read : goal.returns-in_err-element-clause-read

@@ -3,7 +3,8 @@ use Rattle.presentation_text.specs.ElementForms.{behind_one}
 use Rattle.presentation_text.specs.TreeForms.{begins_with}
 use Rattle.presentation_text.specs.Readings.{StopsAs, number_in}
 use Rattle.certificate_text.specs.BlockForms.{coefficient_in}
-use Rattle.certificate_text.proofs.ReadingStops.{marked_within, part_stops, stops_on}
+use Rattle.presentation_text.proofs.LineFormsStops.{part_stops, stops_on}
+use Rattle.certificate_text.proofs.MarkPlaces.{marked_within}
 use Rattle.certificate_text.proofs.uses.coefficient_at.Goals as goal
 
 pub number_at-requires : goal.number_at-requires
