@@ -1,5 +1,5 @@
 -- Reading the lines of blocks one after the other.
-use Rattle.std.proofs.Common.{◌≡◌, ◌<◌, ◌+◌, ℕ, true, false, List, [], ◌∷◌, length, map, drop, get_or, Some, None, Result, Ok, Err, add-one, arith, ap, refl, subst, sym, ◌∙◌}
+use Rattle.std.proofs.Common.{◌≡◌, ◌+◌, ℕ, true, false, List, [], ◌∷◌, map, Some, None, Result, Ok, Err, add-one, ap, refl, subst, sym, ◌∙◌}
 use Rattle.std.specs.Result.{IsErr, IsErrAnd, MatchResult}
 use Rattle.presentation_text.specs.DocumentForms.{LineFault}
 use Rattle.presentation_text.specs.LineForms.{is_unknown}
@@ -41,11 +41,6 @@ pub follow_stops : (tokens : List Token) (reading : Result Follow Fault) (r : Re
     → StopsAs tokens reading fail → GivesFollow tokens reading r
 follow_stops tokens reading (Ok next) fail h e stops = absurd e
 follow_stops tokens reading (Err other) fail h e stops = subst (StopsAs tokens reading) (sym e) stops
-
-pub begun_by : (all slice : List Token) (token : Token) (word name : List ℕ) → slice ≡ all → 0 < length slice → token ≡ get_or slice 0 token → token ≡ Word word → name ≡ word
-    → all ≡ Word name ∷ drop 1 slice
-begun_by all [] token word name e l first f n = absurd (omega arith)
-begun_by all (t ∷ ts) token word name e l first f n = sym e ∙ ap (λ x. x ∷ ts) (sym first ∙ f ∙ ap Word (sym n))
 
 pub line_refused : (base : Base) (now : Follow) (number : ℕ) (ts rest : List Token) (w : List ℕ) (kind : DocKind) → ts ≡ Word w ∷ rest → tail_word_fault base.version now.0 w ≡ Some kind
     → tail_line base now number ts ≡ Err (number, kind)

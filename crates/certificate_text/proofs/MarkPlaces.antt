@@ -1,15 +1,10 @@
 -- Single bytes at a place, and the place behind them.
-use Rattle.std.proofs.Common.{◌≡◌, ◌<◌, ◌≤◌, ◌+◌, ◌-◌, ℕ, zero, suc, Bool, true, false, if◌then◌else◌, List, [], ◌∷◌, Ok, add-one, ap, arith, drop, length, length-drop, refl}
+use Rattle.std.proofs.Common.{◌≡◌, ◌<◌, ◌≤◌, ◌+◌, ◌-◌, ℕ, zero, suc, Bool, true, false, if◌then◌else◌, List, [], ◌∷◌, Ok, add-one, ap, arith, drop, length, length-drop}
 use Rattle.presentation_text.specs.ElementForms.{behind_one}
 use Rattle.presentation_text.specs.TreeForms.{begins_with}
 use Rattle.presentation_text.specs.Readings.{is_mark, mark_in, misfit}
 use Rattle.presentation_text.specs.declared.lexing.Token.{Token}
-
-behind_place : (tokens : List Token) (at : ℕ) → behind_one (drop at tokens) ≡ drop (suc at) tokens
-behind_place [] zero = refl
-behind_place [] (suc at) = refl
-behind_place (t ∷ ts) zero = refl
-behind_place (t ∷ ts) (suc at) = behind_place ts at
+use Rattle.presentation_text.proofs.ElementFormsRead.{behind_suc}
 
 room : (tokens : List Token) (at c : ℕ) → begins_with c (drop at tokens) ≡ true → at + 1 ≤ length tokens
 room [] zero c e = absurd cc
@@ -19,7 +14,7 @@ room (t ∷ ts) (suc at) c e = let h = room ts at c e in omega (arith, h)
 
 -- behind a single byte at a place
 pub marked_within : (tokens : List Token) (at c : ℕ) → at ≤ length tokens → begins_with c (drop at tokens) ≡ true → (behind_one (drop at tokens) ≡ drop (at + 1) tokens) × (at + 1 ≤ length tokens)
-marked_within tokens at c l e = (rw add-one (behind_place tokens at), room tokens at c e)
+marked_within tokens at c l e = (rw add-one (behind_suc tokens at), room tokens at c e)
 
 mark_shorter : (c : ℕ) (ts rest : List Token) → mark_in c ts ≡ Ok rest → length rest < length ts
 mark_shorter c [] rest e = absurd cc

@@ -21,7 +21,7 @@ use Rattle.presentation_text.specs.TreeForms.{any_arity}
 use Rattle.presentation_text.specs.TreeText.{HasWords, tree_text, tree_tokens}
 use Rattle.presentation_text.specs.declared.lexing.Token.{Token}
 use Rattle.presentation_text.specs.declared.lexing.Token.TheVariants.{Word, Number, Byte}
-use Rattle.presentation_text.proofs.PrintedTokens.{read_back, tokens-decimal}
+use Rattle.presentation_text.proofs.PrintedTokens.{read_back}
 use Rattle.presentation_text.proofs.TokenLaws.{tokens-single}
 use Rattle.certificate_text.specs.Plain.{PlainUse}
 use Rattle.certificate_text.specs.PrintedBlocks.{coefficient_text, input_words, rule_words}
@@ -30,6 +30,7 @@ use Rattle.certificate_text.specs.Writable.{IsCited, IsWritableUse}
 use Rattle.presentation_text.proofs.LineTexts.{no_feed-decimal, no_feed-word}
 use Rattle.presentation_text.proofs.PrintedFeeds.{no_feed-tree}
 use Rattle.certificate_text.proofs.TokensRead.{minus}
+use Rattle.presentation_text.proofs.PrintedGenerators.{tokens-number}
 
 -- ---- coefficients
 
@@ -51,9 +52,6 @@ magnitude_small p c small = by_sign (is_negative p c) where
   by_sign : (b : Bool) → (if b then p - c else c) ≤ p
   by_sign true = omega arith
   by_sign false = omega arith
-
-tokens-number : (n : ℕ) → n < 10 ^ 18 → tokens (decimal n) ≡ Number n ∷ []
-tokens-number n small = ap tokens (sym (append-nil (decimal n))) ∙ tokens-decimal n [] small tt
 
 prime_small : (p : ℕ) → IsFieldPrime p → p < 100000
 prime_small p (inl e) = omega arith

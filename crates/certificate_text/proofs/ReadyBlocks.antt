@@ -20,8 +20,9 @@ use Rattle.certificate_text.specs.declared.block.Block.{Block}
 use Rattle.certificate_text.specs.declared.cert_fail.ReadCertFail.{ReadCertFail}
 use Rattle.certificate_text.proofs.BlocksRead.{blocks_accepted}
 use Rattle.certificate_text.proofs.SaidSums.{block_ready, of_image}
-use Rattle.certificate_text.proofs.TailLines.{few_lines, slice_is}
+use Rattle.certificate_text.proofs.TailLines.{slice_is}
 use Rattle.certificate_text.proofs.WritableBlocks.{blocks_few, blocks_writable}
+use Rattle.presentation_text.proofs.TextEnds.{few_lines}
 
 passed_few : {X : Type 0} (p : X → Bool) (xs : List X) → length (filter p xs) ≤ length xs
 passed_few p [] = omega arith

@@ -1,22 +1,11 @@
 -- The lines of a tail are few.
-use Rattle.std.proofs.Common.{◌≡◌, ◌<◌, ◌≤◌, ◌+◌, ◌-◌, ◌==◌, ℕ, suc, Bool, true, false, if◌then◌else◌, List, [], ◌∷◌, length, drop, take, Option, None, Some, arith, ap, subst, length-append, length-drop, ◌∙◌}
+use Rattle.std.proofs.Common.{◌≡◌, ◌<◌, ◌≤◌, ◌+◌, ◌-◌, ℕ, List, length, drop, take, Option, None, Some, arith, ap, subst, length-append, length-drop, ◌∙◌}
 use Rattle.std.proofs.lemmas.List.{take_all}
-use Rattle.presentation_text.specs.Lines.{in_front, lines}
+use Rattle.presentation_text.specs.Lines.{lines}
 use Rattle.presentation_text.specs.Presentations.{IsReadAs, IsTail, IsTailAt}
 use Rattle.presentation_text.specs.declared.document.Document.{Document}
 use Rattle.presentation_text.specs.declared.document.Tail.{Tail}
-
-front_few : (c n : ℕ) (ls : List (List ℕ)) → length ls ≤ n → length (in_front c ls) ≤ suc n
-front_few c n [] h = omega arith
-front_few c n (l ∷ ls) h = omega (arith, h)
-
-lines_few : (b : Bool) (c : ℕ) (cs : List ℕ) → length (lines cs) ≤ length cs → length (if b then [] ∷ lines cs else in_front c (lines cs)) ≤ suc (length cs)
-lines_few true c cs h = omega (arith, h)
-lines_few false c cs h = front_few c (length cs) (lines cs) h
-
-pub few_lines : (text : List ℕ) → length (lines text) ≤ length text
-few_lines [] = omega arith
-few_lines (c ∷ cs) = lines_few (c == 10) c cs (few_lines cs)
+use Rattle.presentation_text.proofs.TextEnds.{few_lines}
 
 -- a text from some place on, as a slice is seen
 pub slice_is : (bytes : List ℕ) (from : ℕ) → take (length bytes - from) (drop from bytes) ≡ drop from bytes

@@ -1,32 +1,18 @@
 -- What single tokens are, where they were read.
-use Rattle.std.proofs.Common.{◌≡◌, ℕ, suc, Bool, true, false, if◌then◌else◌, List, [], ◌∷◌, ◌++◌, codes, length, Some, None, Ok, ap, arith, refl, subst, ◌∙◌}
-use Rattle.std.proofs.lemmas.Bool.Decides.{nat_tests}
+use Rattle.std.proofs.Common.{◌≡◌, ℕ, suc, Bool, true, false, if◌then◌else◌, List, [], ◌∷◌, ◌++◌, codes, length, Some, None, Ok, ap, refl, subst, ◌∙◌}
 use Rattle.symmetric_sums.specs.declared.instance.Rule.{Rule}
 use Rattle.presentation_text.specs.ElementForms.{behind_one}
 use Rattle.presentation_text.specs.TreeForms.{begins_with}
 use Rattle.presentation_text.specs.LineForms.{is, known}
-use Rattle.presentation_text.specs.Readings.{is_mark, mark_in, misfit, number_in, word_in}
+use Rattle.presentation_text.specs.Readings.{is_mark, number_in, word_in}
 use Rattle.presentation_text.specs.declared.kinds.DocKind.TheVariants.{Syntax}
 use Rattle.presentation_text.specs.declared.lexing.Token.{Token}
-use Rattle.presentation_text.specs.declared.lexing.Token.TheVariants.{Word, Number, Long, Byte, Bad}
+use Rattle.presentation_text.specs.declared.lexing.Token.TheVariants.{Word, Number, Byte}
 use Rattle.certificate_text.specs.BlockForms.{cited_in, cites_step, coefficient_in}
 use Rattle.certificate_text.specs.UseText.{cited_rule}
 use Rattle.presentation_text.proofs.LineFormsRead.{both_read, number_read, was_known, word_read}
 use Rattle.presentation_text.proofs.ToldLines.{is_word}
-
-marked : (c : ℕ) (token : Token) → is_mark c token ≡ true → token ≡ Byte c
-marked c (Byte d) e = let same : d ≡ c = grind (arith, nat_tests) in ap Byte same
-marked c (Word w) e = absurd cc
-marked c (Number n) e = absurd cc
-marked c Long e = absurd cc
-marked c Bad e = absurd cc
-
-pub mark_read : (c : ℕ) (ts rest : List Token) → mark_in c ts ≡ Ok rest → ts ≡ Byte c ∷ rest
-mark_read c [] rest e = absurd cc
-mark_read c (token ∷ others) rest e = by_test (is_mark c token) (λ m. marked c token m) e where
-  by_test : (b : Bool) → (b ≡ true → token ≡ Byte c) → (if b then Ok others else misfit (token ∷ others)) ≡ Ok rest → token ∷ others ≡ Byte c ∷ rest
-  by_test true m f = let same : others ≡ rest = cc in let first : token ≡ Byte c = m refl in cc
-  by_test false m f = absurd cc
+use Rattle.presentation_text.proofs.TreesAcceptedTrees.{marked}
 
 -- ---- a coefficient
 

@@ -6,9 +6,9 @@ use Rattle.labelled_trees.specs.Trees.{Tree}
 use Rattle.symmetric_trees.specs.Generators.{IsTable}
 use Rattle.symmetric_trees.specs.declared.generators.Generator.{Generator}
 use Rattle.symmetric_sums.specs.declared.instance.Rule.{Rule}
-use Rattle.presentation_text.specs.Accepted.{ElementsAreAccepted, EndsBefore, IsDemanded, TreesAreAccepted}
+use Rattle.presentation_text.specs.Accepted.{ElementsAreAccepted, IsDemanded, TreesAreAccepted}
 use Rattle.presentation_text.specs.ElementForms.{element_in}
-use Rattle.presentation_text.specs.Elements.{Written, element_tokens, said}
+use Rattle.presentation_text.specs.Elements.{element_tokens, said}
 use Rattle.presentation_text.specs.Readings.{end_in, mark_in}
 use Rattle.presentation_text.specs.TreeForms.{any_arity, demands_of}
 use Rattle.presentation_text.specs.TreeText.{tree_tokens}
@@ -20,15 +20,12 @@ use Rattle.certificate_text.specs.Plain.{PlainUse}
 use Rattle.certificate_text.specs.UseText.{IsUse, behind_tokens, inputs_tokens, signed_residue}
 use Rattle.presentation_text.proofs.AcceptedParts.{end_read}
 use Rattle.presentation_text.proofs.LineFormsRead.{both_read, one_value}
-use Rattle.certificate_text.proofs.TokensRead.{cited_read, cited_there, coefficient_read, coefficient_there, mark_read, minus}
+use Rattle.certificate_text.proofs.TokensRead.{cited_read, cited_there, coefficient_read, coefficient_there, minus}
 use Rattle.certificate_text.proofs.UseReading.{no_input}
+use Rattle.presentation_text.proofs.TreesAcceptedTrees.{mark_in-front}
+use Rattle.presentation_text.proofs.AcceptedLines.{ends_whole}
 
 -- ---- sums
-
--- nothing goes on at the end of a line
-pub ends_at_end : (terms : List Written) → EndsBefore terms []
-ends_at_end [] = tt
-ends_at_end (term ∷ terms) = (tt, tt, λ bare. tt)
 
 module _ (elements : ElementsAreAccepted) (generators : List Generator) (table : IsTable generators) (p : ℕ) (ts : List Token) (sum : List (ℕ × Tree ℕ)) where
   pub sum_told : sum_in p generators ts ≡ Ok sum → IsSum p generators ts sum
@@ -52,7 +49,7 @@ module _ (elements : ElementsAreAccepted) (generators : List Generator) (table :
   unfolding sum_in
   sum_read h =
       let there : element_in generators (demands_of 1 None) ts ≡ Ok (h.terms, []) =
-      (elements generators table 1 None ts [] h.terms).1 (h.spelled ∙ sym (append-nil (element_tokens generators h.terms)), h.trees, ends_at_end h.terms) in
+      (elements generators table 1 None ts [] h.terms).1 (h.spelled ∙ sym (append-nil (element_tokens generators h.terms)), h.trees, ends_whole h.terms) in
       rw there (ap Ok (sym h.sum_is))
 
 -- ---- inputs
@@ -75,7 +72,7 @@ module _ (trees : TreesAreAccepted) (generators : List Generator) (table : IsTab
       let further = inputs_told most behind others.0 others.1 in
       let all : t ∷ others.0 ≡ inputs = cc (others.2) in
       subst (λ xs. (token ∷ rest ≡ inputs_tokens generators xs) × All (IsInput generators) xs) all (
-        mark_read 59 (token ∷ rest) mark.0 mark.1 ∙ ap (λ r. Byte 59 ∷ r) (accepted.0 ∙ ap (λ r. tree_tokens generators t ++ r) further.0),
+        mark_in-front 59 (token ∷ rest) mark.0 mark.1 ∙ ap (λ r. Byte 59 ∷ r) (accepted.0 ∙ ap (λ r. tree_tokens generators t ++ r) further.0),
         All-cons (IsInput generators) t others.0 accepted.1 further.1,
       )
 
@@ -102,9 +99,9 @@ module _ (trees : TreesAreAccepted) (generators : List Generator) (table : IsTab
       let by = cited_read third cited e5 in
       let all = inputs_told (length cited.1) cited.1 inputs e6 in
       let behind : context.1 ≡ behind_tokens generators by.step by.number inputs =
-      mark_read 59 context.1 third e4 ∙ ap (λ r. Byte 59 ∷ r) (by.spelled ∙ ap (λ r. Word (if by.step then codes "step" else codes "rel") ∷ (Number by.number ∷ r)) all.0) in
+      mark_in-front 59 context.1 third e4 ∙ ap (λ r. Byte 59 ∷ r) (by.spelled ∙ ap (λ r. Word (if by.step then codes "step" else codes "rel") ∷ (Number by.number ∷ r)) all.0) in
       let rest : coef.1 ≡ Byte 59 ∷ (tree_tokens generators context.0 ++ behind_tokens generators by.step by.number inputs) =
-      mark_read 59 coef.1 begin e2 ∙ ap (λ r. Byte 59 ∷ r) (accepted.0 ∙ ap (λ r. tree_tokens generators context.0 ++ r) behind) in
+      mark_in-front 59 coef.1 begin e2 ∙ ap (λ r. Byte 59 ∷ r) (accepted.0 ∙ ap (λ r. tree_tokens generators context.0 ++ r) behind) in
       record {
         written = record { negative = (coef.0).0; number = (coef.0).1; context = context.0; cites_step = by.step; cited = by.number; inputs = inputs };
         spelled = coefficient_read ts coef e1 ∙ ap (λ r. minus (coef.0).0 ++ (Number (coef.0).1 ∷ r)) rest;

@@ -1,5 +1,5 @@
 -- Documents are read exactly where the grammar has them.
-use Rattle.std.proofs.Common.{◌≡◌, ◌==◌, ◌&&◌, ◌||◌, ◌⊎◌, inl, inr, ℕ, suc, Bool, true, false, cond, codes, List, [], ◌∷◌, ◌++◌, Option, Some, None, Result, Ok, Err, sym, ap, ◌∙◌, refl, subst}
+use Rattle.std.proofs.Common.{◌≡◌, ◌==◌, ◌&&◌, ◌||◌, ◌⊎◌, inl, inr, ℕ, suc, Bool, true, false, cond, codes, List, [], ◌∷◌, ◌++◌, Option, Some, None, Result, Ok, sym, ap, ◌∙◌, refl, subst}
 use Rattle.std.specs.Option.{is_some}
 use Rattle.std.proofs.lemmas.Bool.Decides.{Decides-eqb}
 use Rattle.std.proofs.lemmas.Slice.Eq.{bytes_eq-Decides}
@@ -12,9 +12,10 @@ use Rattle.presentation_text.specs.Lines.{counts, lines}
 use Rattle.presentation_text.specs.Tokens.{tokens}
 use Rattle.presentation_text.specs.declared.lexing.Token.{Token}
 use Rattle.presentation_text.specs.declared.lexing.Token.TheVariants.{Word, Number, Long, Byte, Bad}
-use Rattle.presentation_text.proofs.AcceptedWords.{BeginsTail, adds_read, adds_table, chosen, counted_adds, counted_tail, tail_read}
+use Rattle.presentation_text.proofs.AcceptedWords.{BeginsTail, adds_read, adds_table, counted_adds, counted_tail, tail_read}
 use Rattle.presentation_text.proofs.LineFormsNumbers.{both_true}
 use Rattle.presentation_text.proofs.LineFormsTables.{table-empty}
+use Rattle.presentation_text.proofs.ToldLines.{choose, read_behind}
 
 -- lines with their numbers
 abbrev Numbered : Type 0
@@ -44,15 +45,11 @@ as_read P x y e h = let same : x ≡ y = cc in subst P same h
 
 end_told : (told : Told) (number : ℕ) (whole : Whole) → at_end told number ≡ Ok whole → AreLines told [] whole
 end_told told number whole e =
-    chosen (is_some told.field && is_some told.order) _ _ whole e
+    choose (is_some told.field && is_some told.order) _ _ whole e
     (λ t f.
     let both = both_true (is_some told.field) (is_some told.order) t in
     as_read (AreLines told []) (record { told = told; tail = None }) whole f (record { presentation = []; behind = []; lines_are = refl; say = no_line told; ends = (both.0, both.1, refl) }))
     (λ t f. absurd cc)
-
-on_read : (on : Behind → Result Whole LineFault) (reading : Result Behind LineFault) (whole : Whole) → unless_refused on reading ≡ Ok whole → (behind : Behind) × (reading ≡ Ok behind) × (on behind ≡ Ok whole)
-on_read on (Ok behind) whole e = (behind, refl, e)
-on_read on (Err fault) whole e = absurd cc
 
 one_told : (told now : Told) (number : ℕ) (ts : List Token) (ls : Numbered) (whole : Whole) → MayStand told ts × Adds told number ts now → AreLines now ls whole → AreLines told ((number, ts) ∷ ls) whole
 one_told told now number ts ls whole one h = record {
@@ -79,8 +76,8 @@ lines_told : ElementsAreAccepted → (ls : List (List ℕ)) (told : Told) (numbe
 unfolding lines_from
 lines_told accepted [] told number whole table e = end_told told number whole e
 lines_told accepted (line ∷ others) told number whole table e =
-    chosen (counts line) _ _ whole e (λ t f.
-    let behind = on_read (on_from number (λ now. lines_from now (suc number) others) told) (counted_line told number (tokens line)) whole f in
+    choose (counts line) _ _ whole e (λ t f.
+    let behind = read_behind (on_from number (λ now. lines_from now (suc number) others) told) (counted_line told number (tokens line)) whole f in
     subst (λ xs. AreLines told xs whole) (sym (numbered-counted number line others t))
     (behind_told told number (tokens line) (numbered_tokens (suc number) others) whole (λ now. lines_from now (suc number) others) behind.0
     (λ s. counted_tail told number (tokens line) (behind.1 ∙ ap Ok s))
@@ -189,7 +186,7 @@ document_told : ElementsAreAccepted → (ls : List (List ℕ)) (number : ℕ) (w
 unfolding document_from
 document_told accepted [] number whole e = absurd cc
 document_told accepted (line ∷ others) number whole e =
-    chosen (counts line) _ _ whole e (λ t f.
+    choose (counts line) _ _ whole e (λ t f.
     let version = version_read number (λ v. lines_from (told_by_header v) (suc number) others) (version_of (tokens line)) whole f in
     let header = header_told (tokens line) version.0 version.1 in
     let h = lines_told accepted others (told_by_header version.0) (suc number) whole table-empty version.2 in

@@ -99,7 +99,7 @@ weight_accepted told name g weight named free small = rw (named, free, not_below
 -- ---- relations and questions
 
 -- behind an element the line may end, and '=' may stand
-ends_whole : (terms : List Written) → EndsBefore terms []
+pub ends_whole : (terms : List Written) → EndsBefore terms []
 ends_whole [] = tt
 ends_whole (term ∷ terms) = (tt, tt, λ bare. tt)
 

@@ -15,11 +15,7 @@ use Rattle.presentation_text.specs.declared.lexing.Token.TheVariants.{Word, Numb
 use Rattle.presentation_text.proofs.AcceptedLines.{field_adds, field_accepted, order_adds, order_accepted, gen_adds, gen_accepted, weight_adds, weight_accepted, rel_adds, rel_accepted, query_adds, query_accepted, same_adds, same_accepted}
 use Rattle.presentation_text.proofs.AcceptedParts.{generator_accepted}
 use Rattle.presentation_text.proofs.LineFormsGenerators.{generator_welcome}
-use Rattle.presentation_text.proofs.ToldLines.{free_word, no_tail, went_on}
-
-pub chosen : {A E P : Type 0} (b : Bool) (one other : Result A E) (x : A) → cond b one other ≡ Ok x → (b ≡ true → one ≡ Ok x → P) → (b ≡ false → other ≡ Ok x → P) → P
-chosen true one other x e f g = f refl e
-chosen false one other x e f g = g refl e
+use Rattle.presentation_text.proofs.ToldLines.{free_word, no_tail, went_on, choose}
 
 -- ---- which word a line begins with
 
@@ -63,12 +59,12 @@ line_adds : ElementsAreAccepted → (told now : Told) (number : ℕ) (w : List �
     → rest_of_line told number w ts ≡ Ok now → Adds told number (Word w ∷ ts) now
 line_adds accepted told now number w ts table free section read =
     let outside = is_outside told w free in
-    chosen (is w (codes "field")) _ _ now read (λ t f. word_as told now number w (codes "field") ts t (field_adds told now number ts f)) (λ a r.
-    chosen (is w (codes "order")) _ _ now r (λ t f. word_as told now number w (codes "order") ts t (order_adds told now number ts f)) (λ b r.
-    chosen (is w (codes "gen")) _ _ now r (λ t f. word_as told now number w (codes "gen") ts t (gen_adds told now number ts f)) (λ c r.
-    chosen (is w (codes "weight")) _ _ now r (λ t f. word_as told now number w (codes "weight") ts t (weight_adds told now number ts f)) (λ d r.
-    chosen (is w (codes "rel")) _ _ now r (λ t f. word_as told now number w (codes "rel") ts t (rel_adds accepted told table now number ts f)) (λ e r.
-    chosen (is w (codes "query")) _ _ now r (λ t f. word_as told now number w (codes "query") ts t (query_adds accepted told table now number ts f)) (λ f r.
+    choose (is w (codes "field")) _ _ now read (λ t f. word_as told now number w (codes "field") ts t (field_adds told now number ts f)) (λ a r.
+    choose (is w (codes "order")) _ _ now r (λ t f. word_as told now number w (codes "order") ts t (order_adds told now number ts f)) (λ b r.
+    choose (is w (codes "gen")) _ _ now r (λ t f. word_as told now number w (codes "gen") ts t (gen_adds told now number ts f)) (λ c r.
+    choose (is w (codes "weight")) _ _ now r (λ t f. word_as told now number w (codes "weight") ts t (weight_adds told now number ts f)) (λ d r.
+    choose (is w (codes "rel")) _ _ now r (λ t f. word_as told now number w (codes "rel") ts t (rel_adds accepted told table now number ts f)) (λ e r.
+    choose (is w (codes "query")) _ _ now r (λ t f. word_as told now number w (codes "query") ts t (query_adds accepted told table now number ts f)) (λ f r.
     let t = last_word (is w (codes "field")) (is w (codes "order")) (is w (codes "gen")) (told.version == 2 && is w (codes "weight")) (is w (codes "rel")) (is w (codes "query")) (is w (codes "same"))
     (is w (codes "want") || is w (codes "cert")) (is_inside_tail w) a b c (and_false (told.version == 2) (is w (codes "weight")) d) e f outside.1 section outside.0 in
     word_as told now number w (codes "same") ts t (same_adds accepted told table now number ts r)))))))
@@ -79,7 +75,7 @@ unfolding word_line
 counted_adds accepted told now number [] table e = absurd cc
 counted_adds accepted told now number (Word w ∷ rest) table e =
     let free = free_word number (word_fault told w) _ (goes_on now) e in
-    chosen (section_of told.version w == 7) _ _ (goes_on now) free.1 (λ t f. absurd cc)
+    choose (section_of told.version w == 7) _ _ (goes_on now) free.1 (λ t f. absurd cc)
     (λ t f. ((w, rest, refl, free.0), line_adds accepted told now number w rest table free.0 t (went_on number (rest_of_line told number w rest) now f)))
 counted_adds accepted told now number (Number n ∷ rest) table e = absurd cc
 counted_adds accepted told now number (Long ∷ rest) table e = absurd cc
@@ -95,7 +91,7 @@ unfolding word_line
 counted_tail told number [] e = absurd cc
 counted_tail told number (Word w ∷ rest) e =
     let free = free_word number (word_fault told w) _ tail_begins e in
-    chosen (section_of told.version w == 7) _ _ tail_begins free.1 (λ t f. (w, rest, refl, free.0, (Decides-eqb (section_of told.version w) 7).0 t))
+    choose (section_of told.version w == 7) _ _ tail_begins free.1 (λ t f. (w, rest, refl, free.0, (Decides-eqb (section_of told.version w) 7).0 t))
     (λ t f. absurd (no_tail number (rest_of_line told number w rest) f))
 counted_tail told number (Number n ∷ rest) e = absurd cc
 counted_tail told number (Long ∷ rest) e = absurd cc

@@ -97,7 +97,7 @@ one_tail bytes (Some number) (Some tail) (Some other) h g = ap Some (one_start b
 
 -- ---- one document
 
-same_value : {X : Type 0} (found : Option X) (x y : X) → found ≡ Some x → found ≡ Some y → x ≡ y
+pub same_value : {X : Type 0} (found : Option X) (x y : X) → found ≡ Some x → found ≡ Some y → x ≡ y
 same_value found x y e f = cc
 
 one_whole : {A : Type 0} (reading : Result A LineFault) (x y : A) → reading ≡ Ok x → reading ≡ Ok y → x ≡ y

@@ -24,7 +24,7 @@ use Rattle.presentation_text.proofs.TreesAccepted.{NoneOfThree, none_held, unlik
 
 -- ---- places and faults
 
-behind_suc : (tokens : List Token) (at : ℕ) → behind_one (drop at tokens) ≡ drop (suc at) tokens
+pub behind_suc : (tokens : List Token) (at : ℕ) → behind_one (drop at tokens) ≡ drop (suc at) tokens
 behind_suc [] zero = refl
 behind_suc [] (suc at) = refl
 behind_suc (token ∷ tokens) zero = refl

@@ -14,7 +14,7 @@ use Rattle.presentation_text.specs.TreeText.{tree_tokens}
 use Rattle.presentation_text.specs.Elements.{coefficient_tokens, mark}
 use Rattle.presentation_text.specs.ElementForms.{behind_one, is_zero, is_nothing, coefficient_of, coefficient, behind_coefficient, sign_of, sign}
 use Rattle.presentation_text.specs.Accepted.{NotMarked, is_bare_leaf}
-use Rattle.presentation_text.proofs.TreeFormsLeaves.{both}
+use Rattle.presentation_text.proofs.LineFormsNumbers.{both_true}
 
 -- ---- single bytes
 
@@ -159,7 +159,7 @@ not-true true e = absurd cc
 pub nothing-spelled : (ts : List Token) → is_nothing ts ≡ true → (ts ≡ Number 0 ∷ behind_one ts) × NotMarked 42 (behind_one ts)
 nothing-spelled [] e = absurd cc
 nothing-spelled (token ∷ ts) e =
-    let tests = both (is_zero token) (not (begins_with 42 ts)) e in
+    let tests = both_true (is_zero token) (not (begins_with 42 ts)) e in
     (ap (λ x. x ∷ ts) (zero-spelled token tests.0), not-marked 42 ts (not-true (begins_with 42 ts) tests.1))
 
 pub nothing-there : (rest : List Token) → NotMarked 42 rest → is_nothing (Number 0 ∷ rest) ≡ true

@@ -52,14 +52,11 @@ no_feed-passing p (x ∷ xs) e h = (
   no_feed-passing p xs e (grind arith),
 )
 
-digits_model : IsNumeralModel (λ ds. list_all is_digit ds ≡ true) (value_behind 0)
+pub digits_model : IsNumeralModel (λ ds. list_all is_digit ds ≡ true) (value_behind 0)
 digits_model = numerals_by_fold _ (search rules) value_behind (search rules)
 
 pub no_feed-decimal : (n : ℕ) → n < 2 ^ 64 → HasNoFeed (decimal n)
 no_feed-decimal n small = no_feed-passing is_digit (decimal n) refl (digits_decimal digits_model n small)
-
-letter_in_word : (c : ℕ) → is_letter c ≡ true → is_word_byte c ≡ true
-letter_in_word c h = grind (arith, nat_tests)
 
 pub no_feed-word : (name : List ℕ) → IsWord name → HasNoFeed name
 no_feed-word [] h = tt

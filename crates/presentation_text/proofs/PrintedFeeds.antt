@@ -65,7 +65,7 @@ no_feed-sign p c = (other 32 (omega arith), (go (is_negative p c), (other 32 (om
   go false = other 43 (omega arith)
 
 -- a term that is printed
-abbrev MayPrint : ℕ → List Generator → ℕ × Tree ℕ → Type 0
+abbrev pub MayPrint : ℕ → List Generator → ℕ × Tree ℕ → Type 0
 MayPrint p generators x = (0 < x.0) × (x.0 < p) × Fits generators x.1 × AllLeaves x.1 (λ n. (0 < n) × (n < 10 ^ 18))
 
 module _ (p : ℕ) (generators : List Generator) (words : HasWords generators) (small : p < 2 ^ 64) where

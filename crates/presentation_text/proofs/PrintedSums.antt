@@ -11,7 +11,6 @@ use Rattle.labelled_trees.proofs.Leaves.{AllLeaves-imp}
 use Rattle.prime_field.specs.Primes.{IsFieldPrime}
 use Rattle.symmetric_trees.specs.declared.generators.Generator.{Generator}
 use Rattle.symmetric_trees.specs.Generators.{IsTable}
-use Rattle.symmetric_trees.specs.Trees.{Fits}
 use Rattle.presentation_text.specs.declared.lexing.Token.TheVariants.{Number, Byte}
 use Rattle.presentation_text.specs.Tokens.{is_word_byte, StartsOtherwise, tokens}
 use Rattle.presentation_text.specs.TreeText.{HasWords, tree_tokens, tree_text}
@@ -21,6 +20,7 @@ use Rattle.presentation_text.specs.Laws.{PrintedSumsAreReadBack}
 use Rattle.presentation_text.proofs.TokenLaws.{tokens-single, tokens-blank}
 use Rattle.presentation_text.proofs.PrintedTokens.{tokens-decimal, tokens-tree_text}
 use Rattle.presentation_text.proofs.TermsOnce.{IsPositive, ArePositive, terms-once}
+use Rattle.presentation_text.proofs.PrintedFeeds.{MayPrint}
 
 -- ---- printed terms, as written ones
 
@@ -32,10 +32,6 @@ written_of p x = record { negative = is_negative p x.0; coefficient = coefficien
 
 abbrev all_written : ℕ → List (ℕ × Tree ℕ) → List Written
 all_written p = map (written_of p)
-
--- what may be printed
-abbrev MayPrint : ℕ → List Generator → ℕ × Tree ℕ → Type 0
-MayPrint p generators x = (0 < x.0) × (x.0 < p) × Fits generators x.1 × AllLeaves x.1 (λ n. (0 < n) × (n < 10 ^ 18))
 
 pub small_prime : (p : ℕ) → IsFieldPrime p → p < 10 ^ 18
 small_prime p (inl e) = omega arith

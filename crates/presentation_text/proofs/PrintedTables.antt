@@ -55,7 +55,7 @@ last_index done rest generator apart =
     let front : Apart whole = apart-front whole rest (subst Apart (sym (append_assoc done (generator ∷ []) rest)) apart) in
     first_named whole generator.name (length done) front (omega (arith, len)) (λ d. ap (λ g. g.name) (get_or-append_seam done generator [] d))
 
-regroup : (a b c rest : List ℕ) → (a ++ (b ++ c)) ++ rest ≡ a ++ (b ++ (c ++ rest))
+pub regroup : (a b c rest : List ℕ) → (a ++ (b ++ c)) ++ rest ≡ a ++ (b ++ (c ++ rest))
 regroup a b c rest = append_assoc a (b ++ c) rest ∙ ap (λ xs. a ++ xs) (append_assoc b c rest)
 
 one_behind : (ws : List (Option ℕ)) (w : Option ℕ) (weight : ℕ) (weights : List ℕ) → weight_or_none w ≡ weight

@@ -1,9 +1,8 @@
 -- The tokens of printed numbers and of printed trees: what is printed is read back.
-use Rattle.std.proofs.Common.{◌≡◌, ℕ, ◌^◌, ◌<◌, ◌≤◌, true, false, List, [], ◌∷◌, ◌++◌, length, refl, ap, sym, ◌∙◌, arith, append_assoc, append-nil, rules, nat_le}
+use Rattle.std.proofs.Common.{◌≡◌, ℕ, ◌^◌, ◌<◌, ◌≤◌, true, false, List, [], ◌∷◌, ◌++◌, length, refl, ap, sym, ◌∙◌, arith, append_assoc, append-nil, nat_le}
 use Rattle.std.specs.List.{list_all, flat_map}
 use Rattle.std.specs.Fmt.{decimal}
 use Rattle.std.proofs.lemmas.Bool.Decides.{nat_tests}
-use Rattle.std.proofs.lemmas.Str.Parse.{IsNumeralModel, numerals_by_fold}
 use Rattle.std.proofs.lemmas.Fmt.{digits_decimal, digits_value-decimal, length-decimal-le, decimal_nonempty}
 use Rattle.std.proofs.lemmas.Grind.{flat_map-append}
 use Rattle.labelled_trees.specs.Trees.{Tree, Row, leaf, node, none, more}
@@ -18,6 +17,7 @@ use Rattle.presentation_text.specs.TreeText.{name_of, tree_tokens, row_tokens, m
 use Rattle.presentation_text.specs.Laws.{PrintedTreesAreReadBack}
 use Rattle.presentation_text.proofs.TokenLaws.{and_left, and_right, tokens-word, tokens-number, tokens-single}
 use Rattle.presentation_text.proofs.TreeTokens.{arity_in, in_table}
+use Rattle.presentation_text.proofs.LineTexts.{digits_model}
 
 -- ---- numbers
 
@@ -27,9 +27,6 @@ digit_tested c h = grind (arith, nat_tests)
 no_digit : (rest : List ℕ) → StartsOtherwise is_word_byte rest → StartsOtherwise is_digit rest
 no_digit [] h = tt
 no_digit (c ∷ cs) h = digit_tested c h
-
-digits_model : IsNumeralModel (λ ds. list_all is_digit ds ≡ true) (value_behind 0)
-digits_model = numerals_by_fold _ (search rules) value_behind (search rules)
 
 tokens-digits : (ds rest : List ℕ) → 0 < length ds → length ds ≤ 18 → list_all is_digit ds ≡ true → StartsOtherwise is_digit rest → tokens (ds ++ rest) ≡ Number (value_behind 0 ds) ∷ tokens rest
 tokens-digits [] rest some short all ends = absurd (omega arith)

@@ -1,10 +1,9 @@
 -- The text of a writable document is read back to the same.
-use Rattle.std.proofs.Common.{◌≡◌, ◌≢◌, ℕ, ◌^◌, ◌<◌, ◌⊎◌, inl, inr, ⊎_elim, true, List, [], ◌∷◌, ◌++◌, map, codes, Some, None, refl, ap, sym, ◌∙◌, subst, arith, append-nil, append_assoc}
+use Rattle.std.proofs.Common.{◌≡◌, ◌≢◌, ℕ, ◌^◌, ◌<◌, ◌⊎◌, inl, inr, ⊎_elim, List, [], ◌∷◌, ◌++◌, map, codes, Some, None, refl, ap, sym, ◌∙◌, subst, arith, append-nil}
 use Rattle.std.specs.List.{All, flat_map}
 use Rattle.std.specs.Bool.{IsTrue}
 use Rattle.std.specs.Option.{is_some}
 use Rattle.std.specs.Fmt.{decimal}
-use Rattle.prime_field.specs.Primes.{IsFieldPrime}
 use Rattle.symmetric_sums.specs.Terms.{terms_of}
 use Rattle.presentation_text.specs.declared.document.Document.{Document}
 use Rattle.presentation_text.specs.declared.document.OrderName.{OrderName}
@@ -12,7 +11,7 @@ use Rattle.presentation_text.specs.declared.document.OrderName.TheVariants.{Path
 use Rattle.presentation_text.specs.declared.lexing.Token.TheVariants.{Word, Number}
 use Rattle.presentation_text.specs.DocumentText.{line_of, order_word, generators_text, relation_text, ask_text, document_text}
 use Rattle.presentation_text.specs.Grammar.{numbered_tokens, a_field, an_order, DocumentsAreAccepted}
-use Rattle.presentation_text.specs.LineForms.{Told, told_by_header, is_prime, order_named}
+use Rattle.presentation_text.specs.LineForms.{Told, told_by_header, order_named}
 use Rattle.presentation_text.specs.Lines.{HasNoFeed, lines}
 use Rattle.presentation_text.specs.ReadBack.{IsWritable, SayAgain, IsReadBack}
 use Rattle.presentation_text.specs.Tokens.{IsWord, tokens}
@@ -20,20 +19,12 @@ use Rattle.presentation_text.proofs.LineTexts.{no_feed-word, no_feed-decimal}
 use Rattle.presentation_text.proofs.PrintedDocuments.{field_small, reach-relations, reach-asks}
 use Rattle.presentation_text.proofs.PrintedGenerators.{MayPrint, tokens-number}
 use Rattle.presentation_text.proofs.PrintedStages.{Reach, numbered-first, reach-line, stage, with_field, IsVersion, stands-field, stands-order}
-use Rattle.presentation_text.proofs.PrintedTables.{MayWeigh, reach-generators}
+use Rattle.presentation_text.proofs.PrintedTables.{MayWeigh, reach-generators, regroup}
 use Rattle.presentation_text.proofs.TreeTokens.{name_of-is}
 use Rattle.presentation_text.proofs.PrintedSums.{small_prime}
+use Rattle.presentation_text.proofs.LineFormsField.{prime_is}
 
 -- ---- the opening
-
-prime_is_known : (p : ℕ) → IsFieldPrime p → is_prime p ≡ true
-prime_is_known p (inl e) = ap is_prime e
-prime_is_known p (inr (inl e)) = ap is_prime e
-prime_is_known p (inr (inr (inl e))) = ap is_prime e
-prime_is_known p (inr (inr (inr (inl e)))) = ap is_prime e
-prime_is_known p (inr (inr (inr (inr (inl e))))) = ap is_prime e
-prime_is_known p (inr (inr (inr (inr (inr (inl e)))))) = ap is_prime e
-prime_is_known p (inr (inr (inr (inr (inr (inr e)))))) = absurd e
 
 order_is_named : (version : ℕ) (order : OrderName) → (version ≡ 2) ⊎ (order ≢ WeightPath) → order_named version (order_word order) ≡ Some order
 order_is_named version Path h = refl
@@ -52,9 +43,6 @@ no_feed-order Path = no_feed-word (order_word Path) (refl, refl)
 no_feed-order PathShort = no_feed-word (order_word PathShort) (refl, refl)
 no_feed-order LeafPath = no_feed-word (order_word LeafPath) (refl, refl)
 no_feed-order WeightPath = no_feed-word (order_word WeightPath) (refl, refl)
-
-regroup : (a b c rest : List ℕ) → (a ++ (b ++ c)) ++ rest ≡ a ++ (b ++ (c ++ rest))
-regroup a b c rest = append_assoc a (b ++ c) rest ∙ ap (λ xs. a ++ xs) (append_assoc b c rest)
 
 module _ (document : Document) (formed : IsWritable document) where
   abbrev version : ℕ
@@ -109,7 +97,7 @@ module _ (document : Document) (formed : IsWritable document) where
       let known : (version ≡ 2) ⊎ (order ≢ WeightPath) = ⊎_elim (λ two. inl two) (λ one. inr one.1.no_weight_order) formed.version in
       reach-line P (told_by_header version) (with_field version p) 2 (codes "field") (decimal p ∷ []) _ (Word (codes "field") ∷ (Number p ∷ [])) (refl, refl) (no_feed-word (codes "field") (refl, refl))
       (no_feed-decimal p (field_small p formed.field), tt) (ap (λ ts. Word (codes "field") ∷ (ts ++ [])) (tokens-number p small)) (stands-field version is_version (Number p ∷ []))
-      (a_field p (prime_is_known p formed.field))
+      (a_field p (prime_is p formed.field))
       (reach-line P (with_field version p) (stage version p order [] [] [] [] 3) 3 (codes "order") (order_word order ∷ []) _ (Word (codes "order") ∷ (Word (order_word order) ∷ [])) (refl, refl)
       (no_feed-word (codes "order") (refl, refl)) (no_feed-order order, tt) (ap (λ ts. Word (codes "order") ∷ (ts ++ [])) (tokens-order order)) (stands-order version p is_version (Word (order_word order) ∷ []))
       (an_order (order_word order) order (order_is_named version order known)) (reach-body 4))

@@ -47,11 +47,11 @@ some_lines false c cs e = some_front c (lines cs) e
 pub lines_of_some : (c : ℕ) (cs : List ℕ) → lines (c ∷ cs) ≡ [] → ⊥
 lines_of_some c cs e = some_lines (c == 10) c cs e
 
-front_few : (c n : ℕ) (ls : List (List ℕ)) → length ls ≤ n → length (in_front c ls) ≤ suc n
+pub front_few : (c n : ℕ) (ls : List (List ℕ)) → length ls ≤ n → length (in_front c ls) ≤ suc n
 front_few c n [] h = omega arith
 front_few c n (l ∷ ls) h = omega (arith, h)
 
-lines_few : (b : Bool) (c : ℕ) (cs : List ℕ) → length (lines cs) ≤ length cs → length (if b then [] ∷ lines cs else in_front c (lines cs)) ≤ suc (length cs)
+pub lines_few : (b : Bool) (c : ℕ) (cs : List ℕ) → length (lines cs) ≤ length cs → length (if b then [] ∷ lines cs else in_front c (lines cs)) ≤ suc (length cs)
 lines_few true c cs h = omega (arith, h)
 lines_few false c cs h = front_few c (length cs) (lines cs) h
 

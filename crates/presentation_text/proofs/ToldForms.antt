@@ -27,6 +27,7 @@ use Rattle.presentation_text.proofs.LineFormsGenerators.{generator_read, generat
 use Rattle.presentation_text.proofs.LineFormsNumbers.{equal_told, not_at_most_told, not_below_told, not_false_told, weighed_set}
 use Rattle.presentation_text.proofs.LineFormsRead.{both_read, not_refused, one_value, was_known}
 use Rattle.presentation_text.proofs.LineFormsTables.{table-empty}
+use Rattle.presentation_text.proofs.DocumentFormsOnce.{same_value}
 
 -- ---- presentations so far
 
@@ -87,9 +88,6 @@ prime_told p e =
     (λ x. inr (inr (inr (inr (inl (equal_told p 32003 x)))))))
     (λ x. inr (inr (inr (inr (inr (inl (equal_told p 65537 x)))))))
 
-one_some : {X : Type 0} (found : Option X) (x y : X) → found ≡ Some x → found ≡ Some y → x ≡ y
-one_some found x y e f = cc
-
 field_read : (told now : Told) (ts : List Token) → field_line told ts ≡ Ok now → (p : ℕ) × (is_prime p ≡ true) × (now ≡ record told { field = Some p; section = 2 })
 unfolding field_line
 field_read told now ts e =
@@ -107,7 +105,7 @@ field_stands number told now ts h l e =
     subst (StandsBefore (number + 1)) (sym read.2) (record {
       well = record {
         version_is = well.version_is;
-        field_is = λ q f. subst IsFieldPrime (one_some (Some read.0) read.0 q refl f) (prime_told read.0 read.1);
+        field_is = λ q f. subst IsFieldPrime (same_value (Some read.0) read.0 q refl f) (prime_told read.0 read.1);
         order_is = well.order_is;
         generators = well.generators;
         weights = well.weights;
@@ -249,7 +247,7 @@ weight_stands number told now ts two h l e =
         generators = well.generators;
         weights = record {
           places = ap length (weighed_set g n told.weights) ∙ length-set told.weights g (Some n) ∙ well.weights.places;
-          small = subst (All Small) (sym (weighed_set g n told.weights)) (All-set Small told.weights g (Some n) (λ m f. subst (λ k. k ≤ 1000000) (one_some (Some n) n m refl f) read.2) well.weights.small);
+          small = subst (All Small) (sym (weighed_set g n told.weights)) (All-set Small told.weights g (Some n) (λ m f. subst (λ k. k ≤ 1000000) (same_value (Some n) n m refl f) read.2) well.weights.small);
           unweighed = λ one. absurd (two one);
         };
         relations = well.relations;

@@ -56,7 +56,7 @@ weight_two told e one =
 
 -- ---- a line
 
-choose : {A E P : Type 0} (b : Bool) (one other : Result A E) (x : A) → cond b one other ≡ Ok x → (b ≡ true → one ≡ Ok x → P) → (b ≡ false → other ≡ Ok x → P) → P
+pub choose : {A E P : Type 0} (b : Bool) (one other : Result A E) (x : A) → cond b one other ≡ Ok x → (b ≡ true → one ≡ Ok x → P) → (b ≡ false → other ≡ Ok x → P) → P
 choose true one other x e f g = f refl e
 choose false one other x e f g = g refl e
 
@@ -132,7 +132,7 @@ tail_after number told (Bad ∷ rest) e = absurd cc
 
 -- ---- all lines
 
-read_behind : (on : Behind → Result Whole LineFault) (reading : Result Behind LineFault) (whole : Whole) → unless_refused on reading ≡ Ok whole → (behind : Behind) × (reading ≡ Ok behind) × (on behind ≡ Ok whole)
+pub read_behind : (on : Behind → Result Whole LineFault) (reading : Result Behind LineFault) (whole : Whole) → unless_refused on reading ≡ Ok whole → (behind : Behind) × (reading ≡ Ok behind) × (on behind ≡ Ok whole)
 read_behind on (Ok behind) whole e = (behind, refl, e)
 read_behind on (Err fault) whole e = absurd cc
 

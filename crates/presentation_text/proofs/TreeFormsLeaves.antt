@@ -1,7 +1,7 @@
 -- Testing that the leaves of a tree carry 1 to n, each once.
 use Rattle.std.specs.Prelude.{is_some}
 use Rattle.std.specs.Option.{IfSome, IfNone}
-use Rattle.std.proofs.Common.{◌≡◌, ◌≤◌, ◌<◌, ℕ, zero, suc, true, false, ◌&&◌, ◌==◌, Bool, Option, Some, None, refl, sym, subst, arith}
+use Rattle.std.proofs.Common.{◌≡◌, ◌≤◌, ◌<◌, ℕ, zero, suc, true, ◌==◌, Option, Some, None, refl, sym, subst, arith}
 use Rattle.std.proofs.lemmas.Bool.{false_from_ne_true}
 use Rattle.std.proofs.lemmas.Bool.Decides.{Decides-eqb}
 use native.Mathlib.Decide.{dec_lt}
@@ -10,10 +10,7 @@ use Rattle.labelled_trees.specs.Leaves.{leaf_count, occurs}
 use Rattle.labelled_trees.specs.Labelled.{IsNumbered}
 use Rattle.labelled_trees.proofs.Counts.{only_within, leaf_count-numbered}
 use Rattle.presentation_text.specs.TreeForms.{has_each}
-
-pub both : (a b : Bool) → (a && b) ≡ true → (a ≡ true) × (b ≡ true)
-both true b e = (refl, e)
-both false b e = absurd cc
+use Rattle.presentation_text.proofs.LineFormsNumbers.{both_true}
 
 by_place : (n : ℕ) (t : Tree ℕ) (i : ℕ) → i ≤ suc n → Dec (n < i) → (i ≤ n → occurs i t ≡ 1) → occurs (suc n) t ≡ 1 → occurs i t ≡ 1
 by_place n t i b (yes l) before last = let same : suc n ≡ i = omega arith in subst (λ j. occurs j t ≡ 1) same last
@@ -22,7 +19,7 @@ by_place n t i b (no l) before last = before (omega (arith, l))
 pub each-had : (n : ℕ) (t : Tree ℕ) → has_each n t ≡ true → (i : ℕ) → 0 < i → i ≤ n → occurs i t ≡ 1
 each-had zero t e i a b = absurd (omega arith)
 each-had (suc n) t e i a b =
-    let parts = both (has_each n t) (occurs (suc n) t == 1) e in
+    let parts = both_true (has_each n t) (occurs (suc n) t == 1) e in
     by_place n t i b (dec_lt n i) (λ l. each-had n t parts.0 i a l) ((Decides-eqb (occurs (suc n) t) 1).0 parts.1)
 
 pub has-each : (n : ℕ) (t : Tree ℕ) → ((i : ℕ) → 0 < i → i ≤ n → occurs i t ≡ 1) → has_each n t ≡ true

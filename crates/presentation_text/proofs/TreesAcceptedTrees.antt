@@ -42,7 +42,7 @@ ok_right {A = A} {B = B} a c b d e = ap (λ (p : A × B). p.1) (both_ok a c b d 
 
 -- ---- marks
 
-marked : (c : ℕ) (token : Token) → is_mark c token ≡ true → token ≡ Byte c
+pub marked : (c : ℕ) (token : Token) → is_mark c token ≡ true → token ≡ Byte c
 marked c (Byte d) e = ap Byte ((Decides-eqb d c).0 e)
 marked c (Word w) e = absurd cc
 marked c (Number n) e = absurd cc
@@ -58,7 +58,7 @@ chosen : (b : Bool) (token : Token) (c : ℕ) (rest other : List Token) (fault :
 chosen true token c rest other fault f e = let same : rest ≡ other = cc in let mark = f refl in cc
 chosen false token c rest other fault f e = absurd cc
 
-mark_in-front : (c : ℕ) (ts rest : List Token) → mark_in c ts ≡ Ok rest → ts ≡ Byte c ∷ rest
+pub mark_in-front : (c : ℕ) (ts rest : List Token) → mark_in c ts ≡ Ok rest → ts ≡ Byte c ∷ rest
 mark_in-front c [] rest e = absurd cc
 mark_in-front c (token ∷ others) rest e = chosen (is_mark c token) token c others rest (suc (length others), misplaced token) (marked c token) e
 

@@ -4,8 +4,9 @@ use Rattle.presentation_text.specs.Tokens.{tokens}
 use Rattle.presentation_text.specs.declared.lexing.Token.TheVariants.{Word}
 use Rattle.certificate_text.specs.BlockForms.{base_of, refused_at, rest_of_tail_line, tail_line}
 use Rattle.certificate_text.specs.PlaceForms.{follow_of}
-use Rattle.certificate_text.proofs.BlockReading.{begun_by, line_fails, line_goes_on, line_refused}
+use Rattle.certificate_text.proofs.BlockReading.{line_fails, line_goes_on, line_refused}
 use Rattle.certificate_text.proofs.reading.tail_line.Goals as goal
+use Rattle.presentation_text.proofs.DocumentFormsLines.{begun_by}
 
 pub returns-in-Some : goal.returns-in-Some
 returns-in-Some c =
