@@ -63,7 +63,7 @@ module _ (trees : TreesAreAccepted) (elements : ElementsAreAccepted) (base : Bas
 
 -- ---- the blocks of a tail
 
-prime_positive : (p : ℕ) → IsFieldPrime p → 0 < p
+pub prime_positive : (p : ℕ) → IsFieldPrime p → 0 < p
 prime_positive p prime = let above = (field_prime p prime).above_one in omega arith
 
 module _ (trees : TreesAreAccepted) (elements : ElementsAreAccepted) (document : Document) (sound : IsFieldPrime document.field × IsTable document.gens) (number from : ℕ) (bytes : List ℕ)

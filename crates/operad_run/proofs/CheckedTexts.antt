@@ -24,7 +24,7 @@ use Rattle.certificate_check.proofs.HeldBlocks.{held_blocks}
 use Rattle.operad_run.specs.Answers.{line}
 use Rattle.operad_run.specs.Certified.{Holds, IsMember, IsAccepted, IsRefused, IsRefusedBy, cause_name}
 use Rattle.operad_run.specs.declared.checks.Refusal.{Refusal}
-use Rattle.operad_run.proofs.Decides.{field_positive}
+use Rattle.certificate_text.proofs.ReadyBlocks.{prime_positive}
 
 -- ---- the sums of a text are elements of their arity
 
@@ -60,7 +60,7 @@ block_elements document formed block h =
 all_members : (document : Document) (blocks : List Block) → IsWritableDocument document → All (IsWritable document.field document.gens) (map plain_block blocks) → All (Holds document) blocks → All (IsMember document) blocks
 all_members document blocks formed writable held k d l =
     let elements = all_images plain_block (IsWritable document.field document.gens) (λ block. AreElements document.gens document.rels block.want block.steps) (block_elements document formed) blocks writable in
-    held_blocks document.field document.gens document.rels _ _ (field_positive document.field formed.field) (elements k d l) (held k d l)
+    held_blocks document.field document.gens document.rels _ _ (prime_positive document.field formed.field) (elements k d l) (held k d l)
 
 pub accepted : (bytes : List ℕ) (document : Document) (blocks : List Block) (text : List ℕ) → IsReadAs bytes document → IsWritableDocument document → AreReadAs bytes document blocks
     → All (IsWritable document.field document.gens) (map plain_block blocks) → All (Holds document) blocks

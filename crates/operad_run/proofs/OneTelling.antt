@@ -14,9 +14,9 @@ use Rattle.operad_run.specs.Runs.{fault_text}
 use Rattle.operad_run.specs.Laws.{AnswersAreDetermined}
 use Rattle.operad_run.specs.declared.status.Status.{Status}
 use Rattle.operad_run.specs.declared.status.Status.TheVariants.{Done, Refused, Usage, Document, Limit, Budget, ReadFault, WriteFault, NoMemory}
-use Rattle.operad_run.proofs.Decides.{field_positive}
 use Rattle.operad_run.proofs.OneAnswer.{same_answered}
 use Rattle.operad_run.proofs.SameReadings.{never_refused, refused_once, same_documents, same_tail_lines, no_tail_once}
+use Rattle.certificate_text.proofs.ReadyBlocks.{prime_positive}
 
 -- a text that is free is not refused
 pub free_or_refused : (bytes : List ℕ) (document : document_of.Document) (text : List ℕ) → IsFree bytes document → IsRefused bytes text → ⊥
@@ -86,7 +86,7 @@ module _ (writable : ReadDocumentsAreWritable) (bytes : List ℕ) (n : ℕ) wher
       ∙ sym g.text_is
 
   positive : (document : document_of.Document) → IsReadAs bytes document → 0 < document.field
-  positive document h = field_positive document.field (writable bytes document h).field
+  positive document h = prime_positive document.field (writable bytes document h).field
 
   one_text : (text other : List ℕ) → IsAnswered bytes n text → IsAnswered bytes n other → text ≡ other
   one_text text other h g =
