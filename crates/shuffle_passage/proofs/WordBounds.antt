@@ -2,6 +2,7 @@
 use Rattle.std.proofs.Common.{◌≡◌, inl, inr, ℕ, zero, suc, ◌+◌, ◌<◌, ◌≤◌, Bool, true, false, cond, List, [], ◌∷◌, ◌++◌, length, map, take, drop, refl, sym, ap, ap₂, ◌∙◌, subst, arith, lt-ltb, le-ltb, replicate, nat_lt, length-append}
 use Rattle.std.specs.Prelude.{flat_map}
 use Rattle.std.specs.List.{AllByRecursion}
+use Rattle.std.proofs.lemmas.List.{length-replicate}
 use Rattle.modular_sums.specs.Lists.{Mem, Rises}
 use Rattle.operad_ideals.specs.Parts.{Kind, symmetric, skew, free, Part, total}
 use Rattle.shuffle_insertions.specs.Listing.{upto}
@@ -10,6 +11,7 @@ use Rattle.shuffle_insertions.proofs.Counting.{length-upto}
 use Rattle.shuffle_transfer.specs.Orderings.{Pick, behind, picks, permutations, orderings}
 use Rattle.shuffle_transfer.specs.Labels.{rises, part_rises, parts_rise, rising_words, words_of}
 use Rattle.shuffle_transfer.proofs.Permutes.{permutes_length, permutations_mem}
+use Rattle.shuffle_transfer.proofs.Ranks.{every_mem}
 use Rattle.shuffle_passage.specs.Words.{is_rising, part_bounds, bounds_of, endings}
 use Rattle.shuffle_passage.proofs.WordLists.{each_from, bounded_words, length-bounded_words}
 
@@ -98,10 +100,6 @@ abbrev CutPicks : ℕ → ℕ → List Pick → Type 0
 CutPicks n i [] = Unit {0}
 CutPicks n i (p ∷ l) = Cut p.first i p.others × Rises p.others × (length p.others ≡ n) × CutPicks n (suc i) l
 
-above : (x : ℕ) (l : List ℕ) → ((u : ℕ) → Mem u l → x < u) → AllByRecursion (λ y. x < y) l
-above x [] h = tt
-above x (y ∷ l) h = (h y (inl refl), above x l (λ u m. h u (inr m)))
-
 abbrev Above : ℕ → List Pick → Type 0
 Above x l = AllByRecursion (λ (p : Pick). (x < p.first) × ((u : ℕ) → Mem u p.others → x < u)) l
 
@@ -128,7 +126,7 @@ cut_picks (x ∷ []) (suc n) h e = absurd (omega (arith, e))
 cut_picks (x ∷ (y ∷ l)) zero h e = absurd (omega (arith, e))
 cut_picks (x ∷ (y ∷ l)) (suc n) h e =
     let k : length (y ∷ l) ≡ suc n = omega (arith, e) in
-    (above x (y ∷ l) h.0, h.1, k, cut_behind x n 0 (picks (y ∷ l)) (above_picks x (y ∷ l) h.0) (cut_picks (y ∷ l) n h.1 k))
+    (every_mem (λ u. x < u) (y ∷ l) h.0, h.1, k, cut_behind x n 0 (picks (y ∷ l)) (above_picks x (y ∷ l) h.0) (cut_picks (y ∷ l) n h.1 k))
 
 -- ---- the words that keep the bounds, among all permutations
 
@@ -178,10 +176,6 @@ bounded (false ∷ bs) x a l r e c = all_kept (length bs) bs (bounded bs) false 
     all [] = tt
     all (p ∷ l) = (refl, all l)
 
-length-replicate : (n : ℕ) (b : Bool) → length (replicate n b) ≡ n
-length-replicate zero b = refl
-length-replicate (suc n) b = ap suc (length-replicate n b)
-
 length-part : (kind : Kind) (n : ℕ) → length (part_bounds kind n) ≡ n
 length-part kind zero = refl
 length-part kind (suc n) = ap suc (length-replicate n (is_rising kind))
@@ -200,7 +194,7 @@ pub words_are : (ps : List Part) → words_of ps ≡ bounded_words (bounds_of ps
 words_are ps =
     rising_keeping ps (orderings (total ps)) (λ w m. permutes_length (upto (total ps)) w (permutations_mem (total ps) (upto (total ps)) w (length-upto (total ps)) m) ∙ length-upto (total ps))
     ∙ ap (λ n. keeping (bounds_of ps) 0 (permutations n (upto (total ps)))) (sym (length-bounds ps))
-    ∙ bounded (bounds_of ps) 0 0 (upto (total ps)) (upto_rises (total ps)) (length-upto (total ps) ∙ sym (length-bounds ps)) (above 0 (upto (total ps)) (λ u m. (upto_mem (total ps) u m).0))
+    ∙ bounded (bounds_of ps) 0 0 (upto (total ps)) (upto_rises (total ps)) (length-upto (total ps) ∙ sym (length-bounds ps)) (every_mem (λ u. 0 < u) (upto (total ps)) (λ u m. (upto_mem (total ps) u m).0))
 
 -- There are so many.
 pub count_words : (ps : List Part) → length (words_of ps) ≡ endings (bounds_of ps) 0
