@@ -12,7 +12,7 @@ use Rattle.std.proofs.lemmas.Simd.{map-map}
 use Rattle.itertools.specs.Odometer.{numbers, ways}
 use Rattle.itertools.specs.Pool.{ClonesAt, unranked}
 use Rattle.itertools.proofs.PoolLemmas.{length-numbers, numbers-below}
-use Rattle.operad_ideals.proofs.SortedLists.{every_map}
+use Rattle.operad_ideals.proofs.SortedLists.{every_map, every_weaker}
 use Rattle.shuffle_insertions.specs.Listing.{upto}
 use Rattle.shuffle_insertions.proofs.Counting.{length-upto}
 use Rattle.shuffle_transfer.specs.Orderings.{IsOrdering, Pick, behind, picks, permutations, orderings}
@@ -94,11 +94,7 @@ choices_fit n (suc k) p r =
     all_flat (λ d. map (λ ds. d ∷ ds) (choices n k (p ++ d ∷ []))) (AreChoices (suc k)) (λ d. d < suc k) (numbers 0 (n - length p - 0))
     (recursion_from_All (λ d. d < suc k) (numbers 0 (n - length p - 0)) (numbers-below 0 (n - length p - 0) (suc k) (omega (arith, r))))
     (λ d h. every_map (λ ds. d ∷ ds) (AreChoices (suc k)) (choices n k (p ++ d ∷ []))
-    (each d h (choices n k (p ++ d ∷ [])) (choices_fit n k (p ++ d ∷ []) (let s = length-append p (d ∷ []) in omega (arith, s, r)))))
-  where
-    each : (d : ℕ) → d < suc k → (l : List (List ℕ)) → AllByRecursion (AreChoices k) l → AllByRecursion (λ ds. AreChoices (suc k) (d ∷ ds)) l
-    each d h [] a = tt
-    each d h (x ∷ l) a = ((h, a.0), each d h l a.1)
+    (every_weaker (AreChoices k) (λ ds. AreChoices (suc k) (d ∷ ds)) (choices n k (p ++ d ∷ [])) (λ ds a. (h, a)) (choices_fit n k (p ++ d ∷ []) (let s = length-append p (d ∷ []) in omega (arith, s, r)))))
 
 pub all_choices : (n : ℕ) → AllByRecursion (AreChoices n) (choices n n [])
 all_choices n = choices_fit n n [] (omega arith)

@@ -5,6 +5,7 @@ use Rattle.std.specs.List.{AllByRecursion}
 use Rattle.std.proofs.lemmas.List.{length-replicate}
 use Rattle.modular_sums.specs.Lists.{Mem, Rises}
 use Rattle.operad_ideals.specs.Parts.{Kind, symmetric, skew, free, Part, total}
+use Rattle.operad_ideals.proofs.SortedLists.{every_weaker, every_unmap}
 use Rattle.shuffle_insertions.specs.Listing.{upto}
 use Rattle.shuffle_insertions.proofs.Upto.{upto_rises, upto_mem}
 use Rattle.shuffle_insertions.proofs.Counting.{length-upto}
@@ -145,11 +146,8 @@ module _ (n : ℕ) (bs : List Bool) (ih : (x a : ℕ) (l : List ℕ) → Rises l
 
   from_cut : (x a i : ℕ) (l : List Pick) → CutPicks n i l → Cut x a (map (λ p. p.first) l)
       → keeping (true ∷ bs) x (flat_map beginning l) ≡ each_from (bounded_words bs) (i + a) (drop a l)
-  from_cut x zero i l c k = all_kept true x i l c (kept l k) ∙ (let e : i ≡ i + 0 = omega arith in ap (λ j. each_from (bounded_words bs) j l) e)
-    where
-      kept : (l : List Pick) → AllByRecursion (λ y. x < y) (map (λ (p : Pick). p.first) l) → AllByRecursion (λ (p : Pick). nat_lt x p.first ≡ true) l
-      kept [] h = tt
-      kept (p ∷ l) h = (lt-ltb x p.first h.0, kept l h.1)
+  from_cut x zero i l c k = all_kept true x i l c
+      (every_weaker (λ (p : Pick). x < p.first) (λ (p : Pick). nat_lt x p.first ≡ true) l (λ p h. lt-ltb x p.first h) (every_unmap (λ (p : Pick). p.first) (λ y. x < y) l k)) ∙ (let e : i ≡ i + 0 = omega arith in ap (λ j. each_from (bounded_words bs) j l) e)
   from_cut x (suc a) i [] c k = absurd k
   from_cut x (suc a) i (p ∷ l) c k =
       keeping-append (true ∷ bs) x (beginning p) (flat_map beginning l)
@@ -170,11 +168,7 @@ bounded [] x a l r e c = refl
 bounded (true ∷ bs) x a l r e c =
     from_cut (length bs) bs (bounded bs) x a 0 (picks l) (cut_picks l (length bs) r e) (subst (Cut x a) (sym (firsts-picks l)) c)
     ∙ (let z : 0 + a ≡ a = omega arith in ap (λ j. each_from (bounded_words bs) j (drop a (picks l))) z)
-bounded (false ∷ bs) x a l r e c = all_kept (length bs) bs (bounded bs) false x 0 (picks l) (cut_picks l (length bs) r e) (all (picks l))
-  where
-    all : (l : List Pick) → AllByRecursion (λ (p : Pick). true ≡ true) l
-    all [] = tt
-    all (p ∷ l) = (refl, all l)
+bounded (false ∷ bs) x a l r e c = all_kept (length bs) bs (bounded bs) false x 0 (picks l) (cut_picks l (length bs) r e) (every_mem (λ (p : Pick). true ≡ true) (picks l) (λ p m. refl))
 
 length-part : (kind : Kind) (n : ℕ) → length (part_bounds kind n) ≡ n
 length-part kind zero = refl
