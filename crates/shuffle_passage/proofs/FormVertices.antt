@@ -2,7 +2,7 @@
 use Rattle.std.proofs.Common.{◌≡◌, ℕ, ◌+◌, ◌<◌, ◌≤◌, List, [], ◌∷◌, length, map, refl, sym, ap, ap₂, ◌∙◌, subst, arith}
 use Rattle.std.proofs.Math.ListN.{length-map}
 use Rattle.std.proofs.lemmas.Simd.{map-map}
-use Rattle.labelled_trees.specs.Trees.{Tree, Row, node, none, more, row, inputs}
+use Rattle.labelled_trees.specs.Trees.{Row, node, none, more, row, inputs}
 use Rattle.labelled_trees.specs.Leaves.{occurs, occurs_row}
 use Rattle.labelled_trees.specs.Labelled.{Fits, FitsRow}
 use Rattle.labelled_trees.specs.Meaning.{tree_of}
@@ -17,8 +17,9 @@ use Rattle.operad_ideals.specs.Spelling.{least_leaf}
 use Rattle.operad_ideals.proofs.SortedLists.{Apart, apart-map, apart-unmap, map-sort_by}
 use Rattle.operad_ideals.proofs.Spellings.{least_leaves-spelled_row}
 use Rattle.shuffle_insertions.specs.ShuffleTrees.{least}
-use Rattle.shuffle_transfer.specs.ShuffleForms.{ranks, form, form_row}
+use Rattle.shuffle_transfer.specs.ShuffleForms.{ranks, form_row}
 use Rattle.shuffle_transfer.specs.Labels.{label, shuffle_form}
+use Rattle.shuffle_transfer.proofs.Back.{form_row-row}
 use Rattle.shuffle_transfer.proofs.Forms.{forms_apart}
 use Rattle.shuffle_transfer.proofs.Signs.{least-form}
 use Rattle.symmetric_trees.specs.Generators.{parts_at, generators_of}
@@ -33,10 +34,6 @@ use Rattle.shuffle_passage.proofs.WordTables.{length-generators}
 pub keys_are : (bs : List Branch) → least_leaves bs ≡ map least (forms_of bs)
 keys_are [] = refl
 keys_are (b ∷ bs) = ap₂ (λ k ks. k ∷ ks) b.least_is (keys_are bs)
-
-form_row-row : (l : ℕ → List ℕ → ℕ) (ts : List (Tree ℕ)) → form_row l (row ts) ≡ map (form l) ts
-form_row-row l [] = refl
-form_row-row l (t ∷ ts) = ap (λ us. form l t ∷ us) (form_row-row l ts)
 
 keys-form : (gens : List Generator) (r : Row ℕ) → FitsRow (arity (parts_at gens)) r → ((i : ℕ) → occurs_row i r ≤ 1) → map least (form_row (label (over gens)) r) ≡ map least_leaf (inputs r)
 keys-form gens none f d = refl

@@ -1,10 +1,10 @@
 -- The arities of the labels of a table.
 use Rattle.std.proofs.Common.{◌≡◌, ℕ, zero, suc, ◌+◌, ◌*◌, ◌<◌, ◌≤◌, List, [], ◌∷◌, ◌++◌, length, map, get_or, replicate, slice_index, Some, refl, sym, ap, ap₂, ◌∙◌, subst, arith}
-use Rattle.std.specs.List.{AllByRecursion}
+use Rattle.std.specs.List.{All, AllByRecursion}
 use Rattle.std.proofs.Math.ListN.{length-map, get_or-map}
 use Rattle.std.proofs.lemmas.List.{map-append}
-use Rattle.std.proofs.lemmas.List.Elements.{All-from_recursion}
-use Rattle.std.proofs.lemmas.List.Elements as elements
+use Rattle.std.proofs.lemmas.List.Elements.{All-nil, All-append, All-replicate, recursion_from_All}
+use Rattle.std.proofs.lemmas.Option.{slice_get_within}
 use Rattle.operad_ideals.specs.Presentations.{arity_of}
 use Rattle.shuffle_trees.specs.LabelLists as kinds
 use Rattle.shuffle_trees.specs.LabelLists.{AreFew}
@@ -37,14 +37,9 @@ kinds_letters s f (g ∷ gs) h =
     (kinds_letters (suc s) f gs (λ i x e. let n : suc s + i ≡ s + suc i = omega arith in ap f n ∙ h (suc i) x e))
     ∙ sym (map-append (λ (x : Letter). f x.gen) (map (lettered s) (words_of (map part_of g.parts))) (letters (suc s) (generators_of gs)))
 
-slice_below : {X : Type 0} (xs : List X) (i : ℕ) (x : X) → Rattle.std.proofs.Common.slice_get xs i ≡ Some x → i < length xs
-slice_below [] i x e = absurd cc
-slice_below (y ∷ xs) zero x e = omega arith
-slice_below (y ∷ xs) (suc i) x e = let k = slice_below xs i x e in omega (arith, k)
-
 pub table_letters : (gens : List Generator) → IsTable gens → kinds.labels_of (map kind_in gens) ≡ map (λ (x : Letter). arity_of (over gens) x.gen) (letters 0 (generators_of gens))
 table_letters gens table = kinds_letters 0 (arity_of (over gens)) gens
-    (λ i g e. let z : 0 + i ≡ i = omega arith in ap (arity_of (over gens)) z ∙ arity-held gens i g table (slice_below gens i g e) e)
+    (λ i g e. let z : 0 + i ≡ i = omega arith in ap (arity_of (over gens)) z ∙ arity-held gens i g table (slice_get_within gens i g e) e)
 
 pub are_labels : (gens : List Generator) → IsTable gens → AreLabelsOf gens (kinds.labels_of (map kind_in gens))
 are_labels gens table =
@@ -60,18 +55,10 @@ are_labels gens table =
           ∙ get_or-map f (letters 0 (generators_of gens)) l none ∙ ap f (sym (at_is none l (letters 0 (generators_of gens))));
     }
 
-all_replicate : {X : Type 0} (P : X → Type 0) (n : ℕ) (x : X) → P x → AllByRecursion P (replicate n x)
-all_replicate P zero x h = tt
-all_replicate P (suc n) x h = (h, all_replicate P n x h)
-
-all_append : {X : Type 0} (P : X → Type 0) (xs ys : List X) → AllByRecursion P xs → AllByRecursion P ys → AllByRecursion P (xs ++ ys)
-all_append P [] ys h k = k
-all_append P (x ∷ xs) ys h k = (h.0, all_append P xs ys h.1 k)
-
-all_kinds : (gens : List Generator) → AllByRecursion (λ (g : Generator). IsArity g.arity) gens → AllByRecursion (λ a. (2 ≤ a) × (a ≤ 6)) (kinds.labels_of (map kind_in gens))
-all_kinds [] h = tt
-all_kinds (g ∷ gs) h = all_append (λ a. (2 ≤ a) × (a ≤ 6)) (replicate (endings (bounds_in g) 0) g.arity) (kinds.labels_of (map kind_in gs))
-    (all_replicate (λ a. (2 ≤ a) × (a ≤ 6)) (endings (bounds_in g) 0) g.arity h.0) (all_kinds gs h.1)
+all_kinds : (gens : List Generator) → AllByRecursion (λ (g : Generator). IsArity g.arity) gens → All (λ a. (2 ≤ a) × (a ≤ 6)) (kinds.labels_of (map kind_in gens))
+all_kinds [] h = All-nil (λ a. (2 ≤ a) × (a ≤ 6))
+all_kinds (g ∷ gs) h = All-append (λ a. (2 ≤ a) × (a ≤ 6)) (replicate (endings (bounds_in g) 0) g.arity) (kinds.labels_of (map kind_in gs))
+    (All-replicate (λ a. (2 ≤ a) × (a ≤ 6)) (endings (bounds_in g) 0) g.arity h.0) (all_kinds gs h.1)
 
 pub few_labels : (gens : List Generator) → IsTable gens → AreFew (kinds.labels_of (map kind_in gens))
 few_labels gens table =
@@ -81,5 +68,5 @@ few_labels gens table =
     let most = first_label-most gens (length (generators_of gens)) table (omega (arith, n)) in
     record {
       count = omega (arith, count, all, most, n, table.few);
-      arities = All-from_recursion (λ a. (2 ≤ a) × (a ≤ 6)) (kinds.labels_of (map kind_in gens)) (all_kinds gens (elements.recursion_from_All (λ (g : Generator). IsArity g.arity) gens table.arities));
+      arities = all_kinds gens (recursion_from_All (λ (g : Generator). IsArity g.arity) gens table.arities);
     }

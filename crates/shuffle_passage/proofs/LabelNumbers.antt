@@ -1,8 +1,10 @@
 -- Labels and their words, by numbers.
-use Rattle.std.proofs.Common.{◌≡◌, inl, inr, ⊎_elim, ℕ, zero, suc, ◌+◌, ◌*◌, ◌-◌, ◌<◌, ◌≤◌, Bool, true, false, cond, List, [], ◌∷◌, length, map, get_or, refl, sym, ap, ap₂, ◌∙◌, subst, arith, lt-ltb, le-ltb, nat_lt, count_by, length-append}
+use Rattle.std.proofs.Common.{◌≡◌, ⊎_elim, ℕ, zero, suc, ◌+◌, ◌*◌, ◌-◌, ◌<◌, ◌≤◌, Bool, true, false, cond, List, [], ◌∷◌, length, map, get_or, refl, sym, ap, ap₂, ◌∙◌, subst, arith, lt-ltb, le-ltb, nat_lt, count_by, length-append}
 use Rattle.std.proofs.Math.ListN.{length-map, get_or-map, get_or-append}
 use Rattle.std.proofs.lemmas.List.{get_or-append-add, map-id}
 use Rattle.std.proofs.lemmas.List as lists
+use Rattle.std.proofs.lemmas.List.Sums.{count_by-le-length}
+use Rattle.std.proofs.Math.Nat.{mul-le-mul_right}
 use Rattle.std.specs.List.{AllByRecursion}
 use Rattle.modular_sums.specs.Lists.{Mem, Rises}
 use Rattle.modular_sums.proofs.Lists.{both_true}
@@ -23,7 +25,7 @@ use Rattle.shuffle_transfer.specs.Labels.{parts_rise, words_of, Letter, letters,
 use Rattle.shuffle_transfer.proofs.Labels.{labels_are_words}
 use Rattle.shuffle_transfer.proofs.Orderings.{ordering_permutes}
 use Rattle.shuffle_transfer.proofs.Permutes.{Permutes, done, begin, Picked, now, later, pick_mem, rest_rises}
-use Rattle.shuffle_transfer.proofs.Ranks.{below_less_mem, ranks_ordering, ordering_apart, items_all}
+use Rattle.shuffle_transfer.proofs.Ranks.{every_mem, below_less_mem, ranks_ordering, ordering_apart, items_all}
 use Rattle.shuffle_transfer.proofs.Words.{parts_same, sorted_rises, sorted_ordering}
 use Rattle.shuffle_passage.specs.Words.{bounds_of, first_place, sum_from, endings, word_number, digits, Place, find_place, digits_of, without, chosen, first_label}
 use Rattle.shuffle_passage.proofs.WordLists.{AreDigits, word_number-below, word_at}
@@ -73,10 +75,6 @@ letter_number s (ps ∷ gens) (suc g) k d l h =
 
 -- ---- digits
 
-pub below_le : (k : ℕ) (ks : List ℕ) → below k ks ≤ length ks
-below_le k [] = omega arith
-below_le k (m ∷ ks) = ⊎_elim (λ l. omega (arith, below_less k m ks l, below_le k ks)) (λ l. omega (arith, below_more k m ks l, below_le k ks)) (tested m k)
-
 below_mono : (k l : ℕ) (ks : List ℕ) → k ≤ l → below k ks ≤ below l ks
 below_mono k l [] h = omega arith
 below_mono k l (m ∷ ks) h = ⊎_elim
@@ -101,7 +99,7 @@ keeps_digits [] x (y ∷ w) e h = absurd (omega (arith, e))
 keeps_digits (b ∷ bs) x [] e h = absurd (omega (arith, e))
 keeps_digits (b ∷ bs) x (y ∷ w) e h =
     let k = both_true (cond b (nat_lt x y) true) (keeps bs y w) h in
-    (first_tested b x y k.0 w, (let l = below_le y w in omega (arith, l, e)), keeps_digits bs y w (omega (arith, e)) k.1)
+    (first_tested b x y k.0 w, (let l = count_by-le-length (λ m. nat_lt m y) w in omega (arith, l, e)), keeps_digits bs y w (omega (arith, e)) k.1)
 
 below_zero : (ks : List ℕ) → below 0 ks ≡ 0
 below_zero [] = refl
@@ -135,10 +133,6 @@ picked_below k x l r (later y {l = m} {r = s} h) = below_cons k y m (x ∷ s) (p
 permutes_below : (k : ℕ) (l v : List ℕ) → Permutes l v → below k l ≡ below k v
 permutes_below k l v done = refl
 permutes_below k l v (begin x {r = r} {v = w} p h) = picked_below k x l r p ∙ below_cons k x r w (permutes_below k r w h)
-
-every_mem : {X : Type 0} (P : X → Type 0) (xs : List X) → ((x : X) → Mem x xs → P x) → AllByRecursion P xs
-every_mem P [] h = tt
-every_mem P (x ∷ xs) h = (h x (inl refl), every_mem P xs (λ y m. h y (inr m)))
 
 picked_at : (x : ℕ) (l r : List ℕ) → Picked x l r → Rises l → (get_or l (below x r) 0 ≡ x) × (without l (below x r) ≡ r)
 picked_at x l r now h =
@@ -294,17 +288,12 @@ pub sum_from-most : (f : ℕ → ℕ) (a n m : ℕ) → ((i : ℕ) → f i ≤ m
 sum_from-most f a zero m h = omega arith
 sum_from-most f a (suc n) m h = let k = sum_from-most f (suc a) n m h in let q = h a in let e : suc n * m ≡ m + n * m = omega arith in omega (arith, k, q, e)
 
-pub times_mono : (a b m : ℕ) → a ≤ b → a * m ≤ b * m
-times_mono zero b m h = omega arith
-times_mono (suc a) zero m h = absurd (omega (arith, h))
-times_mono (suc a) (suc b) m h = let k = times_mono a b m (omega (arith, h)) in let e : suc a * m ≡ m + a * m = omega arith in let g : suc b * m ≡ m + b * m = omega arith in omega (arith, k, e, g)
-
 pub endings-most : (bs : List Bool) (below : ℕ) → endings bs below ≤ factorial (length bs)
 endings-most [] below = omega arith
 endings-most (b ∷ bs) below =
     let a = first_place b below in
     let k = sum_from-most (endings bs) a (suc (length bs) - a) (factorial (length bs)) (endings-most bs) in
-    let q = times_mono (suc (length bs) - a) (suc (length bs)) (factorial (length bs)) (omega arith) in
+    let q = mul-le-mul_right {m = suc (length bs) - a} {n = suc (length bs)} (factorial (length bs)) (omega arith) in
     omega (arith, k, q)
 
 pub factorial-mono : (m n : ℕ) → m ≤ n → factorial m ≤ factorial n
@@ -313,8 +302,8 @@ factorial-mono zero (suc n) h = let k = factorial-mono zero n (omega arith) in l
 factorial-mono (suc m) zero h = absurd (omega (arith, h))
 factorial-mono (suc m) (suc n) h =
     let k = factorial-mono m n (omega (arith, h)) in
-    let q = times_mono (suc m) (suc n) (factorial m) h in
-    let r = times_mono (factorial m) (factorial n) (suc n) k in
+    let q = mul-le-mul_right {m = suc m} {n = suc n} (factorial m) h in
+    let r = mul-le-mul_right {m = factorial m} {n = factorial n} (suc n) k in
     let e : factorial m * suc n ≡ suc n * factorial m = omega arith in
     let f : factorial n * suc n ≡ suc n * factorial n = omega arith in
     omega (arith, q, r, e, f)
@@ -331,8 +320,8 @@ word_number-most (b ∷ bs) below (k ∷ ks) e =
     let a = first_place b below in
     let d = count_by (λ m. nat_lt m k) ks in
     let q = sum_from-most (endings bs) a (d - a) (factorial (length bs)) (endings-most bs) in
-    let l = below_le k ks in
-    let r = times_mono (d - a) (length bs) (factorial (length bs)) (omega (arith, l, e)) in
+    let l = count_by-le-length (λ m. nat_lt m k) ks in
+    let r = mul-le-mul_right {m = d - a} {n = length bs} (factorial (length bs)) (omega (arith, l, e)) in
     let ih = word_number-most bs d ks (omega (arith, e)) in
     let f : suc (length bs) * factorial (length bs) ≡ factorial (length bs) + length bs * factorial (length bs) = omega arith in
     omega (arith, q, r, ih, f)

@@ -1,14 +1,18 @@
 -- The permutations that `itertools` walks through are the orderings, in their order.
-use Rattle.std.proofs.Common.{◌≡◌, ℕ, zero, suc, ◌+◌, ◌-◌, ◌<◌, ◌≤◌, List, [], ◌∷◌, ◌++◌, length, map, get_or, refl, sym, ap, ap₂, ◌∙◌, subst, arith, length-append, append_assoc, inl}
+use Rattle.std.proofs.Common.{◌≡◌, ℕ, zero, suc, ◌+◌, ◌-◌, ◌<◌, List, [], ◌∷◌, ◌++◌, length, map, get_or, refl, sym, ap, ap₂, ◌∙◌, subst, arith, length-append, append_assoc, inl}
 use mathlib.Core.List.{append-nil}
 use Rattle.modular_sums.specs.Lists.{Mem}
 use Rattle.modular_sums.proofs.Lists.{mem_right}
 use Rattle.std.specs.Prelude.{flat_map}
 use Rattle.std.specs.List.{AllByRecursion}
-use Rattle.std.proofs.lemmas.List.{map-append}
+use Rattle.std.proofs.lemmas.List.{map-append, get_or_default}
+use Rattle.std.proofs.lemmas.List.Elements.{All-append, All-from_recursion, recursion_from_All}
+use Rattle.std.proofs.lemmas.List.Folds.{flat_map-map}
 use Rattle.std.proofs.lemmas.Simd.{map-map}
 use Rattle.itertools.specs.Odometer.{numbers, ways}
 use Rattle.itertools.specs.Pool.{ClonesAt, unranked}
+use Rattle.itertools.proofs.PoolLemmas.{length-numbers, numbers-below}
+use Rattle.operad_ideals.proofs.SortedLists.{every_map, every_weaker}
 use Rattle.shuffle_insertions.specs.Listing.{upto}
 use Rattle.shuffle_insertions.proofs.Counting.{length-upto}
 use Rattle.shuffle_transfer.specs.Orderings.{IsOrdering, Pick, behind, picks, permutations, orderings}
@@ -40,10 +44,6 @@ picks-numbers (x ∷ l) = ap (λ ps. record { first = x; others = l } ∷ ps) (a
 abbrev pub choices : ℕ → ℕ → List ℕ → List (List ℕ)
 choices n = ways (λ _. 0) (λ q. n - length q)
 
-flat-of_map : {X Y A : Type 0} (g : X → Y) (f : Y → List A) (xs : List X) → flat_map f (map g xs) ≡ flat_map (λ x. f (g x)) xs
-flat-of_map g f [] = refl
-flat-of_map g f (x ∷ xs) = ap (λ ys. f (g x) ++ ys) (flat-of_map g f xs)
-
 map-of_flat : {X A B : Type 0} (g : A → B) (f : X → List A) (xs : List X) → map g (flat_map f xs) ≡ flat_map (λ x. map g (f x)) xs
 map-of_flat g f [] = refl
 map-of_flat g f (x ∷ xs) = map-append g (f x) (flat_map f xs) ∙ ap (λ ys. map g (f x) ++ ys) (map-of_flat g f xs)
@@ -51,10 +51,6 @@ map-of_flat g f (x ∷ xs) = map-append g (f x) (flat_map f xs) ∙ ap (λ ys. m
 flat-same : {X A : Type 0} (f g : X → List A) (P : X → Type 0) (xs : List X) → AllByRecursion P xs → ((x : X) → P x → f x ≡ g x) → flat_map f xs ≡ flat_map g xs
 flat-same f g P [] h e = refl
 flat-same f g P (x ∷ xs) h e = ap₂ (λ us vs. us ++ vs) (e x h.0) (flat-same f g P xs h.1 e)
-
-numbers-below : (a n m : ℕ) → a + n ≤ m → AllByRecursion (λ d. d < m) (numbers a n)
-numbers-below a zero m h = tt
-numbers-below a (suc n) m h = (omega (arith, h), numbers-below (a + 1) n m (omega (arith, h)))
 
 one_choice : (n k : ℕ) (l p : List ℕ) → length l ≡ suc k → n - length p ≡ suc k
     → ((m q : List ℕ) → length m ≡ k → n - length q ≡ k → permutations k m ≡ map (chosen 0 m) (choices n k q))
@@ -69,9 +65,9 @@ permutations-chosen n zero l p e r = refl
 permutations-chosen n (suc k) l p e r =
     let range : n - length p - 0 ≡ length l = omega (arith, e, r) in
     ap (flat_map (λ q. map (λ w. q.first ∷ w) (permutations k q.others))) (picks-numbers l)
-    ∙ flat-of_map (pick_at l) (λ q. map (λ w. q.first ∷ w) (permutations k q.others)) (numbers 0 (length l))
+    ∙ flat_map-map (λ q. map (λ w. q.first ∷ w) (permutations k q.others)) (pick_at l) (numbers 0 (length l))
     ∙ flat-same (λ d. map (λ w. get_or l d 0 ∷ w) (permutations k (without l d))) (λ d. map (chosen 0 l) (map (λ ds. d ∷ ds) (choices n k (p ++ d ∷ [])))) (λ d. d < length l) (numbers 0 (length l))
-    (numbers-below 0 (length l) (length l) (omega arith)) (one_choice n k l p e r (λ m q a b. permutations-chosen n k m q a b))
+    (recursion_from_All (λ d. d < length l) (numbers 0 (length l)) (numbers-below 0 (length l) (length l) (omega arith))) (one_choice n k l p e r (λ m q a b. permutations-chosen n k m q a b))
     ∙ sym (map-of_flat (chosen 0 l) (λ d. map (λ ds. d ∷ ds) (choices n k (p ++ d ∷ []))) (numbers 0 (length l)))
     ∙ ap (λ m. map (chosen 0 l) (flat_map (λ d. map (λ ds. d ∷ ds) (choices n k (p ++ d ∷ []))) (numbers 0 m))) (sym range)
 
@@ -86,28 +82,19 @@ AreChoices n [] = Unit {0}
 AreChoices zero (d ∷ ds) = ⊥
 AreChoices (suc n) (d ∷ ds) = (d < suc n) × AreChoices n ds
 
-all_map : {X Y : Type 0} (f : X → Y) (P : Y → Type 0) (xs : List X) → AllByRecursion (λ x. P (f x)) xs → AllByRecursion P (map f xs)
-all_map f P [] h = tt
-all_map f P (x ∷ xs) h = (h.0, all_map f P xs h.1)
-
 all_flat : {X A : Type 0} (f : X → List A) (P : A → Type 0) (Q : X → Type 0) (xs : List X) → AllByRecursion Q xs → ((x : X) → Q x → AllByRecursion P (f x)) → AllByRecursion P (flat_map f xs)
 all_flat f P Q [] h k = tt
-all_flat {A = A} f P Q (x ∷ xs) h k = joined (f x) (flat_map f xs) (k x h.0) (all_flat f P Q xs h.1 k)
-  where
-    joined : (us vs : List A) → AllByRecursion P us → AllByRecursion P vs → AllByRecursion P (us ++ vs)
-    joined [] vs a b = b
-    joined (x ∷ us) vs a b = (a.0, joined us vs a.1 b)
+all_flat f P Q (x ∷ xs) h k =
+    recursion_from_All P (f x ++ flat_map f xs)
+    (All-append P (f x) (flat_map f xs) (All-from_recursion P (f x) (k x h.0)) (All-from_recursion P (flat_map f xs) (all_flat f P Q xs h.1 k)))
 
 choices_fit : (n k : ℕ) (p : List ℕ) → n - length p ≡ k → AllByRecursion (AreChoices k) (choices n k p)
 choices_fit n zero p r = (tt, tt)
 choices_fit n (suc k) p r =
-    all_flat (λ d. map (λ ds. d ∷ ds) (choices n k (p ++ d ∷ []))) (AreChoices (suc k)) (λ d. d < suc k) (numbers 0 (n - length p - 0)) (numbers-below 0 (n - length p - 0) (suc k) (omega (arith, r)))
-    (λ d h. all_map (λ ds. d ∷ ds) (AreChoices (suc k)) (choices n k (p ++ d ∷ []))
-    (each d h (choices n k (p ++ d ∷ [])) (choices_fit n k (p ++ d ∷ []) (let s = length-append p (d ∷ []) in omega (arith, s, r)))))
-  where
-    each : (d : ℕ) → d < suc k → (l : List (List ℕ)) → AllByRecursion (AreChoices k) l → AllByRecursion (λ ds. AreChoices (suc k) (d ∷ ds)) l
-    each d h [] a = tt
-    each d h (x ∷ l) a = ((h, a.0), each d h l a.1)
+    all_flat (λ d. map (λ ds. d ∷ ds) (choices n k (p ++ d ∷ []))) (AreChoices (suc k)) (λ d. d < suc k) (numbers 0 (n - length p - 0))
+    (recursion_from_All (λ d. d < suc k) (numbers 0 (n - length p - 0)) (numbers-below 0 (n - length p - 0) (suc k) (omega (arith, r))))
+    (λ d h. every_map (λ ds. d ∷ ds) (AreChoices (suc k)) (choices n k (p ++ d ∷ []))
+    (every_weaker (AreChoices k) (λ ds. AreChoices (suc k) (d ∷ ds)) (choices n k (p ++ d ∷ [])) (λ ds a. (h, a)) (choices_fit n k (p ++ d ∷ []) (let s = length-append p (d ∷ []) in omega (arith, s, r)))))
 
 pub all_choices : (n : ℕ) → AllByRecursion (AreChoices n) (choices n n [])
 all_choices n = choices_fit n n [] (omega arith)
@@ -119,12 +106,7 @@ read_places : (pool places v : List ℕ) → AllByRecursion (λ d. d < length po
 read_places pool [] [] h c = refl
 read_places pool [] (x ∷ v) h c = absurd c
 read_places pool (d ∷ ds) [] h c = absurd c
-read_places pool (d ∷ ds) (x ∷ v) h c = ap₂ (λ y ys. y ∷ ys) (c.0 ∙ default pool d x h.0) (read_places pool ds v h.1 c.1)
-  where
-    default : (pool : List ℕ) (d x : ℕ) → d < length pool → get_or pool d x ≡ get_or pool d 0
-    default [] d x h = absurd (omega (arith, h))
-    default (y ∷ pool) zero x h = refl
-    default (y ∷ pool) (suc d) x h = default pool d x (omega (arith, h))
+read_places pool (d ∷ ds) (x ∷ v) h c = ap₂ (λ y ys. y ∷ ys) (c.0 ∙ get_or_default pool d x 0 h.0) (read_places pool ds v h.1 c.1)
 
 unranked-chosen : (free ds : List ℕ) → unranked free ds ≡ chosen 0 free ds
 unranked-chosen free [] = refl
@@ -133,21 +115,12 @@ unranked-chosen free (d ∷ ds) = ap (λ l. get_or free d 0 ∷ l) (ap (λ l. un
 chosen_all : (P : ℕ → Type 0) (n : ℕ) (l ds : List ℕ) → length l ≡ n → AreChoices n ds → AllByRecursion P l → AllByRecursion P (chosen 0 l ds)
 chosen_all P n l [] e h a = tt
 chosen_all P zero l (d ∷ ds) e h a = absurd h
-chosen_all P (suc n) l (d ∷ ds) e h a = (at l d a (omega (arith, e, h.0)), chosen_all P n (without l d) ds (let s = length-without l d (omega (arith, e, h.0)) in omega (arith, s, e)) h.1 (others l d a))
+chosen_all P (suc n) l (d ∷ ds) e h a = (All-from_recursion P l a d 0 (omega (arith, e, h.0)), chosen_all P n (without l d) ds (let s = length-without l d (omega (arith, e, h.0)) in omega (arith, s, e)) h.1 (others l d a))
   where
-    at : (l : List ℕ) (d : ℕ) → AllByRecursion P l → d < length l → P (get_or l d 0)
-    at [] d a h = absurd (omega (arith, h))
-    at (x ∷ l) zero a h = a.0
-    at (x ∷ l) (suc d) a h = at l d a.1 (omega (arith, h))
-
     others : (l : List ℕ) (d : ℕ) → AllByRecursion P l → AllByRecursion P (without l d)
     others [] d a = tt
     others (x ∷ l) zero a = a.1
     others (x ∷ l) (suc d) a = (a.0, others l d a.1)
-
-length-numbers : (a n : ℕ) → length (numbers a n) ≡ n
-length-numbers a zero = refl
-length-numbers a (suc n) = ap suc (length-numbers (a + 1) n)
 
 read_all : (pool : List ℕ) → map (λ d. get_or pool d 0) (numbers 0 (length pool)) ≡ pool
 read_all [] = refl
@@ -157,18 +130,13 @@ read_all (x ∷ l) = ap (λ ys. x ∷ ys) (ap (map (λ d. get_or (x ∷ l) d 0))
 chosen_default : (e : ℕ) (n : ℕ) (l ds : List ℕ) → length l ≡ n → AreChoices n ds → chosen e l ds ≡ chosen 0 l ds
 chosen_default e n l [] s h = refl
 chosen_default e zero l (d ∷ ds) s h = absurd h
-chosen_default e (suc n) l (d ∷ ds) s h = ap₂ (λ x xs. x ∷ xs) (default l d (omega (arith, s, h.0))) (chosen_default e n (without l d) ds (let k = length-without l d (omega (arith, s, h.0)) in omega (arith, k, s)) h.1)
-  where
-    default : (l : List ℕ) (d : ℕ) → d < length l → get_or l d e ≡ get_or l d 0
-    default [] d h = absurd (omega (arith, h))
-    default (y ∷ l) zero h = refl
-    default (y ∷ l) (suc d) h = default l d (omega (arith, h))
+chosen_default e (suc n) l (d ∷ ds) s h = ap₂ (λ x xs. x ∷ xs) (get_or_default l d e 0 (omega (arith, s, h.0))) (chosen_default e n (without l d) ds (let k = length-without l d (omega (arith, s, h.0)) in omega (arith, k, s)) h.1)
 
 -- The permutation that a list of choices reads.
 pub read_choices : (pool ds v : List ℕ) → AreChoices (length pool) ds → ClonesAt (λ a b. b ≡ a) pool (unranked (numbers 0 (length pool)) ds) v → v ≡ chosen 0 pool ds
 read_choices pool ds v h c =
     let n = length pool in
-    let places : AllByRecursion (λ d. d < n) (unranked (numbers 0 n) ds) = subst (AllByRecursion (λ d. d < n)) (sym (unranked-chosen (numbers 0 n) ds)) (chosen_all (λ d. d < n) n (numbers 0 n) ds (length-numbers 0 n) h (numbers-below 0 n n (omega arith))) in
+    let places : AllByRecursion (λ d. d < n) (unranked (numbers 0 n) ds) = subst (AllByRecursion (λ d. d < n)) (sym (unranked-chosen (numbers 0 n) ds)) (chosen_all (λ d. d < n) n (numbers 0 n) ds (length-numbers 0 n) h (recursion_from_All (λ d. d < n) (numbers 0 n) (numbers-below 0 n n (omega arith)))) in
     read_places pool (unranked (numbers 0 n) ds) v places c
     ∙ ap (map (λ d. get_or pool d 0)) (unranked-chosen (numbers 0 n) ds)
     ∙ map-chosen (λ d. get_or pool d 0) 0 (numbers 0 n) ds

@@ -1,6 +1,5 @@
 -- Shuffle forms of labelled trees, and the trees of shuffle trees.
-use Rattle.std.proofs.Common.{◌≡◌, ℕ, ◌<◌, ◌≤◌, refl, sym, ap, ◌∙◌, subst, arith, List, ⊎_elim}
-use Rattle.operad_ideals.proofs.SortedLists.{tested}
+use Rattle.std.proofs.Common.{◌≡◌, ℕ, ◌<◌, ◌≤◌, refl, sym, ap, ◌∙◌, subst, arith, List}
 use Rattle.labelled_trees.specs.Trees.{Tree, Row, leaf, node, none, more}
 use Rattle.labelled_trees.specs.Leaves.{occurs}
 use Rattle.labelled_trees.specs.Labelled.{Fits, FitsRow}
@@ -9,6 +8,7 @@ use Rattle.operad_ideals.specs.Spelling as spelling
 use Rattle.operad_ideals.specs.Sorting.{spelled, spelled_sign}
 use Rattle.operad_ideals.proofs.Spellings.{one_spelling, is_sorted_spelled}
 use Rattle.shuffle_insertions.specs.ShuffleTrees.{IsShuffle, IsShuffleTree}
+use Rattle.shuffle_insertions.proofs.LabelSums.{once_of}
 use Rattle.shuffle_transfer.specs.Labels.{inputs_of, shuffle_form, symmetric_tree}
 use Rattle.shuffle_transfer.proofs.Forth as passage
 use Rattle.shuffle_transfer.proofs.Spelling.{back_of, occurs_of, spelled_is}
@@ -34,12 +34,6 @@ mutual
 pub form_shuffle : (gens : List Generator) (n : ℕ) (t : Tree ℕ) → IsLabelled gens n t → IsShuffleTree (inputs_of (over gens)) n (shuffle_form (over gens) t)
 form_shuffle gens n t h = passage.forth (over gens) n t record { fits = h.fits; each = h.each; only = h.only }
 
-once_form : (n : ℕ) (s : Tree ℕ) → IsShuffle n s → (i : ℕ) → occurs i s ≤ 1
-once_form n s h i = ⊎_elim
-    (λ z. let o = h.only i z in let e = h.each i o.0 o.1 in omega (arith, e))
-    (λ z. omega (arith, z))
-    (tested 0 (occurs i s))
-
 -- where its leaf numbers are below 256, it is valid
 pub form_valid : (gens : List Generator) (n : ℕ) (t : Tree ℕ) → IsLabelled gens n t → ((k : ℕ) → 0 < occurs k (shuffle_form (over gens) t) → k < 256) → IsValid (shuffle_form (over gens) t)
 form_valid gens n t h small =
@@ -48,7 +42,7 @@ form_valid gens n t h small =
     record {
       wide = wide_fits (inputs_of (over gens)) (shuffle_form (over gens) t) k.fits;
       rising = s.rising;
-      once = once_form n (shuffle_form (over gens) t) s;
+      once = once_of n (shuffle_form (over gens) t) s;
       only = λ i o. ((s.only i o).0, small i o);
     }
 

@@ -1,8 +1,7 @@
 -- The transfer theorem for what is answered.
-use Rattle.std.proofs.Common.{◌≡◌, ℕ, suc, ◌*◌, ◌-◌, ◌%◌, List, [], ◌∷◌, refl, sym, ap, ap₂, ◌∙◌, subst, arith, inl, inr}
+use Rattle.std.proofs.Common.{◌≡◌, ℕ, suc, ◌*◌, ◌-◌, ◌%◌, List, [], ◌∷◌, refl, sym, ap, ap₂, ◌∙◌, subst, arith}
 use Rattle.std.specs.List.{AllByRecursion}
 use Rattle.std.proofs.lemmas.List.Elements.{recursion_from_All}
-use Rattle.modular_sums.specs.Lists.{Mem}
 use Rattle.modular_sums.proofs.Lists.{mem_of_map}
 use Rattle.modular_sums.specs.Sums.{Same, moved, AllTerms, coef}
 use Rattle.modular_sums.proofs.Sums.{Member-same}
@@ -14,6 +13,7 @@ use Rattle.operad_ideals.specs.Spelling.{IsSorted}
 use Rattle.operad_ideals.specs.Sorting.{spelled_sign}
 use Rattle.operad_ideals.specs.SpelledSums.{spelled_sum}
 use Rattle.operad_ideals.specs.Presentations.{Relation, Presentation, residue_of, parts, arity_of, IsSound}
+use Rattle.operad_ideals.proofs.SortedLists.{every_in}
 use Rattle.operad_ideals.proofs.Spellings.{sorted_spelling}
 use Rattle.shuffle_insertions.specs.Frames.{insert}
 use Rattle.shuffle_transfer.specs.Labels.{shuffle_form}
@@ -64,16 +64,11 @@ transfer_of_answers q gens rels n e f answer sound h c answers = (
     p : Presentation
     p = presentation_of q gens rels
 
-    each : (rels : List (List Term)) → AllByRecursion (λ rel. IsElement gens (terms_of rel)) rels → (rel : List Term) → Mem rel rels → IsElement gens (terms_of rel)
-    each [] h rel m = absurd m
-    each (x ∷ xs) h rel (inl e) = subst (λ r. IsElement gens (terms_of r)) (sym e) h.0
-    each (x ∷ xs) h rel (inr m) = each xs h.1 rel m
-
     is_sound : IsSound (presentation_of q gens rels)
     is_sound r m =
         let k = mem_of_map relation_of r rels m in
         subst (λ (s : Relation). AllTerms s.terms (Rattle.labelled_trees.specs.Labelled.IsLabelled (arity_of (presentation_of q gens rels)) s.arity)) (sym k.2)
-        (each rels (recursion_from_All (λ rel. IsElement gens (terms_of rel)) rels sound) k.0 k.1)
+        (every_in (λ (rel : List Term). IsElement gens (terms_of rel)) rels k.0 (recursion_from_All (λ (rel : List Term). IsElement gens (terms_of rel)) rels sound) k.1)
 
     values : (i : RelationInsertion (presentation_of q gens rels) n) → Same tree_discrete (q - 1) (inserted_answer (presentation_of q gens rels) n answer i) (inserted_relation (presentation_of q gens rels) n i)
     values i =

@@ -2,14 +2,17 @@
 use Rattle.std.proofs.Common.{◌≡◌, inl, inr, ℕ, zero, suc, ◌+◌, ◌<◌, ◌≤◌, Bool, true, false, cond, List, [], ◌∷◌, ◌++◌, length, map, take, drop, refl, sym, ap, ap₂, ◌∙◌, subst, arith, lt-ltb, le-ltb, replicate, nat_lt, length-append}
 use Rattle.std.specs.Prelude.{flat_map}
 use Rattle.std.specs.List.{AllByRecursion}
+use Rattle.std.proofs.lemmas.List.{length-replicate}
 use Rattle.modular_sums.specs.Lists.{Mem, Rises}
 use Rattle.operad_ideals.specs.Parts.{Kind, symmetric, skew, free, Part, total}
+use Rattle.operad_ideals.proofs.SortedLists.{every_weaker, every_unmap}
 use Rattle.shuffle_insertions.specs.Listing.{upto}
 use Rattle.shuffle_insertions.proofs.Upto.{upto_rises, upto_mem}
 use Rattle.shuffle_insertions.proofs.Counting.{length-upto}
 use Rattle.shuffle_transfer.specs.Orderings.{Pick, behind, picks, permutations, orderings}
 use Rattle.shuffle_transfer.specs.Labels.{rises, part_rises, parts_rise, rising_words, words_of}
 use Rattle.shuffle_transfer.proofs.Permutes.{permutes_length, permutations_mem}
+use Rattle.shuffle_transfer.proofs.Ranks.{every_mem}
 use Rattle.shuffle_passage.specs.Words.{is_rising, part_bounds, bounds_of, endings}
 use Rattle.shuffle_passage.proofs.WordLists.{each_from, bounded_words, length-bounded_words}
 
@@ -98,10 +101,6 @@ abbrev CutPicks : ℕ → ℕ → List Pick → Type 0
 CutPicks n i [] = Unit {0}
 CutPicks n i (p ∷ l) = Cut p.first i p.others × Rises p.others × (length p.others ≡ n) × CutPicks n (suc i) l
 
-above : (x : ℕ) (l : List ℕ) → ((u : ℕ) → Mem u l → x < u) → AllByRecursion (λ y. x < y) l
-above x [] h = tt
-above x (y ∷ l) h = (h y (inl refl), above x l (λ u m. h u (inr m)))
-
 abbrev Above : ℕ → List Pick → Type 0
 Above x l = AllByRecursion (λ (p : Pick). (x < p.first) × ((u : ℕ) → Mem u p.others → x < u)) l
 
@@ -128,7 +127,7 @@ cut_picks (x ∷ []) (suc n) h e = absurd (omega (arith, e))
 cut_picks (x ∷ (y ∷ l)) zero h e = absurd (omega (arith, e))
 cut_picks (x ∷ (y ∷ l)) (suc n) h e =
     let k : length (y ∷ l) ≡ suc n = omega (arith, e) in
-    (above x (y ∷ l) h.0, h.1, k, cut_behind x n 0 (picks (y ∷ l)) (above_picks x (y ∷ l) h.0) (cut_picks (y ∷ l) n h.1 k))
+    (every_mem (λ u. x < u) (y ∷ l) h.0, h.1, k, cut_behind x n 0 (picks (y ∷ l)) (above_picks x (y ∷ l) h.0) (cut_picks (y ∷ l) n h.1 k))
 
 -- ---- the words that keep the bounds, among all permutations
 
@@ -147,11 +146,8 @@ module _ (n : ℕ) (bs : List Bool) (ih : (x a : ℕ) (l : List ℕ) → Rises l
 
   from_cut : (x a i : ℕ) (l : List Pick) → CutPicks n i l → Cut x a (map (λ p. p.first) l)
       → keeping (true ∷ bs) x (flat_map beginning l) ≡ each_from (bounded_words bs) (i + a) (drop a l)
-  from_cut x zero i l c k = all_kept true x i l c (kept l k) ∙ (let e : i ≡ i + 0 = omega arith in ap (λ j. each_from (bounded_words bs) j l) e)
-    where
-      kept : (l : List Pick) → AllByRecursion (λ y. x < y) (map (λ (p : Pick). p.first) l) → AllByRecursion (λ (p : Pick). nat_lt x p.first ≡ true) l
-      kept [] h = tt
-      kept (p ∷ l) h = (lt-ltb x p.first h.0, kept l h.1)
+  from_cut x zero i l c k = all_kept true x i l c
+      (every_weaker (λ (p : Pick). x < p.first) (λ (p : Pick). nat_lt x p.first ≡ true) l (λ p h. lt-ltb x p.first h) (every_unmap (λ (p : Pick). p.first) (λ y. x < y) l k)) ∙ (let e : i ≡ i + 0 = omega arith in ap (λ j. each_from (bounded_words bs) j l) e)
   from_cut x (suc a) i [] c k = absurd k
   from_cut x (suc a) i (p ∷ l) c k =
       keeping-append (true ∷ bs) x (beginning p) (flat_map beginning l)
@@ -172,15 +168,7 @@ bounded [] x a l r e c = refl
 bounded (true ∷ bs) x a l r e c =
     from_cut (length bs) bs (bounded bs) x a 0 (picks l) (cut_picks l (length bs) r e) (subst (Cut x a) (sym (firsts-picks l)) c)
     ∙ (let z : 0 + a ≡ a = omega arith in ap (λ j. each_from (bounded_words bs) j (drop a (picks l))) z)
-bounded (false ∷ bs) x a l r e c = all_kept (length bs) bs (bounded bs) false x 0 (picks l) (cut_picks l (length bs) r e) (all (picks l))
-  where
-    all : (l : List Pick) → AllByRecursion (λ (p : Pick). true ≡ true) l
-    all [] = tt
-    all (p ∷ l) = (refl, all l)
-
-length-replicate : (n : ℕ) (b : Bool) → length (replicate n b) ≡ n
-length-replicate zero b = refl
-length-replicate (suc n) b = ap suc (length-replicate n b)
+bounded (false ∷ bs) x a l r e c = all_kept (length bs) bs (bounded bs) false x 0 (picks l) (cut_picks l (length bs) r e) (every_mem (λ (p : Pick). true ≡ true) (picks l) (λ p m. refl))
 
 length-part : (kind : Kind) (n : ℕ) → length (part_bounds kind n) ≡ n
 length-part kind zero = refl
@@ -200,7 +188,7 @@ pub words_are : (ps : List Part) → words_of ps ≡ bounded_words (bounds_of ps
 words_are ps =
     rising_keeping ps (orderings (total ps)) (λ w m. permutes_length (upto (total ps)) w (permutations_mem (total ps) (upto (total ps)) w (length-upto (total ps)) m) ∙ length-upto (total ps))
     ∙ ap (λ n. keeping (bounds_of ps) 0 (permutations n (upto (total ps)))) (sym (length-bounds ps))
-    ∙ bounded (bounds_of ps) 0 0 (upto (total ps)) (upto_rises (total ps)) (length-upto (total ps) ∙ sym (length-bounds ps)) (above 0 (upto (total ps)) (λ u m. (upto_mem (total ps) u m).0))
+    ∙ bounded (bounds_of ps) 0 0 (upto (total ps)) (upto_rises (total ps)) (length-upto (total ps) ∙ sym (length-bounds ps)) (every_mem (λ u. 0 < u) (upto (total ps)) (λ u m. (upto_mem (total ps) u m).0))
 
 -- There are so many.
 pub count_words : (ps : List Part) → length (words_of ps) ≡ endings (bounds_of ps) 0

@@ -1,6 +1,6 @@
-use Rattle.std.proofs.Common.{◌≡◌, ◌∙◌, ◌++◌, ◌+◌, ◌≤◌, ℕ, List, length, map, take, drop, sym, ap, ap₂, arith, subst, rules, length-drop, []}
+use Rattle.std.proofs.Common.{◌≡◌, ◌∙◌, ◌++◌, ◌+◌, ◌≤◌, ℕ, List, length, map, take, drop, sym, ap, ap₂, arith, subst, rules}
 use Rattle.std.proofs.Math.Seq.{take-append_seam}
-use Rattle.std.proofs.lemmas.List.{take_all, length-map, nil_from_length}
+use Rattle.std.proofs.lemmas.List.{take_all, length-map, drop_all}
 use Rattle.std.specs.List.{sum_by}
 use Rattle.labelled_trees.specs.Leaves.{occurs}
 use Rattle.labelled_trees.specs.Trees.{row}
@@ -163,11 +163,8 @@ overflow_add-label t c =
     let most = first_label-most gens g c.get.ensures.table (omega (arith, held)) in
     omega (arith, before, c.word_number.ensures, first, most, held, c.get.ensures.table.few)
 
-drop_past : (ts : List program.Tree) (i : ℕ) → length ts ≤ i → drop i ts ≡ []
-drop_past ts i l = nil_from_length (drop i ts) (let d = length-drop i ts in omega (arith, d, l))
-
 no_inputs_left : (parts : ℕ → List math.Part) (items : List program.Tree) (i : ℕ) (s whole : math.Sign) → length items ≤ i → math.times s (plain.spelled_sign_row parts (row (map tree_of (drop i items)))) ≡ whole → s ≡ whole
-no_inputs_left parts items i s whole l e = sym (times-plus s) ∙ ap (λ us. math.times s (plain.spelled_sign_row parts (row (map tree_of us)))) (sym (drop_past items i l)) ∙ e
+no_inputs_left parts items i s whole l e = sym (times-plus s) ∙ ap (λ us. math.times s (plain.spelled_sign_row parts (row (map tree_of us)))) (sym (drop_all i items l)) ∙ e
 
 pub returns-in_ok-vertex-in-Node-clause-sign : goal.returns-in_ok-vertex-in-Node-clause-sign
 returns-in_ok-vertex-in-Node-clause-sign t c =

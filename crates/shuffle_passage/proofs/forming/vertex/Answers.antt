@@ -1,4 +1,4 @@
-use Rattle.std.proofs.Common.{◌≡◌, ◌∙◌, ⊎_elim, ℕ, arith, ◌<◌, ◌∷◌, [], List, map, sym, ap, refl, map-id}
+use Rattle.std.proofs.Common.{◌≡◌, ◌∙◌, ⊎_elim, ℕ, arith, ◌<◌, ◌∷◌, [], List, map, sym, ap, map-id}
 use Rattle.std.proofs.lemmas.Iterator.Consumers.{YieldsList-end}
 use Rattle.std.proofs.lemmas.Iterator.Adapters.{YieldsList-from_vec}
 use Rattle.labelled_trees.specs.Trees.{row, node}
@@ -11,13 +11,10 @@ use Rattle.labelled_trees.specs.declared.Tree as program
 use Rattle.labelled_trees.specs.Leaves.{occurs, one_if}
 use Rattle.std.specs.List.{sum_by}
 use Rattle.shuffle_insertions.specs.ShuffleTrees.{least, least_row}
+use Rattle.std.proofs.lemmas.Simd.{map-map}
 use Rattle.shuffle_passage.specs.Branches.{forms_of}
 use Rattle.shuffle_passage.specs.declared.branch.Branch.{Branch}
 use Rattle.shuffle_passage.proofs.forming.vertex.Goals as goal
-
-trees_are : (bs : List Branch) → map tree_of (map (λ (b : Branch). b.tree) bs) ≡ forms_of bs
-trees_are [] = refl
-trees_are (b ∷ bs) = ap (λ ts. tree_of b.tree ∷ ts) (trees_are bs)
 
 each_small : (k : ℕ) (bs : List Branch) → 0 < sum_by (λ (t : program.Tree). occurs k (tree_of t)) (map (λ (b : Branch). b.tree) bs) → k < 256
 each_small k [] h = absurd (omega (arith, h))
@@ -32,7 +29,7 @@ returns c =
     let all = YieldsList-end (YieldsList-from_vec {s = c.into_iter-branch-iterator.result} c.args.branches.items made.0 (made.1 ∙ c.args.branches.ok.0)) c.loop-branch.yielded _ c.loop-branch.yielded_by _ c.next.new.self c.in-None.is c.next.ensures.steps in
     let same : c.loop-branch.yielded ≡ c.args.branches.items = sym (map-id c.loop-branch.yielded) ∙ all.0 in
     tree_of-node c.args.label c.loop-branch.inputs ∙ ap (λ ts. node c.args.label (row (map tree_of ts))) c.loop-branch.invariant
-    ∙ ap (λ ts. node c.args.label (row ts)) (trees_are c.loop-branch.yielded ∙ ap forms_of same)
+    ∙ ap (λ ts. node c.args.label (row ts)) (map-map tree_of (λ (b : Branch). b.tree) c.loop-branch.yielded ∙ ap forms_of same)
 
 pub invariant_of-result : goal.invariant_of-result
 invariant_of-result c =
@@ -41,7 +38,7 @@ invariant_of-result c =
     let same : c.loop-branch.yielded ≡ c.args.branches.items = sym (map-id c.loop-branch.yielded) ∙ all.0 in
     let tree_is : tree_of (Rattle.labelled_trees.specs.declared.Tree.TheVariants.Node c.args.label c.loop-branch.inputs) ≡ node c.args.label (row (forms_of c.args.branches.items)) =
     tree_of-node c.args.label c.loop-branch.inputs ∙ ap (λ ts. node c.args.label (row (map tree_of ts))) c.loop-branch.invariant
-    ∙ ap (λ ts. node c.args.label (row ts)) (trees_are c.loop-branch.yielded ∙ ap forms_of same) in
+    ∙ ap (λ ts. node c.args.label (row ts)) (map-map tree_of (λ (b : Branch). b.tree) c.loop-branch.yielded ∙ ap forms_of same) in
     record {
       least_is = c.first_least-least.ensures ∙ ap (λ bs. least_row (row (forms_of bs))) c.as_slice.ensures.value ∙ ap least (sym tree_is);
       small = λ k o. each_small k c.loop-branch.yielded

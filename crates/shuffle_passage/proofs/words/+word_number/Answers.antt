@@ -1,6 +1,7 @@
 use Rattle.std.proofs.Common.{◌≡◌, ◌-◌, ◌≤◌, length, rules, take, drop, length-take, length-drop, arith}
+use Rattle.std.proofs.Math.Nat.{mul-le-mul_right}
 use Rattle.shuffle_passage.specs.Words as spec
-use Rattle.shuffle_passage.proofs.LabelNumbers.{few_before, sum_from-most, few_endings, times_mono}
+use Rattle.shuffle_passage.proofs.LabelNumbers.{few_before, sum_from-most, few_endings}
 use Rattle.shuffle_passage.proofs.words.+word_number.Goals as goal
 
 pub overflow_add-result : goal.overflow_add-result
@@ -13,5 +14,5 @@ overflow_add-result t c =
     let few = few_before later c.count-place.result others same (omega (arith, size)) in
     let from = c.first_place.result in
     let sum = sum_from-most (spec.endings later) from (c.count-place.result - from) 120 (λ i. few_endings later i 5 size) in
-    let most = times_mono (c.count-place.result - from) 5 120 (omega (arith, place, size, same)) in
+    let most = mul-le-mul_right {m = c.count-place.result - from} {n = 5} 120 (omega (arith, place, size, same)) in
     omega (arith, c.sum_endings-before.ensures, c.word_number.ensures, few, sum, most)
