@@ -20,7 +20,7 @@ pub use document_writing::{
     print_document, printed_documents_are_read_back, read_documents_are_writable,
 };
 pub use kinds::{DocFail, DocKind, PartFail, ReadDocFail};
-pub use lexing::{Token, tokens, tokens_are_defined, words_are_words};
+pub use lexing::{Token, Word, tokens, tokens_are_defined, words_are_words};
 pub use line_words::is_unknown;
 pub use lines::{counts, lines_are_defined, next_line};
 pub use parts::{end_at, has_mark, mark_at, number_at, word_at};
