@@ -7,8 +7,7 @@ use Rattle.labelled_trees.specs.Trees.{Tree}
 use Rattle.labelled_trees.specs.Leaves.{AllLeaves}
 use Rattle.symmetric_trees.specs.Generators.{IsTable}
 use Rattle.labelled_trees.proofs.Leaves.{by_leaf}
-use Rattle.labelled_trees.proofs.Numbered.{one_number, numbered_of_labelled}
-use Rattle.symmetric_trees.specs.Trees.{Fits, IsLabelled}
+use Rattle.symmetric_trees.specs.Trees.{Fits}
 use Rattle.symmetric_trees.specs.declared.generators.Generator.{Generator}
 use Rattle.presentation_text.specs.declared.lexing.Token.{Token}
 use Rattle.presentation_text.specs.TreeForms.{begins_with}
@@ -19,6 +18,7 @@ use Rattle.presentation_text.specs.Laws.{ElementsAreReadOnce}
 use Rattle.presentation_text.specs.Accepted.{NotMarked}
 use Rattle.presentation_text.proofs.ElementFronts.{coefficient-is, behind-is, sign-is, sign-no-star, nothing-there, something-there, minus-there, minus-behind}
 use Rattle.presentation_text.proofs.TreeTokens.{read_once}
+use Rattle.symmetric_sums.proofs.Expansions.{one_label}
 
 -- a tree that fits the table, without leaf 0
 pub record IsPositive (generators : List Generator) (t : Tree ℕ) : Type 0 where
@@ -100,9 +100,6 @@ module _ (generators : List Generator) (table : IsTable generators) where
 
 -- ---- elements
 
-one_arity : (generators : List Generator) (m n : ℕ) (t : Tree ℕ) → IsLabelled generators m t → IsLabelled generators n t → m ≡ n
-one_arity generators m n t a b = one_number m n t (numbered_of_labelled a) (numbered_of_labelled b)
-
 positive : (generators : List Generator) (n : ℕ) (t : Tree ℕ) → IsElementTree generators n t → IsPositive generators t
 positive generators n t h = record { fits = h.labelled.fits; leaves = by_leaf t (λ i. 0 < i) (λ i l. (h.labelled.only i l).0) }
 
@@ -120,7 +117,7 @@ arity_once generators [] (Some m) (Some n) a b = absurd (omega (arith, a.0))
 arity_once generators (term ∷ terms) (Some m) (Some n) a b =
     let one = All-head (λ (x : Written). IsElementTree generators m x.tree) term terms a.1 in
     let two = All-head (λ (x : Written). IsElementTree generators n x.tree) term terms b.1 in
-    ap Some (one_arity generators m n term.tree one.labelled two.labelled)
+    ap Some (one_label generators m n term.tree one.labelled two.labelled)
 
 pub elements-once : ElementsAreReadOnce
 elements-once generators table line terms others arity other a b =

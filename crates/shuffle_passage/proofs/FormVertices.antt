@@ -2,9 +2,9 @@
 use Rattle.std.proofs.Common.{◌≡◌, ℕ, ◌+◌, ◌<◌, ◌≤◌, List, [], ◌∷◌, length, map, refl, sym, ap, ap₂, ◌∙◌, subst, arith}
 use Rattle.std.proofs.Math.ListN.{length-map}
 use Rattle.std.proofs.lemmas.Simd.{map-map}
-use Rattle.labelled_trees.specs.Trees.{Row, node, none, more, row, inputs}
-use Rattle.labelled_trees.specs.Leaves.{occurs, occurs_row}
-use Rattle.labelled_trees.specs.Labelled.{Fits, FitsRow}
+use Rattle.labelled_trees.specs.Trees.{node, row}
+use Rattle.labelled_trees.specs.Leaves.{occurs}
+use Rattle.labelled_trees.specs.Labelled.{Fits}
 use Rattle.labelled_trees.specs.Meaning.{tree_of}
 use Rattle.labelled_trees.specs.declared.Tree as program
 use Rattle.labelled_trees.specs.declared.Tree.TheVariants.{Node}
@@ -21,7 +21,7 @@ use Rattle.shuffle_transfer.specs.ShuffleForms.{ranks, form_row}
 use Rattle.shuffle_transfer.specs.Labels.{label, shuffle_form}
 use Rattle.shuffle_transfer.proofs.Back.{form_row-row}
 use Rattle.shuffle_transfer.proofs.Forms.{forms_apart}
-use Rattle.shuffle_transfer.proofs.Signs.{least-form}
+use Rattle.shuffle_transfer.proofs.Signs.{keys-form}
 use Rattle.symmetric_trees.specs.Generators.{parts_at, generators_of}
 use Rattle.symmetric_trees.specs.declared.generators.Generator.{Generator}
 use Rattle.shuffle_passage.specs.Words.{bounds_of, first_label, word_number, digits}
@@ -34,10 +34,6 @@ use Rattle.shuffle_passage.proofs.WordTables.{length-generators}
 pub keys_are : (bs : List Branch) → least_leaves bs ≡ map least (forms_of bs)
 keys_are [] = refl
 keys_are (b ∷ bs) = ap₂ (λ k ks. k ∷ ks) b.least_is (keys_are bs)
-
-keys-form : (gens : List Generator) (r : Row ℕ) → FitsRow (arity (parts_at gens)) r → ((i : ℕ) → occurs_row i r ≤ 1) → map least (form_row (label (over gens)) r) ≡ map least_leaf (inputs r)
-keys-form gens none f d = refl
-keys-form gens (more t r) f d = ap₂ (λ k ks. k ∷ ks) (least-form (parts_at gens) (label (over gens)) t f.0 (λ i. omega (arith, d i))) (keys-form gens r f.1 (λ i. omega (arith, d i)))
 
 -- the branches bs are the shuffle forms of the inputs ts of a vertex
 module _ (gens : List Generator) (g : ℕ) (ts : List program.Tree) (bs : List Branch) (fits : Fits (arity (parts_at gens)) (tree_of (Node g ts))) (once : (i : ℕ) → occurs i (tree_of (Node g ts)) ≤ 1)
@@ -82,5 +78,5 @@ module _ (gens : List Generator) (g : ℕ) (ts : List program.Tree) (bs : List B
       → whole ≡ spelled_sign (parts_at gens) (tree_of (Node g ts))
   form_sign before moved whole b m w =
       let r = row (map tree_of ts) in
-      let keys : least_leaves bs ≡ map least_leaf (spelled_row (parts_at gens) r) = leaves_are ∙ keys-form gens r vertex_fits.2 vertex_once ∙ sym (least_leaves-spelled_row (parts_at gens) r) in
+      let keys : least_leaves bs ≡ map least_leaf (spelled_row (parts_at gens) r) = leaves_are ∙ keys-form (parts_at gens) (label (over gens)) r vertex_fits.2 vertex_once ∙ sym (least_leaves-spelled_row (parts_at gens) r) in
       w ∙ ap₂ times b (m ∙ ap (parts_sign (parts_at gens g)) keys) ∙ ap (spelled_sign (parts_at gens)) (sym (tree_of-node g ts))

@@ -25,7 +25,7 @@ use Rattle.shuffle_transfer.specs.Labels.{parts_rise, words_of, Letter, letters,
 use Rattle.shuffle_transfer.proofs.Labels.{labels_are_words}
 use Rattle.shuffle_transfer.proofs.Orderings.{ordering_permutes}
 use Rattle.shuffle_transfer.proofs.Permutes.{Permutes, done, begin, Picked, now, later, pick_mem, rest_rises}
-use Rattle.shuffle_transfer.proofs.Ranks.{every_mem, below_less_mem, ranks_ordering, ordering_apart, items_all}
+use Rattle.shuffle_transfer.proofs.Ranks.{every_mem, below_cons, below_mono, below_less_mem, ranks_ordering, ordering_apart, items_all}
 use Rattle.shuffle_transfer.proofs.Words.{parts_same, sorted_rises, sorted_ordering}
 use Rattle.shuffle_passage.specs.Words.{bounds_of, first_place, sum_from, endings, word_number, digits, Place, find_place, digits_of, without, chosen, first_label}
 use Rattle.shuffle_passage.proofs.WordLists.{AreDigits, word_number-below, word_at}
@@ -75,12 +75,6 @@ letter_number s (ps ∷ gens) (suc g) k d l h =
 
 -- ---- digits
 
-below_mono : (k l : ℕ) (ks : List ℕ) → k ≤ l → below k ks ≤ below l ks
-below_mono k l [] h = omega arith
-below_mono k l (m ∷ ks) h = ⊎_elim
-    (λ a. omega (arith, below_less k m ks a, below_less l m ks (omega (arith, a, h)), below_mono k l ks h))
-    (λ a. ⊎_elim (λ b. omega (arith, below_more k m ks a, below_less l m ks b, below_mono k l ks h)) (λ b. omega (arith, below_more k m ks a, below_more l m ks b, below_mono k l ks h)) (tested m l)) (tested m k)
-
 pub length-digits : (ks : List ℕ) → length (digits ks) ≡ length ks
 length-digits [] = refl
 length-digits (k ∷ ks) = ap suc (length-digits ks)
@@ -110,11 +104,6 @@ word_digits ps w e h =
     subst (λ a. AreDigits (bounds_of ps) a (digits w)) (below_zero w) (keeps_digits (bounds_of ps) 0 w (e ∙ sym (length-bounds ps)) (sym (parts_keep ps 0 w e) ∙ h))
 
 -- ---- a permutation is chosen by its digits
-
-below_cons : (k x : ℕ) (ks ls : List ℕ) → below k ks ≡ below k ls → below k (x ∷ ks) ≡ below k (x ∷ ls)
-below_cons k x ks ls e = ⊎_elim
-    (λ l. below_less k x ks l ∙ ap suc e ∙ sym (below_less k x ls l))
-    (λ l. below_more k x ks l ∙ e ∙ sym (below_more k x ls l)) (tested x k)
 
 below_exchange : (k x y : ℕ) (ks : List ℕ) → below k (x ∷ (y ∷ ks)) ≡ below k (y ∷ (x ∷ ks))
 below_exchange k x y ks = ⊎_elim

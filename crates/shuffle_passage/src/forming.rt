@@ -35,7 +35,7 @@ fn vertex(alloc: Global, label: u16, branches: Vec<Branch>) -> Result<Branch, Al
     ensures { IfOk result (λ branch. tree_of branch.tree ≡ node label (row (forms_of branches.items))) }
 {
     let least = first_least(branches.as_slice());
-    let mut inputs = Items::new(alloc);
+    let mut inputs = Items::from_vec(Vec::with_capacity(alloc, branches.len())?);
     for branch in branches {
         inputs.push(branch.tree)?;
     }

@@ -27,7 +27,7 @@ fn spell_all(
     requires fit { All (Fits (inputs_of (over table.now))) trees.now }
     ensures { IfOk result (λ made. map tree_of made ≡ map (symmetric_tree (over table.now)) trees.now) }
 {
-    let mut made = Items::new(alloc);
+    let mut made = Items::from_vec(Vec::with_capacity(alloc, trees.len())?);
     for tree in trees {
         made.push(spell_back(alloc, table, words, tree.shape())?)?;
     }

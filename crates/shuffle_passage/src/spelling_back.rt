@@ -28,7 +28,7 @@ fn arranged(
     requires held { number < spec.endings bounds.now 0 }
     ensures { IfOk result (λ made. made ≡ spec.chosen (Tree.Leaf 0) inputs (spec.digits_of bounds.now 0 number)) }
 {
-    let mut made = Items::new(alloc);
+    let mut made = Items::from_vec(Vec::with_capacity(alloc, bounds.len())?);
     let mut rest = inputs;
     let mut left = bounds;
     let mut below = 0;
@@ -57,7 +57,7 @@ pub fn spell_back(
     match tree {
         Shape::Leaf(number) => Ok(Tree::Leaf(*number)),
         Shape::Node(label, inputs) => {
-            let mut made = Items::new(alloc);
+            let mut made = Items::from_vec(Vec::with_capacity(alloc, inputs.len())?);
             for input in inputs.as_slice() {
                 made.push(spell_back(alloc, table, words, input)?)?;
             }

@@ -54,7 +54,7 @@ below_put key k x (y ∷ ys) = ⊎_elim
         (λ b. below_more k (key x) (map key ys) b ∙ sym (below_more k (key x) (key y ∷ map key ys) b ∙ below_more k (key y) (map key ys) a)) (tested (key x) k))
         (tested (key y) k)
 
-below_cons : (k x : ℕ) (ks ls : List ℕ) → below k ks ≡ below k ls → below k (x ∷ ks) ≡ below k (x ∷ ls)
+pub below_cons : (k x : ℕ) (ks ls : List ℕ) → below k ks ≡ below k ls → below k (x ∷ ks) ≡ below k (x ∷ ls)
 below_cons k x ks ls e = ⊎_elim
     (λ l. below_less k x ks l ∙ ap suc e ∙ sym (below_less k x ls l))
     (λ l. below_more k x ks l ∙ e ∙ sym (below_more k x ls l)) (tested x k)
@@ -73,7 +73,7 @@ below_lt k [] m = absurd m
 below_lt k (x ∷ ks) (inl e) = omega (arith, below_more k x ks (omega (arith, e)), below_le k ks)
 below_lt k (x ∷ ks) (inr m) = ⊎_elim (λ l. omega (arith, below_less k x ks l, below_lt k ks m)) (λ l. omega (arith, below_more k x ks l, below_lt k ks m)) (tested x k)
 
-below_mono : (k l : ℕ) (ks : List ℕ) → k < l → below k ks ≤ below l ks
+pub below_mono : (k l : ℕ) (ks : List ℕ) → k ≤ l → below k ks ≤ below l ks
 below_mono k l [] h = omega arith
 below_mono k l (m ∷ ks) h = ⊎_elim
     (λ a. omega (arith, below_less k m ks a, below_less l m ks (omega (arith, a, h)), below_mono k l ks h))
@@ -82,7 +82,7 @@ below_mono k l (m ∷ ks) h = ⊎_elim
 -- a number of the list is counted below a greater one
 pub below_less_mem : (k l : ℕ) (ks : List ℕ) → k < l → Mem k ks → below k ks < below l ks
 below_less_mem k l [] h m = absurd m
-below_less_mem k l (x ∷ ks) h (inl e) = omega (arith, below_more k x ks (omega (arith, e)), below_less l x ks (omega (arith, e, h)), below_mono k l ks h)
+below_less_mem k l (x ∷ ks) h (inl e) = omega (arith, below_more k x ks (omega (arith, e)), below_less l x ks (omega (arith, e, h)), below_mono k l ks (omega (arith, h)))
 below_less_mem k l (x ∷ ks) h (inr m) = ⊎_elim
     (λ a. omega (arith, below_less k x ks a, below_less l x ks (omega (arith, a, h)), below_less_mem k l ks h m))
     (λ a. ⊎_elim (λ b. omega (arith, below_more k x ks a, below_less l x ks b, below_less_mem k l ks h m)) (λ b. omega (arith, below_more k x ks a, below_more l x ks b, below_less_mem k l ks h m)) (tested x l)) (tested x k)

@@ -62,7 +62,7 @@ module _ (ps : ℕ → List Part) (label : ℕ → List ℕ → ℕ) where
   pub least-form : (t : Tree ℕ) → Fits (arity ps) t → ((i : ℕ) → occurs i t ≤ 1) → least (form label t) ≡ least_leaf t
   least-form t f d = sym (least_leaf-is (arity ps) t (form label t) f (form_rises label (arity ps) t f d) (λ i. sym (occurs-form label i t)))
 
-  keys-form : (r : Row ℕ) → FitsRow (arity ps) r → ((i : ℕ) → occurs_row i r ≤ 1) → map least (form_row label r) ≡ map least_leaf (inputs r)
+  pub keys-form : (r : Row ℕ) → FitsRow (arity ps) r → ((i : ℕ) → occurs_row i r ≤ 1) → map least (form_row label r) ≡ map least_leaf (inputs r)
   keys-form none f d = refl
   keys-form (more t r) f d = ap₂ (λ k ks. k ∷ ks) (least-form t f.0 (λ i. omega (arith, d i))) (keys-form r f.1 (λ i. omega (arith, d i)))
 

@@ -21,7 +21,7 @@ fn with_inputs(alloc: Global, tree: &Shape, inputs: &[STree]) -> Result<Shape, A
             Ok(input.shape().copy(alloc)?)
         }
         Shape::Node(label, children) => {
-            let mut made = Items::new(alloc);
+            let mut made = Items::from_vec(Vec::with_capacity(alloc, children.len())?);
             for child in children.as_slice() {
                 made.push(with_inputs(alloc, child, inputs)?)?;
             }
@@ -49,7 +49,7 @@ fn filled(
             }
         }
         Shape::Node(label, children) => {
-            let mut made = Items::new(alloc);
+            let mut made = Items::from_vec(Vec::with_capacity(alloc, children.len())?);
             for child in children.as_slice() {
                 made.push(filled(alloc, child, tree, inputs)?)?;
             }

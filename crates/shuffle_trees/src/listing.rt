@@ -200,7 +200,7 @@ fn as_trees(alloc: Global, shapes: Vec<Shape>) -> Result<Items<STree>, AllocErro
     requires { AllByRecursion IsValid (map tree_of shapes.items) }
     ensures { IfOk result (λ trees. trees ≡ map tree_of shapes.items) }
 {
-    let mut trees = Items::new(alloc);
+    let mut trees = Items::from_vec(Vec::with_capacity(alloc, shapes.len())?);
     for shape in shapes {
         trees.push(STree::from_valid(shape))?;
     }

@@ -10,10 +10,10 @@ use Rattle.std.proofs.lemmas.List.Elements.{All-from_recursion, recursion_from_A
 use Rattle.modular_sums.specs.Sums.{moved, AllTerms}
 use Rattle.modular_sums.proofs.Images.{moved-append}
 use Rattle.labelled_trees.specs.Trees.{Tree}
-use Rattle.labelled_trees.specs.Leaves.{leaf_count, AllLeaves}
+use Rattle.labelled_trees.specs.Leaves.{AllLeaves}
 use Rattle.labelled_trees.specs.Meaning.{tree_of}
-use Rattle.labelled_trees.proofs.Counts.{is_label, is_label-one, sum_leaves-is_label, labels_upto-each}
-use Rattle.labelled_trees.proofs.Leaves.{by_leaf, sum_leaves-same}
+use Rattle.labelled_trees.proofs.Counts.{leaf_count-numbered}
+use Rattle.labelled_trees.proofs.Leaves.{by_leaf}
 use Rattle.operad_ideals.specs.Laws.{arity}
 use Rattle.symmetric_trees.specs.Trees.{IsLabelled}
 use Rattle.symmetric_trees.specs.declared.generators.Generator.{Generator}
@@ -117,11 +117,6 @@ labels_so_far p generators instance done terms None n h same = λ k d l. let z =
 labels_so_far p generators instance done terms (Some m) n h same = subst (λ j. All (λ (t : Term). IsLabelled generators j (in_place instance (tree_of t.tree))) done) (same m refl) (h.some m refl).1
 
 -- ---- arities
-
-pub leaf_count-numbered : (n : ℕ) (t : Tree ℕ) → IsNumbered n t → leaf_count t ≡ n
-leaf_count-numbered n t h =
-    let ones = sum_leaves-same t (λ x. 1) (is_label n) (by_leaf t (λ x. 1 ≡ is_label n x) (λ i o. let w = h.only i o in sym (is_label-one n i w.0 w.1))) in
-    ones ∙ sum_leaves-is_label n t ∙ labels_upto-each n t h.each
 
 -- the arity of a sum with terms
 pub element_arity-is : (terms : List Term) (m : ℕ) → ArityIs terms (Some m) → element_arity (terms_of terms) ≡ m

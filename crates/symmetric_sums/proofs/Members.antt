@@ -37,7 +37,8 @@ use Rattle.symmetric_sums.specs.declared.term.Term.{Term}
 use Rattle.symmetric_sums.specs.declared.instance.Rule as program_rule
 use Rattle.symmetric_sums.specs.declared.instance.Rule.TheVariants.{Rel, Swap, Step}
 use Rattle.symmetric_sums.specs.declared.instance.Instance.{Instance}
-use Rattle.symmetric_sums.proofs.Expansions.{without_zeros-zero, without_zeros-some, leaf_count-numbered}
+use Rattle.labelled_trees.proofs.Counts.{leaf_count-numbered}
+use Rattle.symmetric_sums.proofs.Expansions.{without_zeros-zero, without_zeros-some}
 use Rattle.symmetric_sums.proofs.SymmetryRules.{exchange-in_part, numbered-numbered}
 use Rattle.symmetric_sums.proofs.PlacedIdeals.{placed_member}
 

@@ -212,7 +212,7 @@ impl Sum {
         let prime = field.prime();
         prove!(coef < prime);
         let arity = self.arity();
-        let mut terms = Items::new(alloc);
+        let mut terms = Items::from_vec(Vec::with_capacity(alloc, self.terms().len())?);
         for term in self.terms() {
             terms.push(Term {
                 coef: field.mul(coef, term.coef),
@@ -258,7 +258,7 @@ fn difference(
 fn copied(alloc: Global, terms: &[Term]) -> Result<Items<Term>, AllocError>
     ensures { IfOk result (λ copies. copies ≡ terms.now) }
 {
-    let mut copies = Items::new(alloc);
+    let mut copies = Items::from_vec(Vec::with_capacity(alloc, terms.len())?);
     for term in terms {
         copies.push(Term {
             coef: term.coef,

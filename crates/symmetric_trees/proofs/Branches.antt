@@ -1,6 +1,7 @@
 -- Spelled inputs of a vertex, with their least leaves.
-use Rattle.std.proofs.Common.{◌≡◌, ℕ, ◌≤◌, List, [], ◌∷◌, map, refl, ap, ap₂, sym, ◌∙◌, subst}
+use Rattle.std.proofs.Common.{◌≡◌, ℕ, ◌≤◌, List, [], ◌∷◌, drop, length, map, refl, ap, ap₂, sym, ◌∙◌, subst}
 use Rattle.std.specs.List.{AllByRecursion}
+use Rattle.std.proofs.lemmas.List.{drop_all}
 use Rattle.labelled_trees.specs.Trees.{row}
 use Rattle.labelled_trees.specs.Leaves.{occurs}
 use Rattle.labelled_trees.specs.Meaning.{tree_of}
@@ -10,6 +11,7 @@ use Rattle.labelled_trees.proofs.ProgramTrees.{tree_of-node}
 use Rattle.operad_ideals.specs.Parts.{Part, Sign, times}
 use Rattle.operad_ideals.specs.Spelling.{least_leaf}
 use Rattle.operad_ideals.specs.Sorting as plain
+use Rattle.operad_ideals.proofs.Signs.{times-plus}
 use Rattle.operad_ideals.proofs.SortedLists.{Apart, apart-from_map}
 use Rattle.operad_ideals.proofs.SortedParts.{map-sort_parts}
 use Rattle.operad_ideals.proofs.Spellings.{spelled_row-row, inputs_apart}
@@ -59,3 +61,9 @@ pub vertex-sign : (generators : List Generator) (g : ℕ) (ts : List program.Tre
     → moved ≡ plain.parts_sign parts (least_leaves bs) → whole ≡ times before moved → whole ≡ plain.spelled_sign (parts_at generators) (tree_of (Node g ts))
 vertex-sign generators g ts bs parts before moved whole p e b m w =
     w ∙ ap₂ times b (m ∙ ap₂ plain.parts_sign (sym p) (keys_are bs ∙ ap (map least_leaf) (row_is (parts_at generators) ts bs e))) ∙ ap (plain.spelled_sign (parts_at generators)) (sym (tree_of-node g ts))
+
+-- the sign over all inputs, where none is left
+pub no_inputs_left : (parts : ℕ → List Part) (items : List program.Tree) (i : ℕ) (s whole : Sign) → length items ≤ i
+    → times s (plain.spelled_sign_row parts (row (map tree_of (drop i items)))) ≡ whole → s ≡ whole
+no_inputs_left parts items i s whole l e =
+    sym (times-plus s) ∙ ap (λ us. times s (plain.spelled_sign_row parts (row (map tree_of us)))) (sym (drop_all i items l)) ∙ e

@@ -1,10 +1,11 @@
 -- Facts of tables of generators.
-use Rattle.std.proofs.Common.{◌≡◌, ℕ, zero, suc, map, refl, ◌+◌, ◌<◌, ◌≤◌, List, [], ◌∷◌, ◌++◌, length, get_or, Some, slice_get, ◌⊎◌, ⊎_elim, ap, ◌∙◌, sym, subst, arith, length-append}
+use Rattle.std.proofs.Common.{◌≡◌, ℕ, zero, suc, map, refl, ◌+◌, ◌<◌, ◌≤◌, List, [], ◌∷◌, ◌++◌, length, get_or, take, Some, slice_get, ◌⊎◌, ⊎_elim, ap, ◌∙◌, sym, subst, arith, length-append}
 use Rattle.std.specs.List.{Any, HoldsAt, sum_by}
-use Rattle.std.proofs.lemmas.List.Sums.{sum_by-cons}
+use Rattle.std.proofs.lemmas.List.Sums.{sum_by-cons, sum_by_more, sum_by-take-le}
 use Rattle.operad_ideals.specs.Parts.{total}
 use Rattle.operad_ideals.specs.Laws.{arity}
 use Rattle.symmetric_trees.specs.declared.generators.Part.{Part}
+use Rattle.symmetric_trees.specs.declared.generators.PartKind.TheVariants.{Sym}
 use Rattle.std.proofs.lemmas.List.Elements.{All-push}
 use Rattle.std.proofs.lemmas.List.Quantifiers.{all_pairs_push}
 use Rattle.std.proofs.lemmas.List.{get_or_default}
@@ -78,3 +79,11 @@ not_past n i a l past = grind arith
 -- what has inputs is in the table
 pub held_if_wide : (generators : List Generator) (i : ℕ) → 2 ≤ arity (parts_at generators) i → i < length generators
 held_if_wide generators i l = not_past (length generators) i (arity (parts_at generators) i) l (λ p. arity-past generators i p)
+
+-- a part ends within all of them
+pub part_within : (parts : List Part) (i from len : ℕ) → i < length parts → from ≡ sum_by (λ (part : Part). part.size) (take i parts) → sum_by (λ (part : Part). part.size) parts ≡ len
+    → from + (get_or parts i (record { kind = Sym; size = 0 })).size ≤ len
+part_within parts i from len l place all =
+    let more = sum_by_more (λ (part : Part). part.size) parts i (record { kind = Sym; size = 0 }) l in
+    let least = sum_by-take-le (λ (part : Part). part.size) parts (i + 1) in
+    omega (arith, more, least, place, all)

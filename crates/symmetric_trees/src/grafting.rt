@@ -18,7 +18,7 @@ pub fn graft(alloc: Global, tree: &Tree, inputs: &[Tree]) -> Result<Tree, AllocE
     match tree {
         Tree::Leaf(number) => inputs[*number as usize - 1].copy(alloc),
         Tree::Node(generator, below) => {
-            let mut grown = Items::new(alloc);
+            let mut grown = Items::from_vec(Vec::with_capacity(alloc, below.len())?);
             for branch in below.as_slice() {
                 grown.push(graft(alloc, branch, inputs)?)?;
             }
@@ -37,7 +37,7 @@ pub fn fill(alloc: Global, context: &Tree, tree: &Tree, inputs: &[Tree]) -> Resu
         Tree::Leaf(0) => graft(alloc, tree, inputs),
         Tree::Leaf(number) => Ok(Tree::Leaf(*number)),
         Tree::Node(generator, below) => {
-            let mut filled = Items::new(alloc);
+            let mut filled = Items::from_vec(Vec::with_capacity(alloc, below.len())?);
             for branch in below.as_slice() {
                 filled.push(fill(alloc, branch, tree, inputs)?)?;
             }

@@ -109,7 +109,7 @@ fn vertex(alloc: Global, generator: u16, branches: Vec<Branch>) -> Result<Branch
     ensures { IfOk result (λ branch. tree_of branch.tree ≡ spec.vertex_of generator (spec.trees_of branches.items)) }
 {
     let mut least = u8::MAX;
-    let mut inputs = Items::new(alloc);
+    let mut inputs = Items::from_vec(Vec::with_capacity(alloc, branches.len())?);
     for branch in branches {
         least = least.min(branch.least);
         inputs.push(branch.tree)?;

@@ -1,6 +1,6 @@
 use Rattle.std.proofs.Common.{◌≡◌, ◌∙◌, ◌++◌, ◌+◌, ◌≤◌, ℕ, List, length, map, take, drop, sym, ap, ap₂, arith, subst, rules}
 use Rattle.std.proofs.Math.Seq.{take-append_seam}
-use Rattle.std.proofs.lemmas.List.{take_all, length-map, drop_all}
+use Rattle.std.proofs.lemmas.List.{take_all, length-map}
 use Rattle.std.specs.List.{sum_by}
 use Rattle.labelled_trees.specs.Leaves.{occurs}
 use Rattle.labelled_trees.specs.Trees.{row}
@@ -12,7 +12,6 @@ use Rattle.labelled_trees.proofs.ProgramTrees.{fits-inputs}
 use Rattle.operad_ideals.specs.Laws.{arity}
 use Rattle.operad_ideals.specs.Parts as math
 use Rattle.operad_ideals.specs.Sorting as plain
-use Rattle.operad_ideals.proofs.Signs.{times-plus}
 use Rattle.operad_ideals.proofs.SortedLists.{Apart, apart-at, sorted-permutation_apart}
 use Rattle.operad_ideals.proofs.SortedParts.{length-sort_parts}
 use Rattle.std.proofs.lemmas.List.Sorted.{answers_always}
@@ -23,6 +22,7 @@ use Rattle.symmetric_trees.specs.Generators.{parts_at, part_of, generators_of}
 use Rattle.symmetric_trees.specs.Spelling.{meaning_of}
 use Rattle.symmetric_trees.specs.Trees.{Fits}
 use Rattle.symmetric_trees.specs.declared.generators.Part.{Part}
+use Rattle.symmetric_trees.proofs.Branches.{no_inputs_left}
 use Rattle.symmetric_trees.proofs.Tables.{parts_at-held, sizes-held, held_if_wide}
 use Rattle.shuffle_passage.specs.Words as spec
 use Rattle.shuffle_passage.specs.Branches.{forms_of, least_leaves}
@@ -162,9 +162,6 @@ overflow_add-label t c =
     let first : c.index-words-generator.result.first ≡ spec.first_label (generators_of gens) g = ap (λ w. w.first) own in
     let most = first_label-most gens g c.get.ensures.table (omega (arith, held)) in
     omega (arith, before, c.word_number.ensures, first, most, held, c.get.ensures.table.few)
-
-no_inputs_left : (parts : ℕ → List math.Part) (items : List program.Tree) (i : ℕ) (s whole : math.Sign) → length items ≤ i → math.times s (plain.spelled_sign_row parts (row (map tree_of (drop i items)))) ≡ whole → s ≡ whole
-no_inputs_left parts items i s whole l e = sym (times-plus s) ∙ ap (λ us. math.times s (plain.spelled_sign_row parts (row (map tree_of us)))) (sym (drop_all i items l)) ∙ e
 
 pub returns-in_ok-vertex-in-Node-clause-sign : goal.returns-in_ok-vertex-in-Node-clause-sign
 returns-in_ok-vertex-in-Node-clause-sign t c =

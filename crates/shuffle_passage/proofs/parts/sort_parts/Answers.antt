@@ -1,24 +1,17 @@
-use Rattle.std.proofs.Common.{◌≡◌, ◌∙◌, ◌+◌, ◌-◌, ◌≤◌, ◌<◌, ◌∷◌, ℕ, List, sym, ap, arith, map, drop, take, length, get_or, subst, refl, length-drop}
+use Rattle.std.proofs.Common.{◌≡◌, ◌∙◌, ◌+◌, ◌-◌, ◌≤◌, ◌∷◌, ℕ, List, sym, ap, arith, map, drop, take, length, get_or, subst, refl, length-drop}
 use Rattle.std.proofs.lemmas.List.{drop_more, map-id}
 use Rattle.operad_ideals.specs.Parts.{times}
 use Rattle.operad_ideals.specs.Sorting.{part_sign, parts_sign}
-use Rattle.std.proofs.lemmas.List.Sums.{sum_by_more, sum_by-take-le}
-use Rattle.std.specs.List.{sum_by}
+use Rattle.std.proofs.lemmas.List.Sums.{sum_by_more}
 use Rattle.operad_ideals.proofs.SortedLists.{Apart, apart-take, apart-drop, apart-at, apart-from_at}
 use Rattle.operad_ideals.proofs.SortedParts.{length-sort_part}
 use Rattle.symmetric_trees.specs.Generators.{kind_of, part_of}
 use Rattle.symmetric_trees.specs.Spelling.{meaning_of}
 use Rattle.symmetric_trees.specs.declared.generators.Part.{Part}
 use Rattle.symmetric_trees.specs.declared.generators.PartKind.TheVariants.{Sym}
+use Rattle.symmetric_trees.proofs.Tables.{part_within}
 use Rattle.symmetric_trees.proofs.SpellingSteps.{length-taken, rest-more, order-more, sign-more}
 use Rattle.shuffle_passage.proofs.parts.sort_parts.Goals as goal
-
-within : (parts : List Part) (i from len : ℕ) → i < length parts → from ≡ sum_by (λ (part : Part). part.size) (take i parts) → sum_by (λ (part : Part). part.size) parts ≡ len
-    → from + (get_or parts i (record { kind = Sym; size = 0 })).size ≤ len
-within parts i from len l place all =
-    let more = sum_by_more (λ (part : Part). part.size) parts i (record { kind = Sym; size = 0 }) l in
-    let least = sum_by-take-le (λ (part : Part). part.size) parts (i + 1) in
-    omega (arith, more, least, place, all)
 
 apart_part : (old cur : List ℕ) (from k : ℕ) → Apart (λ n. n) old → drop from cur ≡ drop from old → Apart (λ n. n) (take k (drop from cur))
 apart_part old cur from k apart same =
@@ -26,7 +19,7 @@ apart_part old cur from k apart same =
 
 pub slice_bounds-sort_part-end : goal.slice_bounds-sort_part-end
 slice_bounds-sort_part-end c =
-    let fits = within c.args.parts.now c.loop-part.part-index c.loop-part.from (length c.args.numbers.now) c.loop-part-test.true c.loop-part.invariant.place c.requires.sizes in
+    let fits = part_within c.args.parts.now c.loop-part.part-index c.loop-part.from (length c.args.numbers.now) c.loop-part-test.true c.loop-part.invariant.place c.requires.sizes in
     omega (arith, fits, c.loop-part.auto.numbers)
 
 pub sort_part-requires : goal.sort_part-requires
@@ -46,7 +39,7 @@ loop-part-preserved c =
     let k = from + part.size - from in
     let e : k ≡ part.size = omega arith in
     let fits : from + part.size ≤ length cur =
-    omega (arith, within parts i from (length old) c.loop-part-test.true c.loop-part.invariant.place c.requires.sizes, c.loop-part.auto.numbers) in
+    omega (arith, part_within parts i from (length old) c.loop-part-test.true c.loop-part.invariant.place c.requires.sizes, c.loop-part.auto.numbers) in
     let first : map part_of (drop i parts) ≡ part_of part ∷ map part_of (drop (i + 1) parts) = ap (map part_of) (drop_more parts i (record { kind = Sym; size = 0 }) c.loop-part-test.true) in
     let len : length new ≡ part.size =
     ap length c.sort_part.ensures.order ∙ length-sort_part (λ n. n) (kind_of part.kind) (take k (drop from cur))

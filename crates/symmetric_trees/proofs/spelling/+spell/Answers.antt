@@ -1,6 +1,6 @@
 use Rattle.std.proofs.Common.{◌≡◌, ◌∙◌, ◌++◌, ◌∷◌, ◌+◌, ◌<◌, ◌≤◌, ℕ, List, length, map, take, drop, sym, ap, arith, refl, subst, rules, length-drop, []}
 use Rattle.std.proofs.Math.Seq.{take-append_seam}
-use Rattle.std.proofs.lemmas.List.{take_all, length-map, nil_from_length}
+use Rattle.std.proofs.lemmas.List.{take_all, length-map}
 use Rattle.std.proofs.lemmas.List.Elements.{All-from_recursion}
 use Rattle.std.proofs.lemmas.List.Sums.{get_or-le-sum_by}
 use Rattle.std.specs.List.{AllByRecursion, sum_by}
@@ -15,7 +15,6 @@ use Rattle.labelled_trees.proofs.ProgramTrees.{fits-inputs, sum_leaves-node}
 use Rattle.operad_ideals.specs.Laws.{arity}
 use Rattle.operad_ideals.specs.Parts as math
 use Rattle.operad_ideals.specs.Sorting as plain
-use Rattle.operad_ideals.proofs.Signs.{times-plus}
 use Rattle.operad_ideals.proofs.SortedLists.{apart-at}
 use Rattle.operad_ideals.proofs.SortedParts.{length-sort_parts}
 use Rattle.symmetric_trees.specs.Generators.{parts_at, part_of}
@@ -24,7 +23,7 @@ use Rattle.symmetric_trees.specs.Trees.{Fits}
 use Rattle.symmetric_trees.specs.declared.branch.Branch.{Branch}
 use Rattle.symmetric_trees.specs.declared.generators.Part.{Part}
 use Rattle.symmetric_trees.proofs.Tables.{parts_at-held, sizes-held, held_if_wide}
-use Rattle.symmetric_trees.proofs.Branches.{vertex-apart, vertex-spelled, vertex-sign}
+use Rattle.symmetric_trees.proofs.Branches.{no_inputs_left, vertex-apart, vertex-spelled, vertex-sign}
 use Rattle.symmetric_trees.proofs.spelling.+spell.Goals as goal
 
 -- an input's leaves are among those of the vertex
@@ -102,12 +101,6 @@ vertex-requires t c =
     let trees = all_trees (parts_at gens) c.as_slice-input-items.result.now ts c.loop-input.input-index bs c.loop-input-test.false c.as_slice-input-items.ensures c.loop-input.invariant.trees in
     let sorted = sorted_is bs c.as_mut_slice.result.now c.sort_parts-moved.new.branches (map part_of c.as_slice.result.now) c.loop-input.branches.len c.as_mut_slice.ensures.value c.loop-input.branches.ok.0 c.sort_parts-moved.ensures.order in
     omega (arith, ap length sorted, length-sort_parts (λ (b : Branch). b.least) (map part_of c.as_slice.result.now) bs, as_many (parts_at gens) ts bs trees, fits.1, fits.0)
-
-drop_past : (ts : List program.Tree) (i : ℕ) → length ts ≤ i → drop i ts ≡ []
-drop_past ts i l = nil_from_length (drop i ts) (let d = length-drop i ts in omega (arith, d, l))
-
-no_inputs_left : (parts : ℕ → List math.Part) (items : List program.Tree) (i : ℕ) (s whole : math.Sign) → length items ≤ i → math.times s (plain.spelled_sign_row parts (row (map tree_of (drop i items)))) ≡ whole → s ≡ whole
-no_inputs_left parts items i s whole l e = sym (times-plus s) ∙ ap (λ us. math.times s (plain.spelled_sign_row parts (row (map tree_of us)))) (sym (drop_past items i l)) ∙ e
 
 pub returns-in_ok-vertex-in-Node-clause-sign : goal.returns-in_ok-vertex-in-Node-clause-sign
 returns-in_ok-vertex-in-Node-clause-sign t c =

@@ -1,7 +1,6 @@
-use Rattle.std.proofs.Common.{◌≡◌, ◌∙◌, ◌+◌, ◌-◌, ◌≤◌, ◌<◌, ◌∷◌, ℕ, List, sym, ap, arith, map, drop, take, length, get_or, subst, refl, length-drop}
+use Rattle.std.proofs.Common.{◌≡◌, ◌∙◌, ◌+◌, ◌-◌, ◌≤◌, ◌∷◌, ℕ, List, sym, ap, arith, map, drop, take, length, get_or, subst, refl, length-drop}
 use Rattle.std.proofs.lemmas.List.{drop_more}
-use Rattle.std.proofs.lemmas.List.Sums.{sum_by_more, sum_by-take-le}
-use Rattle.std.specs.List.{sum_by}
+use Rattle.std.proofs.lemmas.List.Sums.{sum_by_more}
 use Rattle.operad_ideals.proofs.SortedLists.{Apart, apart-take, apart-drop, apart-at, apart-from_at}
 use Rattle.operad_ideals.proofs.SortedParts.{length-sort_part}
 use Rattle.symmetric_trees.specs.Generators.{kind_of, part_of}
@@ -9,15 +8,9 @@ use Rattle.symmetric_trees.specs.Spelling.{meaning_of}
 use Rattle.symmetric_trees.specs.declared.branch.Branch.{Branch}
 use Rattle.symmetric_trees.specs.declared.generators.Part.{Part}
 use Rattle.symmetric_trees.specs.declared.generators.PartKind.TheVariants.{Sym}
+use Rattle.symmetric_trees.proofs.Tables.{part_within}
 use Rattle.symmetric_trees.proofs.SpellingSteps.{length-taken, rest-more, order-more, sign-more}
 use Rattle.symmetric_trees.proofs.spelling.sort_parts.Goals as goal
-
-within : (parts : List Part) (i from len : ℕ) → i < length parts → from ≡ sum_by (λ (part : Part). part.size) (take i parts) → sum_by (λ (part : Part). part.size) parts ≡ len
-    → from + (get_or parts i (record { kind = Sym; size = 0 })).size ≤ len
-within parts i from len l place all =
-    let more = sum_by_more (λ (part : Part). part.size) parts i (record { kind = Sym; size = 0 }) l in
-    let least = sum_by-take-le (λ (part : Part). part.size) parts (i + 1) in
-    omega (arith, more, least, place, all)
 
 apart_part : (old cur : List Branch) (from k : ℕ) → Apart (λ (b : Branch). b.least) old → drop from cur ≡ drop from old → Apart (λ (b : Branch). b.least) (take k (drop from cur))
 apart_part old cur from k apart same =
@@ -25,7 +18,7 @@ apart_part old cur from k apart same =
 
 pub slice_bounds-sort_part-end : goal.slice_bounds-sort_part-end
 slice_bounds-sort_part-end c =
-    let fits = within c.args.parts.now c.loop-part.part-index c.loop-part.from (length c.args.branches.now) c.loop-part-test.true c.loop-part.invariant.place c.requires.sizes in
+    let fits = part_within c.args.parts.now c.loop-part.part-index c.loop-part.from (length c.args.branches.now) c.loop-part-test.true c.loop-part.invariant.place c.requires.sizes in
     omega (arith, fits, c.loop-part.auto.branches)
 
 pub sort_part-requires : goal.sort_part-requires
@@ -45,7 +38,7 @@ loop-part-preserved c =
     let k = from + part.size - from in
     let e : k ≡ part.size = omega arith in
     let fits : from + part.size ≤ length cur =
-    omega (arith, within parts i from (length old) c.loop-part-test.true c.loop-part.invariant.place c.requires.sizes, c.loop-part.auto.branches) in
+    omega (arith, part_within parts i from (length old) c.loop-part-test.true c.loop-part.invariant.place c.requires.sizes, c.loop-part.auto.branches) in
     let first : map part_of (drop i parts) ≡ part_of part ∷ map part_of (drop (i + 1) parts) = ap (map part_of) (drop_more parts i (record { kind = Sym; size = 0 }) c.loop-part-test.true) in
     let len : length new ≡ part.size =
     ap length c.sort_part.ensures.order ∙ length-sort_part (λ (b : Branch). b.least) (kind_of part.kind) (take k (drop from cur))
