@@ -109,7 +109,7 @@ rule_read (Swap g at) h = absurd h
 
 -- ---- inputs
 
-abbrev IsInput : List Generator → Tree ℕ → Type 0
+abbrev pub IsInput : List Generator → Tree ℕ → Type 0
 IsInput generators = IsDemanded generators (any_arity true)
 
 no_feed-mark : HasNoFeed (codes ";")

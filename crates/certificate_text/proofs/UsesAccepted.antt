@@ -6,7 +6,7 @@ use Rattle.labelled_trees.specs.Trees.{Tree}
 use Rattle.symmetric_trees.specs.Generators.{IsTable}
 use Rattle.symmetric_trees.specs.declared.generators.Generator.{Generator}
 use Rattle.symmetric_sums.specs.declared.instance.Rule.{Rule}
-use Rattle.presentation_text.specs.Accepted.{ElementsAreAccepted, IsDemanded, TreesAreAccepted}
+use Rattle.presentation_text.specs.Accepted.{ElementsAreAccepted, TreesAreAccepted}
 use Rattle.presentation_text.specs.ElementForms.{element_in}
 use Rattle.presentation_text.specs.Elements.{element_tokens, said}
 use Rattle.presentation_text.specs.Readings.{end_in, mark_in}
@@ -24,6 +24,7 @@ use Rattle.certificate_text.proofs.TokensRead.{cited_read, cited_there, coeffici
 use Rattle.certificate_text.proofs.UseReading.{no_input}
 use Rattle.presentation_text.proofs.TreesAcceptedTrees.{mark_in-front}
 use Rattle.presentation_text.proofs.AcceptedLines.{ends_whole}
+use Rattle.certificate_text.proofs.PrintedUses.{IsInput}
 
 -- ---- sums
 
@@ -53,9 +54,6 @@ module _ (elements : ElementsAreAccepted) (generators : List Generator) (table :
       rw there (ap Ok (sym h.sum_is))
 
 -- ---- inputs
-
-abbrev IsInput : List Generator → Tree ℕ → Type 0
-IsInput generators = IsDemanded generators (any_arity true)
 
 module _ (trees : TreesAreAccepted) (generators : List Generator) (table : IsTable generators) where
   inputs_told : (most : ℕ) (ts : List Token) (inputs : List (Tree ℕ)) → inputs_in most generators ts ≡ Ok inputs → (ts ≡ inputs_tokens generators inputs) × All (IsInput generators) inputs

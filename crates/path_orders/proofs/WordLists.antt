@@ -99,8 +99,5 @@ mutual
   length-leaves_row none = refl
   length-leaves_row (more t r) = Rattle.std.proofs.Common.length-append (leaves t) (leaves_row r) ∙ ap₂ (λ m n. m + n) (length-leaves t) (length-leaves_row r)
 
-pub leaves_number : (n : ℕ) (t : Tree ℕ) → IsShuffle n t → length (leaves t) ≡ n
-leaves_number n t h = length-leaves t ∙ count_of_shuffle n t h
-
 pub one_number : (m n : ℕ) (t : Tree ℕ) → IsShuffle m t → IsShuffle n t → m ≡ n
 one_number m n t h k = sym (count_of_shuffle m t h) ∙ count_of_shuffle n t k

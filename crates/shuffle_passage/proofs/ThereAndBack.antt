@@ -1,8 +1,8 @@
 -- Shuffle forms of labelled trees, and the trees of shuffle trees.
 use Rattle.std.proofs.Common.{◌≡◌, ℕ, ◌<◌, ◌≤◌, refl, sym, ap, ◌∙◌, subst, arith, List}
-use Rattle.labelled_trees.specs.Trees.{Tree, Row, leaf, node, none, more}
+use Rattle.labelled_trees.specs.Trees.{Tree}
 use Rattle.labelled_trees.specs.Leaves.{occurs}
-use Rattle.labelled_trees.specs.Labelled.{Fits, FitsRow}
+use Rattle.labelled_trees.specs.Labelled.{Fits}
 use Rattle.operad_ideals.specs.Spelling.{IsSorted}
 use Rattle.operad_ideals.specs.Spelling as spelling
 use Rattle.operad_ideals.specs.Sorting.{spelled, spelled_sign}
@@ -12,7 +12,7 @@ use Rattle.shuffle_insertions.proofs.LabelSums.{once_of}
 use Rattle.shuffle_transfer.specs.Labels.{inputs_of, shuffle_form, symmetric_tree}
 use Rattle.shuffle_transfer.proofs.Forth as passage
 use Rattle.shuffle_transfer.proofs.Spelling.{back_of, occurs_of, spelled_is}
-use Rattle.shuffle_trees.specs.ValidTrees.{IsWide, AreWide, IsValid}
+use Rattle.shuffle_trees.specs.ValidTrees.{IsValid}
 use Rattle.symmetric_trees.specs.Generators.{parts_at}
 use Rattle.symmetric_trees.specs.Spelling.{meaning_of}
 use Rattle.symmetric_trees.specs.Trees.{IsLabelled}
@@ -20,15 +20,7 @@ use Rattle.symmetric_trees.specs.declared.generators.Generator.{Generator}
 use Rattle.symmetric_trees.specs.declared.spelling.Sign.{Sign}
 use Rattle.symmetric_trees.specs.declared.spelling.Sign.TheVariants.{Plus, Minus}
 use Rattle.shuffle_passage.specs.Passage.{over, IsFormOf, OneShuffleForm}
-
-mutual
-  wide_fits : (arity : ℕ → ℕ) (t : Tree ℕ) → Fits arity t → IsWide t
-  wide_fits arity (leaf n) h = tt
-  wide_fits arity (node g r) h = (omega (arith, h.0, h.1), wide_fits_row arity r h.2)
-
-  wide_fits_row : (arity : ℕ → ℕ) (r : Row ℕ) → FitsRow arity r → AreWide r
-  wide_fits_row arity none h = tt
-  wide_fits_row arity (more t r) h = (wide_fits arity t h.0, wide_fits_row arity r h.1)
+use Rattle.shuffle_trees.proofs.ListedTrees.{fits_wide}
 
 -- the shuffle form of a labelled tree is a shuffle tree over the labels
 pub form_shuffle : (gens : List Generator) (n : ℕ) (t : Tree ℕ) → IsLabelled gens n t → IsShuffleTree (inputs_of (over gens)) n (shuffle_form (over gens) t)
@@ -40,7 +32,7 @@ form_valid gens n t h small =
     let k = form_shuffle gens n t h in
     let s = k.shuffle in
     record {
-      wide = wide_fits (inputs_of (over gens)) (shuffle_form (over gens) t) k.fits;
+      wide = fits_wide (inputs_of (over gens)) (shuffle_form (over gens) t) k.fits;
       rising = s.rising;
       once = once_of n (shuffle_form (over gens) t) s;
       only = λ i o. ((s.only i o).0, small i o);

@@ -127,11 +127,11 @@ label_next labels arity levels i leaves made after rs a e before is put =
 -- ---- valid trees
 
 mutual
-  fits_wide : (arity : ℕ → ℕ) (t : Tree ℕ) → Fits arity t → IsWide t
+  pub fits_wide : (arity : ℕ → ℕ) (t : Tree ℕ) → Fits arity t → IsWide t
   fits_wide arity (leaf n) h = tt
   fits_wide arity (node l r) h = (omega (arith, h.0, h.1), fits_row_wide arity r h.2)
 
-  fits_row_wide : (arity : ℕ → ℕ) (r : Row ℕ) → FitsRow arity r → AreWide r
+  pub fits_row_wide : (arity : ℕ → ℕ) (r : Row ℕ) → FitsRow arity r → AreWide r
   fits_row_wide arity none h = tt
   fits_row_wide arity (more t r) h = (fits_wide arity t h.0, fits_row_wide arity r h.1)
 

@@ -6,11 +6,12 @@ use Rattle.labelled_trees.specs.Meaning.{tree_of}
 use Rattle.shuffle_insertions.specs.ShuffleTrees.{IsShuffle}
 use Rattle.shuffle_insertions.specs.Keys.{words_below}
 use Rattle.path_orders.specs.Comparing.{words_by, key_words}
-use Rattle.path_orders.proofs.WordLists.{leaves_number, one_number}
+use Rattle.path_orders.proofs.WordLists.{one_number}
 use Rattle.path_orders.proofs.orders.by_words.Goals as goal
+use Rattle.shuffle_insertions.proofs.TreeOrders.{leaves_count}
 
 key_is : (n : ℕ) (x t : Tree ℕ) → x ≡ t → IsShuffle n t → words_below (suc n) x ≡ key_words t
-key_is n x t e h = ap₂ (λ m u. words_below (suc m) u) (sym (leaves_number n t h)) e
+key_is n x t e h = ap₂ (λ m u. words_below (suc m) u) (sym (leaves_count n t h)) e
 
 pub returns : goal.returns
 returns c =
