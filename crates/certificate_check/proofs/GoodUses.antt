@@ -23,7 +23,8 @@ use Rattle.symmetric_sums.specs.declared.instance.Instance.{Instance}
 use Rattle.symmetric_sums.proofs.Expansions.{sum_at-found, sum_at-past, one_label}
 use Rattle.symmetric_sums.proofs.Numberings.{all-left, all-right, no_terms}
 use Rattle.certificate_text.specs.declared.block.Step.{Step}
-use Rattle.certificate_check.specs.Blocks.{elements_of, CitesElement, cited, IsGoodUse, AreGoodUses, sum_of}
+use Rattle.certificate_check.specs.Blocks.{elements_of}
+use Rattle.symmetric_sums.specs.Uses.{CitesElement, cited, IsGoodUse, AreGoodUses, sum_of}
 use Rattle.certificate_check.specs.Answers.{IsAhead}
 use Rattle.certificate_check.specs.Checking.{fault_of, IsUsed, AreUsed}
 use Rattle.certificate_check.specs.declared.answer.CheckCause.TheVariants.{Ahead, UseUnfit, Differs, NotWanted}

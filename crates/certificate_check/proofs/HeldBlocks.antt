@@ -18,10 +18,12 @@ use Rattle.symmetric_sums.specs.Membership.{presentation_of, IsElement, IsMember
 use Rattle.symmetric_sums.specs.declared.term.Term.{Term}
 use Rattle.symmetric_sums.specs.declared.instance.Instance.{Instance}
 use Rattle.symmetric_sums.proofs.Expansions.{element-all}
-use Rattle.symmetric_sums.proofs.Members.{instances_in_ideal, sound}
+use Rattle.symmetric_sums.proofs.Members.{sound}
 use Rattle.symmetric_sums.proofs.OneForms.{one_form_member}
+use Rattle.symmetric_sums.proofs.UseMembers.{uses_labelled, uses_members}
 use Rattle.certificate_text.specs.declared.block.Step.{Step}
-use Rattle.certificate_check.specs.Blocks.{cited, IsGoodUse, sum_of, StepHolds, StepsHold, last_element}
+use Rattle.certificate_check.specs.Blocks.{StepHolds, StepsHold, last_element}
+use Rattle.symmetric_sums.specs.Uses.{cited, IsGoodUse, sum_of}
 use Rattle.certificate_check.specs.Soundness.{HeldBlocksAreMembers}
 
 module _ (p : ℕ) (generators : List Generator) (rels : List (List Term)) (positive : 0 < p) (relations : All (λ rel. IsElement generators (terms_of rel)) rels) where
@@ -37,28 +39,13 @@ module _ (p : ℕ) (generators : List Generator) (rels : List (List Term)) (posi
         one_form_member whole (sound p generators rels 0 positive relations) (element_arity e) n e f le lf (subst (λ k. HaveOneForm k (parts_at generators) e f) q h) member;
   }
 
-  -- ---- the uses of a step
-
-  uses_labelled : (earlier : List (List Term)) (n : ℕ) (uses : List Instance) → AllByRecursion (IsGoodUse p generators rels earlier n) uses → AllTerms (sum_of p generators rels earlier uses) (IsLabelled generators n)
-  uses_labelled earlier n [] h = tt
-  uses_labelled earlier n (x ∷ xs) h =
-      AllTerms-append (instance_element p (cited p generators rels earlier x) x) (sum_of p generators rels earlier xs) (IsLabelled generators n)
-      (element-all p (cited p generators rels earlier x) x (IsLabelled generators n) h.0.valid.labelled) (uses_labelled earlier n xs h.1)
-
-  uses_members : (earlier : List (List Term)) (n : ℕ) (uses : List Instance) → All (λ step. IsMember p generators rels (terms_of step)) earlier → AllByRecursion (IsGoodUse p generators rels earlier n) uses
-      → InIdeal whole n (sum_of p generators rels earlier uses)
-  uses_members earlier n [] members h = ideal_zero whole n
-  uses_members earlier n (x ∷ xs) members h =
-      ideal-append whole n (instance_element p (cited p generators rels earlier x) x) (sum_of p generators rels earlier xs)
-      (instances_in_ideal p generators rels earlier n x positive relations members h.0.valid) (uses_members earlier n xs members h.1)
-
   -- ---- steps
 
   step_member : (earlier : List (List Term)) (step : Step) → All (λ step. IsMember p generators rels (terms_of step)) earlier → IsElement generators (terms_of step.element) → StepHolds p generators rels earlier step
       → IsMember p generators rels (terms_of step.element)
   step_member earlier step members element h =
       let good = recursion_from_All (IsGoodUse p generators rels earlier h.uses.0) step.uses h.uses.1 in
-      one_form (terms_of step.element) (sum_of p generators rels earlier step.uses) h.uses.0 element (uses_labelled earlier h.uses.0 step.uses good) h.same (uses_members earlier h.uses.0 step.uses members good)
+      one_form (terms_of step.element) (sum_of p generators rels earlier step.uses) h.uses.0 element (uses_labelled p generators rels positive relations earlier h.uses.0 step.uses good) h.same (uses_members p generators rels positive relations earlier h.uses.0 step.uses members good)
 
   last_member : (earlier : List (List Term)) (steps : List Step) → All (λ step. IsMember p generators rels (terms_of step)) earlier → AllByRecursion (λ step. IsElement generators (terms_of step.element)) steps
       → StepsHold p generators rels earlier steps → IsMember p generators rels (last_element steps)

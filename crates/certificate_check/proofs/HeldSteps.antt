@@ -8,7 +8,8 @@ use Rattle.symmetric_sums.specs.declared.term.Term.{Term}
 use Rattle.symmetric_sums.specs.declared.instance.Instance.{Instance}
 use Rattle.symmetric_sums.proofs.Numberings.{all-left, all-right}
 use Rattle.certificate_text.specs.declared.block.Step.{Step}
-use Rattle.certificate_check.specs.Blocks.{elements_of, IsGoodUse, AreGoodUses, StepHolds, StepsHold, last_element, IsWanted, BlockHolds}
+use Rattle.certificate_check.specs.Blocks.{elements_of, StepHolds, StepsHold, last_element, IsWanted, BlockHolds}
+use Rattle.symmetric_sums.specs.Uses.{IsGoodUse, AreGoodUses}
 use Rattle.certificate_check.specs.Answers.{HasUseFault, IsStepFault, IsFirstFault, IsLastFault, IsAnswer}
 use Rattle.certificate_check.specs.Checking.{AreUsed, IsChecked, IsRefusal}
 use Rattle.certificate_check.specs.declared.answer.CheckCause.{CheckCause}

@@ -9,7 +9,8 @@ use Rattle.symmetric_sums.specs.declared.instance.Rule.{Rule}
 use Rattle.symmetric_sums.specs.declared.instance.Rule.TheVariants.{Rel, Swap, Step as StepRule}
 use Rattle.symmetric_sums.specs.declared.instance.Instance.{Instance}
 use Rattle.certificate_text.specs.declared.block.Step.{Step}
-use Rattle.certificate_check.specs.Blocks.{elements_of, AreGoodUses, sum_of, StepsHold, IsWanted, BlockHolds}
+use Rattle.certificate_check.specs.Blocks.{elements_of, StepsHold, IsWanted, BlockHolds}
+use Rattle.symmetric_sums.specs.Uses.{AreGoodUses, sum_of}
 use Rattle.certificate_check.specs.declared.answer.CheckCause.{CheckCause}
 use Rattle.certificate_check.specs.declared.answer.CheckCause.TheVariants.{Ahead, UseUnfit, Differs, NotWanted}
 use Rattle.certificate_check.specs.declared.answer.CheckAnswer.{CheckAnswer}

@@ -1,16 +1,13 @@
 -- When a block of steps holds.
-use Rattle.std.specs.Prelude.{ℕ, ◌++◌, List, [], ◌∷◌, map, flat_map}
+use Rattle.std.specs.Prelude.{ℕ, ◌++◌, List, [], ◌∷◌, map}
 use Rattle.std.specs.List.{All}
 use Rattle.labelled_trees.specs.Trees.{Tree}
 use Rattle.symmetric_trees.specs.Generators.{parts_at}
 use Rattle.symmetric_trees.specs.declared.generators.Generator.{Generator}
 use Rattle.symmetric_sums.specs.Terms.{terms_of}
 use Rattle.symmetric_sums.specs.Collected.{HaveOneForm}
-use Rattle.symmetric_sums.specs.Instances.{rule_element, IsValid, instance_element}
+use Rattle.symmetric_sums.specs.Uses.{AreGoodUses, sum_of}
 use Rattle.symmetric_sums.specs.declared.term.Term.{Term}
-use Rattle.symmetric_sums.specs.declared.instance.Rule.{Rule}
-use Rattle.symmetric_sums.specs.declared.instance.Rule.TheVariants.{Rel, Swap, Step as StepRule}
-use Rattle.symmetric_sums.specs.declared.instance.Instance.{Instance}
 use Rattle.certificate_text.specs.Tails.{IsReadyStep}
 use Rattle.certificate_text.specs.declared.block.Step.{Step}
 
@@ -19,33 +16,8 @@ use Rattle.certificate_text.specs.declared.block.Step.{Step}
 abbrev pub AreReady : ℕ → List Generator → List Step → Type 0
 AreReady p generators = All (IsReadyStep p generators)
 
--- ---- uses
-
 abbrev pub elements_of : List Step → List (List Term)
 elements_of = map (λ step. step.element)
-
--- a relation or a step is cited, and no symmetry rule
-abbrev pub CitesElement : Rule → Type 0
-CitesElement (Rel k) = Unit {0}
-CitesElement (Swap g at) = ⊥
-CitesElement (StepRule k) = Unit {0}
-
--- the element around which a use stands, among the relations and the elements of earlier steps
-abbrev pub cited : ℕ → List Generator → List (List Term) → List (List Term) → Instance → List (ℕ × Tree ℕ)
-cited p generators rels earlier item = rule_element p generators rels earlier item.rule
-
--- The use is a valid instance, in arity n, of a relation or of an earlier step.
-pub record IsGoodUse (p : ℕ) (generators : List Generator) (rels earlier : List (List Term)) (n : ℕ) (item : Instance) : Type 0 where
-  pub cites : CitesElement item.rule
-  pub valid : IsValid generators (cited p generators rels earlier item) n item
-
--- All uses are such instances, in one arity.
-abbrev pub AreGoodUses : ℕ → List Generator → List (List Term) → List (List Term) → List Instance → Type 0
-AreGoodUses p generators rels earlier uses = (n : ℕ) × All (IsGoodUse p generators rels earlier n) uses
-
--- the elements of the uses, one after the other
-abbrev pub sum_of : ℕ → List Generator → List (List Term) → List (List Term) → List Instance → List (ℕ × Tree ℕ)
-sum_of p generators rels earlier = flat_map (λ item. instance_element p (cited p generators rels earlier item) item)
 
 -- ---- steps and blocks
 

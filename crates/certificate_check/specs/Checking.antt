@@ -9,7 +9,8 @@ use Rattle.symmetric_sums.specs.declared.expanding.ExpandFail.{ExpandFail}
 use Rattle.symmetric_sums.specs.declared.expanding.ExpandFail.TheVariants.{Unfit, NoMemory}
 use Rattle.symmetric_sums.specs.declared.instance.Instance.{Instance}
 use Rattle.certificate_text.specs.declared.block.Step.{Step}
-use Rattle.certificate_check.specs.Blocks.{cited, IsGoodUse, AreGoodUses, sum_of, StepHolds}
+use Rattle.certificate_check.specs.Blocks.{StepHolds}
+use Rattle.symmetric_sums.specs.Uses.{cited, IsGoodUse, AreGoodUses, sum_of}
 use Rattle.certificate_check.specs.Answers.{IsAhead, HasUseFault, IsStepFault}
 use Rattle.certificate_check.specs.declared.answer.CheckCause.TheVariants.{Ahead, UseUnfit, Differs, NotWanted}
 use Rattle.certificate_check.specs.declared.answer.CheckAnswer.{CheckAnswer}

@@ -9,6 +9,7 @@ pub mod Grafts
 pub mod Holes
 pub mod Insertions
 pub mod Leaves
+pub mod MadeTrees
 pub mod Meetings
 pub mod Numbered
 pub mod Orderings

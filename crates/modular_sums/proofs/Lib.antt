@@ -1,4 +1,5 @@
 pub mod Coefficients
+pub mod Counted
 pub mod Diamond
 pub mod Differences
 pub mod Examples
@@ -6,6 +7,10 @@ pub mod Images
 pub mod Laws
 pub mod Links
 pub mod Lists
+pub mod Merging
+pub mod OneSum
+pub mod PositionChains
+pub mod PositionRows
 pub mod Ranks
 pub mod Replacements
 pub mod Residues

@@ -1,6 +1,13 @@
 pub mod Diamond
+pub mod Falling
+pub mod FallingLaws
 pub mod Laws
 pub mod Lists
+pub mod Merging
+pub mod PositionChains
+pub mod PositionLaws
+pub mod PositionRows
 pub mod Ranks
 pub mod Residues
+pub mod RuleTables
 pub mod Sums

@@ -2,6 +2,9 @@
 #![tactic(auto)]
 
 ghost use Rattle.modular_sums.specs.Laws.{DiamondLemma, Images, Ranks, Replacements, Residues, Spans, Sums};
+ghost use Rattle.modular_sums.specs.FallingLaws.{FallingSums};
+ghost use Rattle.modular_sums.specs.PositionLaws.{PositionChainsJoin};
+ghost use Rattle.modular_sums.specs.PositionRows.{RowsAreSums};
 
 /// Law: being alike modulo a number is an equivalence that sums and products keep, with negatives.
 pub fn residue_laws()
@@ -36,4 +39,19 @@ pub fn diamond_lemma<M, I>()
 /// Law: two independent replacements differ by sums of the other one at lower monomials.
 pub fn independent_replacements<M, X, Y>()
     ensures law { Replacements M X Y }
+{}
+
+/// Law: two falling sums with the same coefficients are one.
+pub fn falling_sums<M>()
+    ensures law { FallingSums M }
+{}
+
+/// Law: chains between sums that are the same, and chains joined.
+pub fn position_chains_join()
+    ensures law { PositionChainsJoin }
+{}
+
+/// Law: a row of numbers is a sum over its positions, with these numbers as coefficients.
+pub fn rows_are_sums()
+    ensures law { RowsAreSums }
 {}

@@ -2,8 +2,7 @@
 #![tactic(auto)]
 
 use operad_run::operad_run;
-use outside_io::{RealSink, RealSource};
-use program_words::words_of;
+use outside_io::{RealSink, RealSource, words_of};
 use std::process::ExitCode;
 
 fn main(rt: HostRuntime) -> ExitCode {

@@ -3,6 +3,7 @@
 
 ghost use Rattle.operad_ideals.specs.IdealLaws.{AgreementIsInIdeal, CollectedForms, IdealIsClosed, OneIdeal, OnlyZeroInArityOne};
 ghost use Rattle.operad_ideals.specs.Laws.{AgreementKeepsLabels, OneSpelling};
+ghost use Rattle.operad_ideals.specs.CompositeLaws.{CompositesInIdeal};
 
 /// Law: a labelled tree has exactly one sorted spelling, with exactly one sign.
 pub fn one_spelling()
@@ -38,4 +39,9 @@ pub fn agreement_is_in_ideal()
 /// Law: two elements have one collected form exactly where their difference is a sum of instances of symmetry rules.
 pub fn collected_forms()
     ensures law { CollectedForms }
+{}
+
+/// Law: the ideal is closed under composition from both sides.
+pub fn composites_in_ideal()
+    ensures law { CompositesInIdeal }
 {}

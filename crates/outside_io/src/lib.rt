@@ -1,4 +1,4 @@
-//! Where bytes come from and go to, with a count of the faults.
+//! Where bytes come from and go to, with a count of the faults, and where a program has its words from.
 #![tactic(auto)]
 
 mod calls;
@@ -8,6 +8,7 @@ mod sure;
 #[cfg(test)]
 mod tests;
 mod whole;
+mod words;
 
 ghost use Rattle.std.specs.Prelude.{List, ℕ, Option};
 ghost use Rattle.std.specs.Io.{ReadsAtMost};
@@ -19,6 +20,7 @@ pub use memory::{MemorySink, MemorySource};
 pub use real::{RealSink, RealSource};
 pub use sure::{SureSink, SureSource};
 pub use whole::{ReadFail, WriteFail, read_all, write_all};
+pub use words::words_of;
 
 /// A read or a write that was not carried out.
 #[derive(Clone, Copy, Debug, PartialEq, Eq)]

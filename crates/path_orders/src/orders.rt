@@ -156,6 +156,13 @@ impl WeightPath {
     {
         WeightPath { weights }
     }
+
+    /// The weights of the labels, from label 0 on.
+    pub fn weights(&self) -> &[u32]
+        ensures weights { result.now ≡ weights_of self.now }
+    {
+        self.weights.as_slice()
+    }
 }
 
 impl TreeOrder for WeightPath {

@@ -31,12 +31,12 @@ use Rattle.shuffle_places.proofs.Vertices.{In}
 use Rattle.shuffle_places.proofs.PatternSets.{start_row_in}
 use Rattle.shuffle_places.proofs.Frames.{numbers-graft, cut_of_slot}
 
-in_order_self : (g : Element) (l : List Element) → Mem g l → InOrder g g l
+pub in_order_self : (g : Element) (l : List Element) → Mem g l → InOrder g g l
 in_order_self g [] m = absurd m
 in_order_self g (x ∷ l) (inl e) = inl (e, inl e)
 in_order_self g (x ∷ l) (inr m) = inr (in_order_self g l m)
 
-in_order_total : (g h : Element) (l : List Element) → Mem g l → Mem h l → InOrder g h l ⊎ InOrder h g l
+pub in_order_total : (g h : Element) (l : List Element) → Mem g l → Mem h l → InOrder g h l ⊎ InOrder h g l
 in_order_total g h [] m n = absurd m
 in_order_total g h (x ∷ l) (inl e) n = inl (inl (e, n))
 in_order_total g h (x ∷ l) (inr m) (inl e) = inr (inl (e, inr m))

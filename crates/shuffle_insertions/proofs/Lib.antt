@@ -1,3 +1,4 @@
+pub mod BlockComparisons
 pub mod Comparing
 pub mod Counted
 pub mod Counting

@@ -1,5 +1,7 @@
+pub mod BlockLaws
 pub mod Counting
 pub mod Frames
+pub mod KeyBlocks
 pub mod Keys
 pub mod Labels
 pub mod Laws

@@ -2,6 +2,7 @@
 #![tactic(auto)]
 
 ghost use Rattle.shuffle_insertions.specs.Laws.{FirstIsLeast, FourOrders, FramesAreSlots, InsertionKeeps, ShuffleTreesAreLabelled, TreesListed};
+ghost use Rattle.shuffle_insertions.specs.BlockLaws.{BlocksCompare};
 
 /// Law: where inputs stand in ascending order, the first leaf is the least.
 pub fn first_is_least()
@@ -31,4 +32,9 @@ pub fn four_orders()
 /// Law: all shuffle trees over labels, each once, and their number.
 pub fn trees_listed()
     ensures law { TreesListed }
+{}
+
+/// Law: blocks of alike keys compare, number by number, as the keys do by each of the four orders.
+pub fn blocks_compare()
+    ensures law { BlocksCompare }
 {}

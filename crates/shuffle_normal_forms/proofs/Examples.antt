@@ -61,7 +61,7 @@ whole : Insertion setting 3
 unfolding ℕ_discrete tree_discrete tree_discrete_by row_discrete_by same_leaf same_node same_more
 whole = record { of = jacobi; member = inl refl; tree = t1; set = top_two; valid = valid_at 3 t1 refl; place = ((places_listed t1 t1 tt).0 top_two).0 (inl refl) }
 
-free_at : (t : Tree ℕ) → Mem t (t2 ∷ (t3 ∷ [])) → IsFreeTree setting 3 t
+pub free_at : (t : Tree ℕ) → Mem t (t2 ∷ (t3 ∷ [])) → IsFreeTree setting 3 t
 free_at t m = (listed_of_jacobi 3 t).0 (subst (Mem t) (sym two_free) m)
 
 form_of_t1 : IsNormalForm setting 3 ((1, t1) ∷ []) sum_of_two

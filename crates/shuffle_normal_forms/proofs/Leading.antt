@@ -21,7 +21,7 @@ use Rattle.modular_sums.proofs.Coefficients.{coef_absent, coef_first, coef_nothi
 use Rattle.shuffle_normal_forms.proofs.Listing.{inserted_or_free, not_free}
 use Rattle.shuffle_normal_forms.proofs.Insertions.{span, rest_of, value_is, IsLower, rest_lower, value_valid}
 
-one_not_zero : (q : ℕ) → 0 < q → Alike q 1 0 → ⊥
+pub one_not_zero : (q : ℕ) → 0 < q → Alike q 1 0 → ⊥
 one_not_zero q h e =
     let a : 1 % suc q ≡ 1 = mod-eq_of_lt (omega (arith, h)) in
     let z : 0 % suc q ≡ 0 = mod-eq_of_lt (omega arith) in
@@ -30,7 +30,7 @@ one_not_zero q h e =
 -- ---- an insertion is led by its tree
 
 module _ (s : Setting) (order : IsTreeOrder s.arity s.compare) (monic : AreMonic s) (n : ℕ) where
-  not_less : (x y : Tree ℕ) → IsLess s x y → x ≡ y → ⊥
+  pub not_less : (x y : Tree ℕ) → IsLess s x y → x ≡ y → ⊥
   not_less x y l e =
       let less : s.compare y y ≡ Less = subst (λ z. IsLess s z y) e l in
       let greater : s.compare y y ≡ Greater = order.turned y y ∙ ap ordering_reverse less in
@@ -43,11 +43,11 @@ module _ (s : Setting) (order : IsTreeOrder s.arity s.compare) (monic : AreMonic
       go x l (inl e) = subst (IsLess s x) e l
       go x l (inr k) = order.transitive x i.tree u l k
 
-  coef_tree : (i : Insertion s n) → coef tree_discrete (value_of i) i.tree ≡ 1
+  pub coef_tree : (i : Insertion s n) → coef tree_discrete (value_of i) i.tree ≡ 1
   coef_tree i = ap (λ e. coef tree_discrete e i.tree) (value_is s order monic n i)
       ∙ coef_first tree_discrete 1 i.tree (rest_of i) (coef_absent tree_discrete (rest_of i) i.tree (rest_absent i i.tree (inl refl)))
 
-  coef_greater : (i : Insertion s n) (u : Tree ℕ) → IsLess s i.tree u → coef tree_discrete (value_of i) u ≡ 0
+  pub coef_greater : (i : Insertion s n) (u : Tree ℕ) → IsLess s i.tree u → coef tree_discrete (value_of i) u ≡ 0
   coef_greater i u l = ap (λ e. coef tree_discrete e u) (value_is s order monic n i)
       ∙ coef_absent tree_discrete ((1, i.tree) ∷ rest_of i) u (not_less i.tree u l, rest_absent i u (inr l))
 

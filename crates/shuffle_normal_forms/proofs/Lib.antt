@@ -1,8 +1,15 @@
+pub mod ByInputs
 pub mod Examples
+pub mod Filters
+pub mod FreeTreesSplit
+pub mod InOrder
 pub mod Independent
 pub mod Insertions
 pub mod Laws
 pub mod Leading
+pub mod Levels
 pub mod Listing
 pub mod NormalForms
+pub mod Numbers
+pub mod RootTests
 pub mod Spanning

@@ -1,3 +1,5 @@
+pub mod FreeTreeLists
 pub mod FreeTrees
+pub mod FreeTreesSplit
 pub mod Laws
 pub mod NormalForms

@@ -20,7 +20,7 @@ use Rattle.shuffle_places.proofs.Overlays.{standard_shape}
 abbrev self : Tree ℕ → Tree ℕ
 self v = v
 
-where_yes : {A X : Type 0} (d : Dec A) (l : List X) → A → where_so d l ≡ l
+pub where_yes : {A X : Type 0} (d : Dec A) (l : List X) → A → where_so d l ≡ l
 where_yes (yes _) l a = refl
 where_yes (no f) l a = absurd (f a)
 
@@ -57,7 +57,7 @@ from_where (no _) x l h = absurd h
 
 mutual
   -- what is laid makes up the tree
-  lay_joins : {X : Type 0} (p : Tree X) (t : Tree ℕ) (q : Tree (Tree ℕ)) → Mem q (lay p t) → (join q ≡ t) × (IsNode p → IsNode q)
+  pub lay_joins : {X : Type 0} (p : Tree X) (t : Tree ℕ) (q : Tree (Tree ℕ)) → Mem q (lay p t) → (join q ≡ t) × (IsNode p → IsNode q)
   lay_joins (leaf x) t q (inl e) = (ap join e, λ n. absurd n)
   lay_joins (leaf x) t q (inr h) = absurd h
   lay_joins (node l r) (leaf n) q h = absurd h
@@ -66,7 +66,7 @@ mutual
       let k = mem_of_map (λ q. node m q) q (lay_row r s) w.1 in
       (ap join k.2 ∙ ap (node m) (lay_joins_row r s k.0 k.1), λ n. subst IsNode (sym k.2) tt)
 
-  lay_joins_row : {X : Type 0} (r : Row X) (s : Row ℕ) (q : Row (Tree ℕ)) → Mem q (lay_row r s) → graft_row q self ≡ s
+  pub lay_joins_row : {X : Type 0} (r : Row X) (s : Row ℕ) (q : Row (Tree ℕ)) → Mem q (lay_row r s) → graft_row q self ≡ s
   lay_joins_row none none q (inl e) = ap (λ x. graft_row x self) e
   lay_joins_row none none q (inr h) = absurd h
   lay_joins_row none (more u s) q h = absurd h
@@ -169,12 +169,13 @@ module _ (a : Tree ℕ) (a_node : IsNode a) where
       subst (λ x. Mem set (places a 1 x)) (sym p.host_is)
       (subst (λ l. Mem l (places a 1 (fill p.context (join p.pattern_at)))) (sym p.set_is) (each_place 1 p.context p.pattern_at p.is_node p.divisor_is))
 
-head_of : List ℕ → ℕ
+-- the top vertex of a place
+unfoldable pub head_of : List ℕ → ℕ
 head_of [] = 0
 head_of (v ∷ l) = v
 
 -- the top vertices of a list of places
-tops : List (List ℕ) → List ℕ
+unfoldable pub tops : List (List ℕ) → List ℕ
 tops [] = []
 tops (s ∷ l) = head_of s ∷ tops l
 
@@ -194,7 +195,7 @@ unfolding tops
 distinct_tops [] h = tt
 distinct_tops (s ∷ l) h = (λ m. let lt = h.0 (head_of s) (among_tops s l m) in absurd (omega arith), distinct_tops l h.1)
 
-abbrev AtMostOne : {X : Type 0} → List X → Type 0
+abbrev pub AtMostOne : {X : Type 0} → List X → Type 0
 AtMostOne [] = Unit {0}
 AtMostOne (x ∷ []) = Unit {0}
 AtMostOne (x ∷ (y ∷ l)) = ⊥
@@ -216,12 +217,12 @@ one_pairs (t ∷ []) (r ∷ (s ∷ rs)) h g = absurd g
 one_pairs (t ∷ (u ∷ ts)) rs h g = absurd h
 
 mutual
-  lay_once : {X : Type 0} (p : Tree X) (t : Tree ℕ) → AtMostOne (lay p t)
+  pub lay_once : {X : Type 0} (p : Tree X) (t : Tree ℕ) → AtMostOne (lay p t)
   lay_once (leaf x) t = tt
   lay_once (node l r) (leaf n) = tt
   lay_once (node l r) (node m s) = one_where (ℕ_discrete l m) (map (λ q. node m q) (lay_row r s)) (one_map (λ q. node m q) (lay_row r s) (lay_once_row r s))
 
-  lay_once_row : {X : Type 0} (r : Row X) (s : Row ℕ) → AtMostOne (lay_row r s)
+  pub lay_once_row : {X : Type 0} (r : Row X) (s : Row ℕ) → AtMostOne (lay_row r s)
   lay_once_row none none = tt
   lay_once_row none (more u s) = tt
   lay_once_row (more t r) none = tt
@@ -263,7 +264,7 @@ module _ (a : Tree ℕ) (a_node : IsNode a) where
   mutual
     unfolding tops
 
-    places_rise : (k : ℕ) (t : Tree ℕ) → Rises (tops (places a k t)) × ((v : ℕ) → Mem v (tops (places a k t)) → In v k (vertices t))
+    pub places_rise : (k : ℕ) (t : Tree ℕ) → Rises (tops (places a k t)) × ((v : ℕ) → Mem v (tops (places a k t)) → In v k (vertices t))
     places_rise k (leaf n) = (tt, λ v m. absurd m)
     places_rise k (node l r) =
         let x = laid_tops k (lay a (node l r)) (lay_once a (node l r)) (λ q m. (lay_joins a (node l r) q m).1 a_node) in

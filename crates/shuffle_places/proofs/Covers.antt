@@ -24,7 +24,7 @@ in_input P v k m n (no ge) i f g = g (omega (arith, ge), omega (arith, i.1))
 
 mutual
   -- where all hanging parts are leaves, the pattern has all vertices
-  all_bare : {X A : Type 0} (s : X → Tree A) (t : Tree X) (k v : ℕ) → AllLeaves t (λ x. IsLeaf (s x)) → In v k (vertices (graft t s)) → Mem v (numbers s k t)
+  pub all_bare : {X A : Type 0} (s : X → Tree A) (t : Tree X) (k v : ℕ) → AllLeaves t (λ x. IsLeaf (s x)) → In v k (vertices (graft t s)) → Mem v (numbers s k t)
   all_bare s (leaf x) k v h i = let z = leaf_none (s x) h in absurd (omega (arith, z, i.0, i.1))
   all_bare s (node l r) k v h i = at_node (ℕ_discrete v k) (λ j. all_bare_row s r (suc k) v h j)
     where

@@ -7,6 +7,7 @@ pub mod Examples
 pub mod Fitting
 pub mod Frames
 pub mod Independent
+pub mod InputPlaces
 pub mod Laws
 pub mod Numberings
 pub mod Overlaps
@@ -14,5 +15,8 @@ pub mod Overlays
 pub mod PatternSets
 pub mod Places
 pub mod RankedParts
+pub mod RootLaws
+pub mod RootPlaces
+pub mod Shifts
 pub mod Sizes
 pub mod Vertices

@@ -8,3 +8,5 @@ pub mod Multiples
 pub mod Numberings
 pub mod Overlays
 pub mod Places
+pub mod RootLaws
+pub mod RootPlaces

@@ -2,6 +2,7 @@
 #![tactic(auto)]
 
 ghost use Rattle.shuffle_places.specs.Laws.{InsertionsCommute, MultiplesFit, MultiplesListed, PlaceFrames, PlaceSets, PlacesListed};
+ghost use Rattle.shuffle_places.specs.RootLaws.{DivisorsSplit, InputPlaces, RootPlaces};
 
 /// Law: a connected set of vertices is the set of exactly one place.
 pub fn place_sets()
@@ -31,4 +32,20 @@ pub fn multiples_fit()
 /// Law: two insertions at places without a common vertex commute.
 pub fn insertions_commute()
     ensures law { InsertionsCommute }
+{}
+
+/// Law: a tree has a divisor at its root exactly where trees at the divisor's leaves make it up, with rising least leaves;
+/// an insertion there puts these trees at the leaves of what is inserted.
+pub fn root_places()
+    ensures law { RootPlaces }
+{}
+
+/// Law: a place in an input is a place of the tree, and an insertion there is one in the input.
+pub fn input_places()
+    ensures law { InputPlaces }
+{}
+
+/// Law: each place of a tree begins at the root or lies in one input.
+pub fn divisors_split()
+    ensures law { DivisorsSplit }
 {}

@@ -39,7 +39,7 @@ use Rattle.shuffle_transfer.proofs.TransferLaw.{labelled-renamed, transfer_law}
 use Rattle.shuffle_transfer.proofs.NormalForms.{normal_trees_listed}
 
 -- l(l(1,2),3) + l(l(2,3),1) + l(l(3,1),2)
-abbrev jacobi_relation : Relation
+abbrev pub jacobi_relation : Relation
 jacobi_relation = record { arity = 3; terms = (1, t1) ∷ ((1, l (l (leaf 2) (leaf 3)) (leaf 1)) ∷ ((1, l (l (leaf 3) (leaf 1)) (leaf 2)) ∷ [])) }
 
 abbrev pub lie : Presentation
@@ -51,10 +51,10 @@ one_label_inputs : (g : ℕ) → inputs_of lie g ≡ one_binary g
 one_label_inputs zero = refl
 one_label_inputs (suc g) = refl
 
-same_setting : setting lie (compare lie by_path) (jacobi ∷ []) ≡ bracket_setting
+pub same_setting : setting lie (compare lie by_path) (jacobi ∷ []) ≡ bracket_setting
 same_setting = ap (λ (a : ℕ → ℕ). record { arity = a; compare = compare lie by_path; elements = jacobi ∷ []; q = 100 }) (fun_ext one_label_inputs)
 
-wide : IsWide lie
+pub wide : IsWide lie
 wide zero h = omega arith
 wide (suc g) h = absurd (omega (arith, h))
 
@@ -82,7 +82,7 @@ ordering v m = ((all_orderings 3).2 v).0 m
 labelled_t1 : IsLabelled (arity_of lie) 3 t1
 labelled_t1 = back_labelled lie 3 t1 valid_t1
 
-sound : IsSound lie
+pub sound : IsSound lie
 sound r (inl e) = subst (λ x. AllTerms x.terms (IsLabelled (arity_of lie) x.arity)) (sym e) (
   labelled_t1,
   (labelled-renamed (arity_of lie) 3 (2 ∷ (3 ∷ (1 ∷ []))) (ordering (2 ∷ (3 ∷ (1 ∷ []))) (inr (inr (inr (inl refl))))) t1 labelled_t1, (labelled-renamed (arity_of lie) 3 (3 ∷ (1 ∷ (2 ∷ []))) (ordering (3 ∷ (1 ∷ (2 ∷ []))) (inr (inr (inr (inr (inl refl)))))) t1 labelled_t1, tt)),
@@ -120,10 +120,10 @@ the_relation = record { uses = (1, the_insertion) ∷ []; adds_up = same_if_agre
 
 -- ---- the certificate
 
-abbrev lie_setting : Setting
+abbrev pub lie_setting : Setting
 lie_setting = setting lie (compare lie by_path) (jacobi ∷ [])
 
-jacobi_monic : IsMonic lie_setting jacobi
+pub jacobi_monic : IsMonic lie_setting jacobi
 unfolding ℕ_discrete
 jacobi_monic = record { lead_valid = valid_t1; lead_node = tt; tail_valid = ((valid_t2, refl), ((valid_t3, refl), tt)) }
 
@@ -214,7 +214,7 @@ pub lie_normal : (n : ℕ) → n ≤ 4 → NormalLaw lie (compare lie by_path) n
 lie_normal = normal_trees_listed lie sound wide (omega arith) by_path (jacobi ∷ []) 4 certified
 
 -- the normal trees of arity 3: l(l(1,3),2) and l(1,l(2,3))
-two_normal : normal_list lie (jacobi ∷ []) 3 ≡ t2 ∷ (t3 ∷ [])
+pub two_normal : normal_list lie (jacobi ∷ []) 3 ≡ t2 ∷ (t3 ∷ [])
 unfolding ℕ_discrete tree_discrete tree_discrete_by row_discrete_by same_leaf same_node same_more
 two_normal = refl
 

@@ -34,7 +34,7 @@ order_of p by_pathshort = (orders (inputs_of p) (λ l. 0)).1
 order_of p by_leafpath = (orders (inputs_of p) (λ l. 0)).2
 order_of p (by_weightpath weights) = (orders (inputs_of p) (λ l. weights (gen p l))).3
 
-distinct_image : {A B : Type 0} (f : A → B) (g : B → A) (P : A → Type 0) → ((x : A) → P x → g (f x) ≡ x) → (l : List A) → ((x : A) → Mem x l → P x) → Distinct l → Distinct (map f l)
+pub distinct_image : {A B : Type 0} (f : A → B) (g : B → A) (P : A → Type 0) → ((x : A) → P x → g (f x) ≡ x) → (l : List A) → ((x : A) → Mem x l → P x) → Distinct l → Distinct (map f l)
 distinct_image f g P back [] h d = tt
 distinct_image f g P back (x ∷ l) h d = (
   λ m. let k = mem_of_map f (f x) l m in

@@ -104,7 +104,7 @@ mem_entry [] x m = absurd m
 mem_entry (y ∷ v) x (inl e) = (0, e, omega arith)
 mem_entry (y ∷ v) x (inr m) = let k = mem_entry v x m in (suc k.0, k.1, let lt = k.2 in omega (arith, lt))
 
-one_distinct : (v : List ℕ) → ((i j : ℕ) → i < length v → j < length v → entry v (suc i) ≡ entry v (suc j) → i ≡ j) → Distinct v
+pub one_distinct : (v : List ℕ) → ((i j : ℕ) → i < length v → j < length v → entry v (suc i) ≡ entry v (suc j) → i ≡ j) → Distinct v
 one_distinct [] h = tt
 one_distinct (x ∷ v) h = (
   λ m. let k = mem_entry v x m in let lt = k.2 in let e : 0 ≡ suc k.0 = h 0 (suc k.0) (omega arith) (omega (arith, lt)) k.1 in absurd (omega (arith, e)),
@@ -112,7 +112,7 @@ one_distinct (x ∷ v) h = (
 )
 
 -- the entries of the list of f (a + 1) to f (a + k)
-entry-listed : (f : ℕ → ℕ) (a k i : ℕ) → i < k → entry (listed f a k) (suc i) ≡ f (suc (a + i))
+pub entry-listed : (f : ℕ → ℕ) (a k i : ℕ) → i < k → entry (listed f a k) (suc i) ≡ f (suc (a + i))
 entry-listed f a zero i lt = absurd (omega arith)
 entry-listed f a (suc k) zero lt = let e : suc a ≡ suc (a + 0) = omega arith in ap f e
 entry-listed f a (suc k) (suc i) lt = let e : suc (suc a + i) ≡ suc (a + suc i) = omega arith in entry-listed f (suc a) k i (omega (arith, lt)) ∙ ap f e

@@ -48,7 +48,7 @@ pub rest_rises : (x : ℕ) (l r : List ℕ) → Picked x l r → Rises l → Ris
 rest_rises x l r now h = h.1
 rest_rises x l r (later y {l = k} {r = s} p) h = (λ u m. h.0 u (rest_mem x k s p u m), rest_rises x k s p h.1)
 
-mem_rest : (x : ℕ) (l r : List ℕ) → Picked x l r → (u : ℕ) → Mem u l → (u ≡ x) ⊎ Mem u r
+pub mem_rest : (x : ℕ) (l r : List ℕ) → Picked x l r → (u : ℕ) → Mem u l → (u ≡ x) ⊎ Mem u r
 mem_rest x l r now u h = h
 mem_rest x l r (later y {l = k} {r = s} p) u (inl e) = inr (inl e)
 mem_rest x l r (later y {l = k} {r = s} p) u (inr m) = go (mem_rest x k s p u m)
@@ -57,12 +57,12 @@ mem_rest x l r (later y {l = k} {r = s} p) u (inr m) = go (mem_rest x k s p u m)
     go (inl e) = inl e
     go (inr n) = inr (inr n)
 
-pick_out : (x : ℕ) (l : List ℕ) → Mem x l → (r : List ℕ) × Picked x l r
+pub pick_out : (x : ℕ) (l : List ℕ) → Mem x l → (r : List ℕ) × Picked x l r
 pick_out x [] m = absurd m
 pick_out x (y ∷ l) (inl e) = (l, subst (λ z. Picked x (z ∷ l) l) e now)
 pick_out x (y ∷ l) (inr m) = let k = pick_out x l m in (y ∷ k.0, later y k.1)
 
-length_rest : (x : ℕ) (l r : List ℕ) → Picked x l r → length l ≡ suc (length r)
+pub length_rest : (x : ℕ) (l r : List ℕ) → Picked x l r → length l ≡ suc (length r)
 length_rest x l r now = refl
 length_rest x l r (later y {l = k} {r = s} h) = ap suc (length_rest x k s h)
 

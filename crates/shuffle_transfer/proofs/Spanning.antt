@@ -22,11 +22,11 @@ use Rattle.shuffle_transfer.proofs.Given.{Given, setting_of, span_ideal}
 use Rattle.shuffle_transfer.proofs.Independent.{Normal}
 
 module _ (p : Presentation) where
-  shuffled-append : (e f : List (ℕ × Tree ℕ)) → shuffled p (e ++ f) ≡ shuffled p e ++ shuffled p f
+  pub shuffled-append : (e f : List (ℕ × Tree ℕ)) → shuffled p (e ++ f) ≡ shuffled p e ++ shuffled p f
   shuffled-append [] f = refl
   shuffled-append (x ∷ e) f = ap (λ l. (x.0 * residue_of p.q (spelled_sign (parts p) x.1), shuffle_form p x.1) ∷ l) (shuffled-append e f)
 
-  shuffled-scale : (k : ℕ) (e : List (ℕ × Tree ℕ)) → shuffled p (scale k e) ≡ scale k (shuffled p e)
+  pub shuffled-scale : (k : ℕ) (e : List (ℕ × Tree ℕ)) → shuffled p (scale k e) ≡ scale k (shuffled p e)
   unfolding scale
   shuffled-scale k [] = refl
   shuffled-scale k (x ∷ e) =

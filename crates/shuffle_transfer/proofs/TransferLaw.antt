@@ -34,7 +34,7 @@ use Rattle.shuffle_transfer.proofs.Return.{backward}
 
 -- ---- relabelled trees are labelled
 
-entry_apart : (v : List ℕ) → Distinct v → (i j : ℕ) → i < length v → j < length v → entry v (suc i) ≡ entry v (suc j) → i ≡ j
+pub entry_apart : (v : List ℕ) → Distinct v → (i j : ℕ) → i < length v → j < length v → entry v (suc i) ≡ entry v (suc j) → i ≡ j
 entry_apart [] d i j a b e = absurd (omega (arith, a))
 entry_apart (x ∷ v) d zero zero a b e = refl
 entry_apart (x ∷ v) d zero (suc j) a b e = absurd (d.0 (subst (λ z. Mem z v) (sym e) (entry_mem v (suc j) (omega arith) (omega (arith, b)))))

@@ -1,8 +1,10 @@
-pub mod Orderings
-pub mod ShuffleForms
-pub mod Labels
-pub mod Transfer
-pub mod Laws
 pub mod Certified
-pub mod NormalTrees
+pub mod Labels
+pub mod Laws
 pub mod NormalLaws
+pub mod NormalTrees
+pub mod Orderings
+pub mod OtherLeaves
+pub mod RelabelledIdeals
+pub mod ShuffleForms
+pub mod Transfer

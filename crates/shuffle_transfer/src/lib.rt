@@ -4,6 +4,8 @@
 ghost use Rattle.shuffle_transfer.specs.Laws.{AllOrderings, Back, Forth, FramesBack, Kernel, LabelsAreWords, Spelling};
 ghost use Rattle.shuffle_transfer.specs.NormalLaws.{NormalTreesListed};
 ghost use Rattle.shuffle_transfer.specs.Transfer.{Transfer};
+ghost use Rattle.shuffle_transfer.specs.OtherLeaves.{OtherLeaves};
+ghost use Rattle.shuffle_transfer.specs.RelabelledIdeals.{IdealIsRelabelled};
 
 /// Law: the list of relabellings has the permutations of 1 to m, each once, in lexicographic order.
 pub fn all_relabellings()
@@ -38,4 +40,14 @@ pub fn frames_back()
 /// and spanning modulo the ideal; each element has one normal form, and congruent elements have the same.
 pub fn normal_trees_listed()
     ensures law { NormalTreesListed }
+{}
+
+/// Law: the symmetric tree of a shuffle tree with other leaves is the symmetric tree with other leaves.
+pub fn other_leaves()
+    ensures law { OtherLeaves }
+{}
+
+/// Law: an element of the ideal, relabelled by a permutation, is in the ideal.
+pub fn ideal_is_relabelled()
+    ensures law { IdealIsRelabelled }
 {}

@@ -56,7 +56,7 @@ inserted_wide f x v w =
 
 mutual
   -- a tree in the hole brings its leaves, and takes leaf 0 away
-  sum_in_hole : (c : Ctx ℕ) (y : Tree ℕ) (f : ℕ → ℕ) → sum_leaves (fill c y) f + f 0 ≡ sum_leaves (fill c (leaf 0)) f + sum_leaves y f
+  pub sum_in_hole : (c : Ctx ℕ) (y : Tree ℕ) (f : ℕ → ℕ) → sum_leaves (fill c y) f + f 0 ≡ sum_leaves (fill c (leaf 0)) f + sum_leaves y f
   sum_in_hole hole y f = omega arith
   sum_in_hole (inside l c) y f = sum_in_hole_row c y f
 
@@ -87,19 +87,19 @@ no_zero : (k : ℕ) (x : Tree ℕ) → IsShuffle k x → occurs 0 x ≡ 0
 no_zero k x h = let none : 0 < occurs 0 x → ⊥ = λ o. (let w = h.only 0 o in omega (arith, w.0)) in omega (arith, none)
 
 -- the leaves of the inputs stand at the leaves of a tree
-sum_of_parts : (k : ℕ) (s : ℕ → Tree ℕ) (x : Tree ℕ) (f : ℕ → ℕ) → IsShuffle k x → sum_leaves (graft x s) f ≡ total s 0 k f
+pub sum_of_parts : (k : ℕ) (s : ℕ → Tree ℕ) (x : Tree ℕ) (f : ℕ → ℕ) → IsShuffle k x → sum_leaves (graft x s) f ≡ total s 0 k f
 sum_of_parts k s x f h =
     sum_leaves-graft x s f ∙ by_counts (suc k) x (λ a. sum_leaves (s a) f) (by_leaf x (λ i. i < suc k) (λ i o. let w = h.only i o in omega (arith, w.1)))
     ∙ from_one s f (λ i. occurs i x) k (no_zero k x h) h.each
 
-least_is_one : (k : ℕ) (x : Tree ℕ) → 0 < k → IsShuffle k x → least x ≡ 1
+pub least_is_one : (k : ℕ) (x : Tree ℕ) → 0 < k → IsShuffle k x → least x ≡ 1
 least_is_one k x p h =
     let one : occurs 1 x ≡ 1 = h.each 1 (omega arith) (omega (arith, p)) in
     let low : least x ≤ 1 = at_leaf x (λ i. least x ≤ i) 1 (least-le x h.rising) (omega (arith, one)) in
     let w = h.only (least x) (least-occurs x h.rising) in
     omega (arith, low, w.0)
 
-first_listed : (s : ℕ → Tree ℕ) (k : ℕ) → 0 < k → least_row (row (listed s 0 k)) ≡ least (s 1)
+pub first_listed : (s : ℕ → Tree ℕ) (k : ℕ) → 0 < k → least_row (row (listed s 0 k)) ≡ least (s 1)
 first_listed s zero p = absurd (omega arith)
 first_listed s (suc k) p = refl
 

@@ -107,6 +107,14 @@ impl Frame {
         }
     }
 
+    /// The frame of a context and inputs that make one. It takes no memory and no time.
+    pub fn from_valid(context: Shape, inputs: Items<STree>) -> Frame
+        requires { IsValidFrame (frame_from (tree_of context) inputs) }
+        ensures { result ≡ frame_from (tree_of context) inputs }
+    {
+        Frame { context, inputs }
+    }
+
     /// The context, whose leaf 0 is the hole. It takes no memory.
     pub fn context(&self) -> &Shape
         ensures context { tree_of result.now ≡ self.now.hole }

@@ -155,8 +155,8 @@ impl STree {
         }
     }
 
-    // The shuffle tree of a plain tree that is one.
-    pub(crate) fn from_valid(shape: Shape) -> STree
+    /// The shuffle tree of a plain tree that is one. It takes no memory and no time.
+    pub fn from_valid(shape: Shape) -> STree
         requires { IsValid (tree_of shape) }
         ensures { result ≡ tree_of shape }
     {

@@ -39,7 +39,8 @@ use Rattle.symmetric_sums.specs.declared.instance.Rule.TheVariants.{Rel, Swap, S
 use Rattle.symmetric_sums.specs.declared.instance.Instance.{Instance}
 use Rattle.labelled_trees.proofs.Counts.{leaf_count-numbered}
 use Rattle.symmetric_sums.proofs.Expansions.{without_zeros-zero, without_zeros-some}
-use Rattle.symmetric_sums.proofs.SymmetryRules.{exchange-in_part, numbered-numbered}
+use Rattle.operad_ideals.proofs.Corollas.{numbered-numbered}
+use Rattle.symmetric_sums.proofs.SymmetryRules.{exchange-in_part}
 use Rattle.symmetric_sums.proofs.PlacedIdeals.{placed_member}
 
 -- ---- products modulo p, without zeros, as a multiple
@@ -55,7 +56,7 @@ hit_zero : {A : Type 0} (d : Dec A) (a : ℕ) → a ≡ 0 → hit d a ≡ 0
 hit_zero (yes _) a z = z
 hit_zero (no _) a z = refl
 
-without_zeros-same : (e : List (ℕ × Tree ℕ)) (t : Tree ℕ) → coef tree_discrete (without_zeros e) t ≡ coef tree_discrete e t
+pub without_zeros-same : (e : List (ℕ × Tree ℕ)) (t : Tree ℕ) → coef tree_discrete (without_zeros e) t ≡ coef tree_discrete e t
 unfolding coef
 without_zeros-same [] t = refl
 without_zeros-same (x ∷ e) t = go (ℕ_discrete x.0 0) (without_zeros-same e t)
@@ -64,7 +65,7 @@ without_zeros-same (x ∷ e) t = go (ℕ_discrete x.0 0) (without_zeros-same e t
     go (yes z) rest = ap (λ l. coef tree_discrete l t) (without_zeros-zero x e z) ∙ rest ∙ omega (arith, hit_zero (tree_discrete x.1 t) x.0 z)
     go (no z) rest = ap (λ l. coef tree_discrete l t) (without_zeros-some x e z) ∙ ap (λ n. hit (tree_discrete x.1 t) x.0 + n) rest
 
-products-same : (q c : ℕ) (e : List (ℕ × Tree ℕ)) → Same tree_discrete q (products (suc q) c e) (scale c e)
+pub products-same : (q c : ℕ) (e : List (ℕ × Tree ℕ)) → Same tree_discrete q (products (suc q) c e) (scale c e)
 unfolding coef scale
 products-same q c [] t = refl
 products-same q c (x ∷ e) t = alike_add q _ _ _ _ (hit_alike q (tree_discrete x.1 t) (c * x.0)) (products-same q c e t)

@@ -11,6 +11,7 @@ use Rattle.operad_ideals.specs.Laws.{arity}
 use Rattle.operad_ideals.specs.Parts.{Part, Kind, symmetric, skew, free, Sign, Turns, InOnePart}
 use Rattle.operad_ideals.specs.Rules.{numbered, exchanged_at}
 use Rattle.operad_ideals.proofs.Exchanged.{numbered_within, width-exchanged, sum_row-exchanged, fits_row-exchanged}
+use Rattle.operad_ideals.proofs.Corollas.{numbered-numbered, exchanged-numbered, numbered-fits, exchanged-fits}
 use Rattle.operad_ideals.proofs.SortedLists.{tested}
 use Rattle.std.proofs.lemmas.List.Elements.{All-from_recursion}
 use Rattle.labelled_trees.specs.Meaning.{tree_of}
@@ -103,49 +104,6 @@ exchanged-row (suc i) a b (suc k) one other e f g l =
 
 pub exchanged-list : (i k one other : ℕ) → one ≡ i + 1 → other ≡ one + 1 → suc i < k → exchanged_at i (numbered 0 k) ≡ row (map (λ n. leaf (exchanged one other n)) (range_with_len 1 k))
 exchanged-list i k one other e f l = exchanged-row i 0 1 k one other refl (omega (arith, e)) (omega (arith, e, f)) l
-
--- ---- the trees of a rule carry 1 to k
-
-not_before : (a k i : ℕ) → i ≤ a → occurs_row i (numbered a k) ≡ 0
-not_before a zero i l = refl
-not_before a (suc k) i l =
-    let z = one_if-no (ℕ_discrete (suc a) i) (λ e. omega (arith, e, l)) in omega (arith, z, not_before (suc a) k i (omega (arith, l)))
-
-once : (a k i : ℕ) → a < i → i ≤ a + k → occurs_row i (numbered a k) ≡ 1
-once a zero i l m = absurd (omega (arith, l, m))
-once a (suc k) i l m = go (ℕ_discrete (suc a) i) (λ h. once (suc a) k i h (omega (arith, m)))
-  where
-    go : Dec (suc a ≡ i) → (suc a < i → occurs_row i (numbered (suc a) k) ≡ 1) → occurs_row i (numbered a (suc k)) ≡ 1
-    go (yes e) later = let o = one_if-yes (ℕ_discrete (suc a) i) e in omega (arith, o, not_before (suc a) k i (omega (arith, e)))
-    go (no f) later = let z = one_if-no (ℕ_discrete (suc a) i) f in omega (arith, z, later (omega (arith, l, f)))
-
-pub numbered-numbered : (g k : ℕ) → IsNumbered k (node g (numbered 0 k))
-numbered-numbered g k = record {
-  each = λ i l m. once 0 k i l (omega (arith, m));
-  only = λ i o. let w = at_row (numbered 0 k) (λ j. (0 < j) × (j ≤ 0 + k)) i (numbered_within 0 k) o in (w.0, omega (arith, w.1));
-}
-
-pub exchanged-numbered : (g k i : ℕ) → IsNumbered k (node g (exchanged_at i (numbered 0 k)))
-exchanged-numbered g k i =
-    let plain = numbered-numbered g k in
-    let same : (j : ℕ) → occurs_row j (exchanged_at i (numbered 0 k)) ≡ occurs_row j (numbered 0 k) = λ j. sum_row-exchanged i (numbered 0 k) (λ n. one_if (ℕ_discrete n j)) in
-    record { each = λ j l m. same j ∙ plain.each j l m; only = λ j o. plain.only j (omega (arith, o, same j)) }
-
--- ---- they fit the table
-
-width-numbered : (a k : ℕ) → width (numbered a k) ≡ k
-width-numbered a zero = refl
-width-numbered a (suc k) = ap suc (width-numbered (suc a) k)
-
-fits-numbered : (arities : ℕ → ℕ) (a k : ℕ) → labelled.FitsRow arities (numbered a k)
-fits-numbered arities a zero = tt
-fits-numbered arities a (suc k) = (tt, fits-numbered arities (suc a) k)
-
-pub numbered-fits : (arities : ℕ → ℕ) (g : ℕ) → 2 ≤ arities g → labelled.Fits arities (node g (numbered 0 (arities g)))
-numbered-fits arities g l = (l, width-numbered 0 (arities g), fits-numbered arities 0 (arities g))
-
-pub exchanged-fits : (arities : ℕ → ℕ) (g i : ℕ) → 2 ≤ arities g → labelled.Fits arities (node g (exchanged_at i (numbered 0 (arities g))))
-exchanged-fits arities g i l = (l, width-exchanged i (numbered 0 (arities g)) ∙ width-numbered 0 (arities g), fits_row-exchanged arities i (numbered 0 (arities g)) (fits-numbered arities 0 (arities g)))
 
 -- ---- a rule of a table
 

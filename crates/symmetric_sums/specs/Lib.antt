@@ -1,8 +1,9 @@
-pub mod Terms
 pub mod Calls
 pub mod Collected
 pub mod Collecting
-pub mod Instances
 pub mod Expanding
-pub mod Symmetries
+pub mod Instances
 pub mod Membership
+pub mod Symmetries
+pub mod Terms
+pub mod Uses

@@ -3,7 +3,8 @@ use Rattle.symmetric_sums.specs.Terms.{terms_of}
 use Rattle.symmetric_sums.specs.Instances.{rule_element}
 use Rattle.symmetric_sums.proofs.Expansions.{err_is}
 use Rattle.certificate_text.specs.declared.block.Step.{Step}
-use Rattle.certificate_check.specs.Blocks.{elements_of, CitesElement, cited}
+use Rattle.certificate_check.specs.Blocks.{elements_of}
+use Rattle.symmetric_sums.specs.Uses.{CitesElement, cited}
 use Rattle.certificate_check.specs.Checking.{fault_of}
 use Rattle.certificate_check.proofs.GoodUses.{step_at-found, used-ok, used-err, not_ahead_within}
 use Rattle.certificate_check.proofs.uses.expand_use.Goals as goal

@@ -1,7 +1,8 @@
 use Rattle.std.proofs.Common.{◌≡◌, ◌∙◌, ◌+◌, ℕ, Some, ap, sym, subst, take, drop}
 use Rattle.std.proofs.lemmas.List.{take_all}
 use Rattle.symmetric_sums.proofs.Expansions.{err_is, same_if_some, same_if_none}
-use Rattle.certificate_check.specs.Blocks.{elements_of, AreGoodUses, sum_of}
+use Rattle.certificate_check.specs.Blocks.{elements_of}
+use Rattle.symmetric_sums.specs.Uses.{AreGoodUses, sum_of}
 use Rattle.certificate_check.specs.Checking.{AreUsed}
 use Rattle.certificate_check.proofs.GoodUses.{so_far-good, so_far-arity, so_far-step, bad-use, bad-arity, split-at, taken}
 use Rattle.certificate_check.proofs.uses.sum_of_uses.Goals.{in-Some+else-others-expanded, in_default}

@@ -1,0 +1,16 @@
+pub mod Actions
+pub mod Choices
+pub mod Congruences
+pub mod CycleForms
+pub mod CycleTypes
+pub mod Entries
+pub mod Lie
+pub mod ModularExamples
+pub mod ModularTraces
+pub mod NormalTraces
+pub mod ShuffleRows
+pub mod Spans
+pub mod Totals
+pub mod Traces
+pub mod TypePermutations
+pub mod Unlabelled

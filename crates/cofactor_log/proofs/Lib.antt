@@ -1,0 +1,11 @@
+pub mod Citing
+pub mod Copies
+pub mod ElementSums
+pub mod Founded
+pub mod Further
+pub mod KeptEntries
+pub mod Marking
+pub mod Members
+pub mod Numbers
+pub mod Reaching
+pub mod Starts

@@ -1,0 +1,17 @@
+pub mod Calls
+pub mod Chains
+pub mod Counters
+pub mod CycleTypes
+pub mod Enough
+pub mod Entries
+pub mod FullRuns
+pub mod Items
+pub mod JobLists
+pub mod Jobs
+pub mod LoopLaws
+pub mod Reductions
+pub mod Rows
+pub mod RunLaws
+pub mod Runs
+pub mod RunsSoFar
+pub mod Stages

@@ -1,0 +1,92 @@
+-- What was gathered, before it is sorted and ruled.
+use Rattle.std.proofs.Common.{◌≡◌, ℕ, zero, suc, ◌<◌, List, [], ◌∷◌, length, refl, sym, ◌∙◌, ap, subst, Option, Some, slice_get, get_or, inl, inr}
+use Rattle.std.specs.List.{All}
+use Rattle.std.specs.declared.cmp.Ordering.{Ordering}
+use Rattle.std.proofs.lemmas.Option.{slice_get-get_or, slice_get_within, get_or_from_slice_get}
+use Rattle.modular_sums.specs.Lists.{Mem, Distinct}
+use Rattle.labelled_trees.specs.Trees.{Tree}
+use Rattle.shuffle_insertions.specs.ShuffleTrees.{IsShuffleTree}
+use Rattle.shuffle_bases.specs.Elements.{Element, Setting, Insertion}
+use Rattle.division.specs.declared.reducer.Reducer.{Reducer}
+use Rattle.division.specs.Insertions.{Grows}
+use Rattle.division.specs.Dividers.{AreReducers, AreDividers}
+use Rattle.division.specs.Gathered.{AreGathered, AllOver, ArePlaces}
+use Rattle.division.specs.Laws.{IsElementOf}
+use Rattle.division.proofs.MadeTrees.{grown_tree, grown_ids}
+use Rattle.division.proofs.TailSteps.{reducers_later}
+use Rattle.order_blocks.specs.Sorting.{trees_at, AreOfOneArity, Rise}
+use Rattle.shuffle_reductions.specs.Swept.{IsTableOver}
+use Rattle.division.specs.Given.{AreGiven}
+use Rattle.division.specs.Ranks.{AreRanks, AreRules, CanRule}
+use Rattle.division.specs.Cones.{CanGather}
+use Rattle.division.proofs.OverTrees.{elements_over, can_rule, table_over}
+
+-- ids with places stand once each
+pub distinct_places : (places : List (Option ℕ)) (ids : List ℕ) → ArePlaces places ids → Distinct ids
+distinct_places places ids h = once ids (λ p q x e f. let a = h.to x p e in let b = h.to x q f in cc (a, b))
+  where
+    placed : (x : ℕ) (l : List ℕ) → Mem x l → (k : ℕ) × (slice_get l k ≡ Some x)
+    placed x [] m = absurd m
+    placed x (y ∷ l) (inl e) = (0, ap Some (sym e))
+    placed x (y ∷ l) (inr m) = let p = placed x l m in (suc p.0, p.1)
+
+    zero_suc : (k : ℕ) → zero ≡ suc k → ⊥
+    zero_suc k e = cc e
+
+    less : (j k : ℕ) → suc j ≡ suc k → j ≡ k
+    less j k e = cc e
+
+    once : (l : List ℕ) → ((p q x : ℕ) → slice_get l p ≡ Some x → slice_get l q ≡ Some x → p ≡ q) → Distinct l
+    once [] h = tt
+    once (y ∷ l) h = (λ m. let p = placed y l m in zero_suc p.0 (h 0 (suc p.0) y refl p.1), once l (λ p q x e f. less p q (h (suc p) (suc q) x e f)))
+
+-- what is known once trees were gathered
+pub record IsReady (old new : List (Tree ℕ)) (reducers : List Reducer) (found : List (Option ℕ)) (given ids : List ℕ) (tails : List (List ℕ)) : Type 0 where
+  pub grows : Grows old new
+  pub before : AreReducers old reducers
+  pub given_held : All (λ i. i < length old) given
+  pub dividers : AreDividers new reducers found
+  pub gathered : AreGathered new reducers found given ids tails
+
+module _ (old new : List (Tree ℕ)) (reducers : List Reducer) (found : List (Option ℕ)) (given ids : List ℕ) (tails : List (List ℕ)) (r : IsReady old new reducers found given ids tails)
+    (compare : Tree ℕ → Tree ℕ → Ordering) (q : ℕ) (coefs : List (List ℕ)) (s : Setting) (n : ℕ) (g : CanGather compare q old reducers coefs given s n) where
+  element_later : (e : ℕ) (d : Reducer) (h : Element) → slice_get reducers e ≡ Some d → IsElementOf old d h → IsElementOf new d h
+  element_later e d h f i = record {
+    lead_is = i.lead_is ∙ sym (grown_tree old new r.grows d.lead (r.before e d f).lead_low);
+    tail_is = i.tail_is ∙ sym (grown_ids old new r.grows d.tail (r.before e d f).tail_low);
+  }
+
+  given_later : AreGiven new reducers coefs s
+  given_later = record {
+    each = λ h m. let k = g.are.each h m in (k.0, k.1, k.2, element_later k.0 k.1 h k.2 k.3);
+    only = λ e d f. let k = g.are.only e d f in (k.0, k.1, element_later e d k.0 f k.2, k.3, k.4);
+  }
+
+  over_later : AllOver s.arity n new given
+  over_later p i e =
+      subst (IsShuffleTree s.arity n) (sym (grown_tree old new r.grows i (subst (λ j. j < length old) (get_or_from_slice_get given p i i e) (r.given_held p i (slice_get_within given p i e))))) (g.over p i e)
+
+  hr : AreReducers new reducers
+  hr = reducers_later old new reducers r.grows r.before
+
+  pub ready_over : AllOver s.arity n new ids
+  ready_over = r.gathered.over s.arity n (elements_over new reducers coefs s g.fit given_later) over_later
+
+  pub ready_arity : AreOfOneArity new ids
+  ready_arity = record {
+    arity = s.arity;
+    leaves = n;
+    few = g.few;
+    held = r.gathered.held;
+    are = λ k d lt. ready_over k (get_or ids k d) (slice_get-get_or ids k d lt);
+  }
+
+  module _ (order ranks : List ℕ) (rise : Rise compare (trees_at new ids order)) (are : AreRanks order ranks (length ids)) where
+    rise_now : Rise s.compare (trees_at new ids order)
+    rise_now = subst (λ (c : Tree ℕ → Tree ℕ → Ordering). Rise c (trees_at new ids order)) (sym g.compare_is) rise
+
+    pub ready_rules : CanRule q coefs found ids tails order ranks
+    ready_rules = subst (λ p. CanRule p coefs found ids tails order ranks) g.prime_is (can_rule new reducers coefs found given ids tails order ranks s n g.fit given_later hr r.dividers r.gathered over_later rise_now are)
+
+    pub ready_table : (rules : List (Option (List (ℕ × ℕ)))) → AreRules coefs found ids tails order ranks rules → (insertions : List (Option (Insertion s n))) × IsTableOver s n (trees_at new ids order) insertions rules
+    ready_table rules h = table_over new reducers coefs found given ids tails order ranks s n g.fit given_later hr r.dividers r.gathered over_later rise_now are rules h

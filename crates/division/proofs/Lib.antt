@@ -1,0 +1,17 @@
+pub mod Agreeing
+pub mod Builds
+pub mod Coning
+pub mod Elements
+pub mod FirstDividers
+pub mod GrownCones
+pub mod InputTrees
+pub mod KeptLists
+pub mod LaidParts
+pub mod MadeTrees
+pub mod Meeting
+pub mod OverTrees
+pub mod Ranking
+pub mod Rowing
+pub mod Ruling
+pub mod TailSteps
+pub mod WholeTrees

@@ -1,0 +1,11 @@
+pub mod Cones
+pub mod Dividers
+pub mod Gathered
+pub mod Given
+pub mod Growing
+pub mod Insertions
+pub mod KeptTails
+pub mod Laws
+pub mod Parts
+pub mod Ranks
+pub mod Rows

@@ -1,0 +1,182 @@
+ghost use Rattle.std.specs.Prelude.{◌≡◌, ◌<◌, ◌≤◌, ◌++◌, ◌∷◌, ◌↔◌, ℕ, [], List, Some, None, length, map, slice_get, IfOk, OnOk};
+ghost use Rattle.std.specs.List.{All};
+ghost use Rattle.tree_store.specs.Stores.{tree_at, IsStore};
+ghost use Rattle.division.specs.Insertions.{Grows};
+ghost use Rattle.division.specs.Dividers.{FoundGrows, HaveRoom};
+ghost use Rattle.division.specs.Gathered.{AreGathered, ArePlaces, Came, IsStepOf, IsWorking, Longer, SamePlaces, StandAt};
+
+use crate::extending::extend_dividers;
+use crate::kept::make_tail;
+use crate::reducer::Reducer;
+use sqlite_items::Items;
+use std::alloc::{AllocError, Global};
+use tree_store::{Store, StoreFail, TreeId};
+
+const MOST: usize = 2_147_483_648;
+
+// Room for the place of this id.
+fn widen(places: &mut Items<Option<u32>>, at: usize) -> Result<(), AllocError>
+    ensures long { OnOk result (at < length places.new) }
+    ensures same { SamePlaces places.old places.new }
+{
+    while places.len() <= at {
+        places.push(None)?;
+    }
+    Ok(())
+}
+
+// Puts an id behind the others, whose place it has from now on.
+fn enter(
+    places: &mut Items<Option<u32>>,
+    ids: &mut Items<TreeId>,
+    id: TreeId,
+) -> Result<u32, StoreFail>
+    requires places { ArePlaces places.old ids.old }
+    requires room { id < length places.old }
+    requires new { slice_get places.old id ≡ Some None }
+    ensures there { IfOk result (λ p. slice_get ids.new p ≡ Some id) }
+    ensures places { ArePlaces places.new ids.new }
+    ensures longer { Longer ids.old ids.new }
+    ensures held { (n : ℕ) → All (λ i. i < n) ids.old → id < n → All (λ i. i < n) ids.new }
+    ensures only { Came ids.old ids.new (id ∷ []) }
+{
+    let place = ids.len();
+    if place >= MOST {
+        return Err(StoreFail::StoreFull);
+    }
+    match ids.push(id) {
+        Ok(()) => {
+            places.set(id.index(), Some(place as u32));
+            Ok(place as u32)
+        }
+        Err(_) => Err(StoreFail::NoMemory),
+    }
+}
+
+/// The place of the id in the list, where it stands from now on. `places` has the places of the ids.
+/// An error comes for want of memory, or of room for more than 2^31 ids; the list is as before then.
+pub fn meet(
+    places: &mut Items<Option<u32>>,
+    ids: &mut Items<TreeId>,
+    id: TreeId,
+) -> Result<u32, StoreFail>
+    requires places { ArePlaces places.old ids.old }
+    ensures there { IfOk result (λ p. slice_get ids.new p ≡ Some id) }
+    ensures places { ArePlaces places.new ids.new }
+    ensures longer { Longer ids.old ids.new }
+    ensures held { (n : ℕ) → All (λ i. i < n) ids.old → id < n → All (λ i. i < n) ids.new }
+    ensures only { Came ids.old ids.new (id ∷ []) }
+{
+    match widen(places, id.index()) {
+        Ok(()) => match places.as_slice()[id.index()] {
+            Some(place) => Ok(place),
+            None => enter(places, ids, id),
+        },
+        Err(_) => Err(StoreFail::NoMemory),
+    }
+}
+
+/// The places of the ids of a tail in the list, where they stand from now on.
+pub fn meet_all(
+    alloc: Global,
+    places: &mut Items<Option<u32>>,
+    ids: &mut Items<TreeId>,
+    tail: &[TreeId],
+) -> Result<Items<u32>, StoreFail>
+    requires places { ArePlaces places.old ids.old }
+    ensures there { IfOk result (λ found. StandAt ids.new found tail.now) }
+    ensures places { ArePlaces places.new ids.new }
+    ensures longer { Longer ids.old ids.new }
+    ensures held { (n : ℕ) → All (λ i. i < n) ids.old → All (λ i. i < n) tail.now → All (λ i. i < n) ids.new }
+    ensures only { Came ids.old ids.new tail.now }
+{
+    let mut found = Items::new(alloc);
+    for id in tail {
+        let place = meet(places, ids, *id)?;
+        match found.push(place) {
+            Ok(()) => {}
+            Err(_) => return Err(StoreFail::NoMemory),
+        }
+    }
+    Ok(found)
+}
+
+/// One step from the tree with this id: the ids of its tail, none where no element divides it.
+pub fn step(
+    store: &mut Store,
+    alloc: Global,
+    reducers: &[Reducer],
+    groups: &[Items<u32>],
+    found: &mut Items<Option<u32>>,
+    kept: &mut Items<Option<Items<TreeId>>>,
+    parts: &mut [TreeId],
+    id: TreeId,
+) -> Result<Items<TreeId>, StoreFail>
+    requires working { IsWorking store.old reducers.now groups.now found.old kept.old }
+    requires room { HaveRoom reducers.now (length parts.old) }
+    requires id { id < length store.old }
+    ensures step { IfOk result (λ tail. IsStepOf store.new reducers.now found.new id tail) }
+    ensures working { IsWorking store.new reducers.now groups.now found.new kept.new }
+    ensures grows { Grows store.old store.new }
+    ensures found { FoundGrows found.old found.new }
+{
+    match extend_dividers(store, reducers, groups, found, id, parts) {
+        Ok(()) => {}
+        Err(_) => return Err(StoreFail::NoMemory),
+    }
+    let mut tail = Items::new(alloc);
+    match found.as_slice()[id.index()] {
+        None => Ok(tail),
+        Some(_) => {
+            make_tail(
+                store,
+                alloc,
+                reducers,
+                found.as_slice(),
+                kept,
+                parts,
+                id,
+                &mut tail,
+            )?;
+            Ok(tail)
+        }
+    }
+}
+
+/// Gathers all trees that steps can reach from those of the list: each that is reached is put behind the others, once. The
+/// answer has for each id of the list the places of its tail there, and none where no element divides its tree.
+/// `places` has the places of the ids of the list, and `parts` is room for the parts of a tree; its contents don't matter.
+/// An error comes for want of room in the store, of room for more than 2^31 ids, or of memory.
+pub fn gather(
+    store: &mut Store,
+    alloc: Global,
+    reducers: &[Reducer],
+    groups: &[Items<u32>],
+    found: &mut Items<Option<u32>>,
+    kept: &mut Items<Option<Items<TreeId>>>,
+    parts: &mut [TreeId],
+    places: &mut Items<Option<u32>>,
+    ids: &mut Items<TreeId>,
+) -> Result<Items<Items<u32>>, StoreFail>
+    requires working { IsWorking store.old reducers.now groups.now found.old kept.old }
+    requires room { HaveRoom reducers.now (length parts.old) }
+    requires places { ArePlaces places.old ids.old }
+    requires held { All (λ i. i < length store.old) ids.old }
+    ensures gathered { IfOk result (AreGathered store.new reducers.now found.new ids.old ids.new) }
+    ensures working { IsWorking store.new reducers.now groups.now found.new kept.new }
+    ensures places { ArePlaces places.new ids.new }
+    ensures found { FoundGrows found.old found.new }
+    ensures grows { Grows store.old store.new }
+{
+    let mut tails = Items::new(alloc);
+    'each: while tails.len() < ids.len() {
+        let id = ids.as_slice()[tails.len()];
+        let tail = step(store, alloc, reducers, groups, found, kept, parts, id)?;
+        let at = meet_all(alloc, places, ids, tail.as_slice())?;
+        match tails.push(at) {
+            Ok(()) => {}
+            Err(_) => return Err(StoreFail::NoMemory),
+        }
+    }
+    Ok(tails)
+}

@@ -1,0 +1,13 @@
+pub mod Choices
+pub mod Found
+pub mod Parting
+pub mod Places
+pub mod Rows
+pub mod Sets
+pub mod Sorting
+pub mod Trees
+pub mod VertexWords
+pub mod Vertices
+pub mod Walks
+pub mod WordTexts
+pub mod Words

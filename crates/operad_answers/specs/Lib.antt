@@ -1,0 +1,14 @@
+pub mod Budgets
+pub mod CertificateLaws
+pub mod CertifiedDocuments
+pub mod Commands
+pub mod Headline
+pub mod Laws
+pub mod Limits
+pub mod OrderedPresentations
+pub mod Parts
+pub mod Texts
+pub mod TrialDocuments
+pub mod TrialLaws
+pub mod TrialTexts
+pub mod Verdicts

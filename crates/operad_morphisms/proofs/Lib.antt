@@ -1,0 +1,10 @@
+pub mod Composing
+pub mod Composites
+pub mod Examples
+pub mod Grafts
+pub mod Identities
+pub mod ImageLeaves
+pub mod ImageSums
+pub mod Morphisms
+pub mod ObligationList
+pub mod Products

@@ -1,0 +1,5 @@
+pub mod Compositions
+pub mod Images
+pub mod Laws
+pub mod Maps
+pub mod Obligations

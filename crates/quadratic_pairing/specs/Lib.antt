@@ -1,0 +1,4 @@
+pub mod DualRelations
+pub mod Duals
+pub mod Laws
+pub mod Pairings

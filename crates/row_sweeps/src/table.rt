@@ -1,0 +1,188 @@
+ghost use Rattle.std.specs.Prelude.{◌≡◌, ◌<◌, ◌≤◌, ◌+◌, ◌++◌, ◌^◌, ◌-◌, ℕ, List, [], Some, None, length, slice_get, slice_set, slice_range, IfOk, IsTrue, OnOk, OnErr, MatchOption, map};
+ghost use Rattle.std.specs.List.{zip};
+ghost use Rattle.std.proofs.Common.{suc};
+ghost use Rattle.modular_sums.specs.RuleTables.{HasRule, IsTail, IsUnruled};
+ghost use Rattle.row_sweeps.specs.Terms.{pairs};
+ghost use Rattle.row_sweeps.specs.Rules.{unruled};
+ghost use Rattle.row_sweeps.specs.Stored.{nothing_stored};
+
+use crate::Term;
+use crate::testing::is_falling_tail;
+use std::alloc::{AllocError, Global};
+use std::marker::Model;
+
+// Where the positions of a tail begin, where its coefficients do, and how many there are.
+#[derive(Clone, Copy)]
+pub struct Stored {
+    at: usize,
+    from: usize,
+    len: usize,
+}
+
+// A tail of a rule.
+#[derive(Drop)]
+pub struct Tail<'a> {
+    pub positions: &'a [u32],
+    pub coefs: &'a [u32],
+}
+
+/// For each position a rule or none, modulo a number from 1 to 65537. Coefficients are put in once, for all rules that share them.
+/// Contracts see this number less 1, the coefficients, and for each position the tail of its rule.
+#[derive(Drop)]
+pub struct RuleTable {
+    prime: u32,
+    rules: Vec<Option<Stored>>,
+    tails: Vec<u32>,
+    coefs: Vec<u32>,
+}
+
+impl Model for RuleTable {
+    ghost use Rattle.row_sweeps.specs.Rules.{Rules};
+
+    ghost Value = { Rules };
+
+    ghost use Rattle.row_sweeps.specs.Stored.{shown, IsStored};
+
+    ghost view = { shown };
+
+    ghost invariant = { IsStored };
+}
+
+// So many positions without a rule.
+fn no_rules(alloc: Global, size: usize) -> Result<Vec<Option<Stored>>, AllocError>
+    ensures none { IfOk result (λ rules. rules.items ≡ nothing_stored size) }
+{
+    let mut rules = Vec::with_capacity(alloc, size)?;
+    for _ in 0..size {
+        rules.push(None)?;
+    }
+    Ok(rules)
+}
+
+fn coefs_of(alloc: Global, tail: &[Term]) -> Result<Vec<u32>, AllocError>
+    ensures coefs { IfOk result (λ coefs. coefs.items ≡ map (λ term. term.coef) tail.now) }
+{
+    tail.iter().map(|term| term.coef).collect(alloc)
+}
+
+fn positions_of(alloc: Global, tail: &[Term]) -> Result<Vec<u32>, AllocError>
+    ensures positions { IfOk result (λ positions. positions.items ≡ map (λ term. term.position) tail.now) }
+{
+    tail.iter().map(|term| term.position).collect(alloc)
+}
+
+impl RuleTable {
+    /// A table of so many positions, without rules, modulo the prime.
+    pub fn new(alloc: Global, prime: u32, size: usize) -> Result<RuleTable, AllocError>
+        requires positive { 0 < prime }
+        requires small { prime ≤ 65537 }
+        requires few { size ≤ 2 ^ 30 }
+        ensures empty { IfOk result (λ table. table ≡ record { q = prime - 1; coefs = []; rules = unruled size }) }
+    {
+        Ok(RuleTable {
+            prime,
+            rules: no_rules(alloc, size)?,
+            tails: Vec::new(alloc),
+            coefs: Vec::new(alloc),
+        })
+    }
+
+    /// The prime, from 1 to 65537.
+    pub fn prime(&self) -> u32
+        ensures prime { result ≡ suc self.now.q }
+        ensures small { result ≤ 65537 }
+    {
+        self.prime
+    }
+
+    /// How many positions there are, at most 2^30.
+    pub fn len(&self) -> usize
+        ensures len { result ≡ length self.now.rules }
+        ensures few { result ≤ 2 ^ 30 }
+    {
+        self.rules.len()
+    }
+
+    /// Puts coefficients behind the others, and answers where they begin. `AllocError` comes for want of memory alone.
+    pub fn add_coefs(&mut self, coefs: &[u32]) -> Result<usize, AllocError>
+        ensures from { IfOk result (λ from. from ≡ length self.old.coefs) }
+        ensures added { OnOk result (self.new ≡ record self.old { coefs = self.old.coefs ++ coefs.now }) }
+        ensures unchanged { OnErr result (self.new ≡ self.old) }
+    {
+        let from = self.coefs.len();
+        self.coefs.extend_from_slice(coefs)?;
+        Ok(from)
+    }
+
+    /// Whether `add_rule` may be called with these: it asks that the positions of the tail fall, which is more than it has to.
+    pub fn takes_rule(&self, position: usize, from: usize, tail: &[u32]) -> bool
+        ensures position { IsTrue result → position < length self.now.rules }
+        ensures from { IsTrue result → from + length tail.now ≤ length self.now.coefs }
+        ensures tail { IsTrue result → IsTail self.now.q position (zip (slice_range self.now.coefs from (from + length tail.now)) tail.now) }
+    {
+        let len = self.coefs.len();
+        if position >= self.rules.len() || tail.len() > len || from > len - tail.len() {
+            return false;
+        }
+        is_falling_tail(
+            self.prime,
+            position,
+            tail,
+            &self.coefs[from..from + tail.len()],
+        )
+    }
+
+    /// Gives a position the rule with this tail, whose coefficients begin at `from`. `AllocError` comes for want of memory alone.
+    pub fn add_rule(&mut self, position: usize, from: usize, tail: &[u32]) -> Result<(), AllocError>
+        requires position { position < length self.old.rules }
+        requires from { from + length tail.now ≤ length self.old.coefs }
+        requires tail { IsTail self.old.q position (zip (slice_range self.old.coefs from (from + length tail.now)) tail.now) }
+        ensures added { OnOk result (self.new ≡ record self.old { rules = slice_set self.old.rules position (Some (zip (slice_range self.old.coefs from (from + length tail.now)) tail.now)) }) }
+        ensures unchanged { OnErr result (self.new ≡ self.old) }
+    {
+        let at = self.tails.len();
+        self.tails.extend_from_slice(tail)?;
+        self.rules[position] = Some(Stored {
+            at,
+            from,
+            len: tail.len(),
+        });
+        Ok(())
+    }
+
+    /// Gives a position the rule with the tail of these terms. `AllocError` comes for want of memory alone; the rules are as before then.
+    pub fn add_terms(
+        &mut self,
+        alloc: Global,
+        position: usize,
+        tail: &[Term],
+    ) -> Result<(), AllocError>
+        requires position { position < length self.old.rules }
+        requires tail { IsTail self.old.q position (pairs tail.now) }
+        ensures added { OnOk result (self.new.rules ≡ slice_set self.old.rules position (Some (pairs tail.now))) }
+        ensures unchanged { OnErr result (self.new.rules ≡ self.old.rules) }
+        ensures prime { self.new.q ≡ self.old.q }
+    {
+        let coefs = coefs_of(alloc, tail)?;
+        let positions = positions_of(alloc, tail)?;
+        let from = self.add_coefs(coefs.as_slice())?;
+        self.add_rule(position, from, positions.as_slice())?;
+        Ok(())
+    }
+
+    // The tail of the position's rule, if it has one.
+    pub fn tail(&self, position: usize) -> Option<Tail<'_>>
+        requires position { position < length self.now.rules }
+        ensures tail { MatchOption result (IsUnruled self.now.rules position) (λ t. HasRule self.now.rules position (zip t.coefs.now t.positions.now)) }
+        ensures lengths { MatchOption result (IsUnruled self.now.rules position) (λ t. length t.positions.now ≡ length t.coefs.now) }
+        ensures lower { MatchOption result (IsUnruled self.now.rules position) (λ t. IsTail self.now.q position (zip t.coefs.now t.positions.now)) }
+    {
+        match self.rules[position] {
+            None => None,
+            Some(stored) => Some(Tail {
+                positions: &self.tails[stored.at..stored.at + stored.len],
+                coefs: &self.coefs[stored.from..stored.from + stored.len],
+            }),
+        }
+    }
+}

@@ -1,0 +1,17 @@
+pub mod Existence
+pub mod ExistenceLaws
+pub mod Forms
+pub mod Ideals
+pub mod Laws
+pub mod LeadingTrees
+pub mod Lie
+pub mod Listings
+pub mod Minimal
+pub mod NewElements
+pub mod OneForm
+pub mod Passing
+pub mod Reduced
+pub mod Starts
+pub mod Tails
+pub mod TaskLists
+pub mod Tasks

@@ -1,0 +1,4 @@
+pub mod Completion
+pub mod Existence
+pub mod Laws
+pub mod ReducedBases

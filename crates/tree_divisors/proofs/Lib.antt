@@ -1,0 +1,11 @@
+pub mod FrameParts
+pub mod FramesAtPlaces
+pub mod FramesMade
+pub mod LaidDivisors
+pub mod LaidNumbers
+pub mod LaidPatterns
+pub mod MarkedCuts
+pub mod PlaceChecks
+pub mod PlacesInOrder
+pub mod PlacesInside
+pub mod Restricted

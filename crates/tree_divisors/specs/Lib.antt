@@ -1,0 +1,4 @@
+pub mod Cutting
+pub mod Finding
+pub mod Framing
+pub mod Laying

@@ -1,0 +1,5 @@
+pub mod Draws
+pub mod Elements
+pub mod Laws
+pub mod PreLie
+pub mod VectorFields
