@@ -2,6 +2,7 @@
 use Rattle.std.specs.Prelude.{ℕ, ◌≡◌, List, [], ◌∷◌}
 use Rattle.std.proofs.Common.{Bool, true, false, zero, suc}
 use Rattle.std.specs.declared.cmp.Ordering.{Ordering}
+use Rattle.modular_sums.specs.Lists.{Nth}
 use Rattle.labelled_trees.specs.Trees.{Tree}
 use Rattle.shuffle_insertions.specs.ShuffleTrees.{IsShuffleTree}
 use Rattle.shuffle_places.specs.Connected.{IsConnected}
