@@ -30,7 +30,7 @@ use Rattle.shuffle_transfer.specs.Transfer.{relabelled, shuffled, IsSumOfInserti
 use Rattle.shuffle_transfer.specs.Certified.{setting, IsCertified}
 use Rattle.shuffle_transfer.proofs.Orderings.{all_orderings}
 use Rattle.basis_certificates.specs.Certificates.{Red, ElemEntry, RowEntry, Relabelling, RelabelEntry, Certificate, element_in}
-use Rattle.basis_certificates.specs.Entries.{HasLead, HasUnit, IsGoodElem, IsFit, insertion_of, sum_of, s_element_at, IsRowRed, IsCommonMultiple, IsGoodRow, HasEveryRow, IsRelabelling, IsRelabelRed, IsGoodRelabel, HasEveryRelabel}
+use Rattle.basis_certificates.specs.Entries.{HasOwnLeadingTree, HasUnit, IsGoodElem, IsFit, insertion_of, sum_of, s_element_at, IsRowRed, IsCommonMultiple, IsGoodRow, HasEveryRow, IsRelabelling, IsRelabelRed, IsGoodRelabel, HasEveryRelabel}
 use Rattle.basis_certificates.specs.Holding.{AreGood, CertificateHolds}
 use Rattle.basis_certificates.specs.ShuffleElements.{shuffle_element, shuffle_elements}
 use Rattle.basis_certificates.specs.Laws.{ShowMembers}
@@ -61,7 +61,7 @@ module _ {C : Type 0} (Shown : List (ℕ × Tree ℕ) → C → Type 0) (p : Pre
 
   pub record GoodEntry (x : ElemEntry C) : Type 0 where
     pub earlier : List (ElemEntry C)
-    pub lead : HasLead p cmp earlier x
+    pub lead : HasOwnLeadingTree p cmp earlier x
     pub unit : HasUnit p x
     pub member : InIdeal p (leaf_count x.lead) x.element
 

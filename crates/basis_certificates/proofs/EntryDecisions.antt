@@ -24,7 +24,7 @@ use Rattle.shuffle_transfer.specs.Labels.{shuffle_form, symmetric_tree, word_dis
 use Rattle.shuffle_transfer.specs.Transfer.{relabelled, shuffled}
 use Rattle.shuffle_transfer.proofs.Orderings.{all_orderings}
 use Rattle.basis_certificates.specs.Certificates.{Red, ElemEntry, Multiple, RowEntry, Relabelling, RelabelEntry}
-use Rattle.basis_certificates.specs.Entries.{HasLead, HasUnit, IsFit, sum_of, IsCommonMultiple, HasEveryRow, IsBelow, IsRelabelling, HasEveryRelabel, IsRelabelRed, IsGoodRelabel}
+use Rattle.basis_certificates.specs.Entries.{HasOwnLeadingTree, HasUnit, IsFit, sum_of, IsCommonMultiple, HasEveryRow, IsBelow, IsRelabelling, HasEveryRelabel, IsRelabelRed, IsGoodRelabel}
 use Rattle.basis_certificates.proofs.Lookups.{nth_within}
 use Rattle.basis_certificates.proofs.Spellings.{spelled_back}
 use Rattle.basis_certificates.proofs.Decisions.{dec_both, dec_not, dec_by, dec_under, dec_le, dec_less, dec_each, dec_members, dec_some, dec_mem, dec_all_terms, Kept, kept, look_up, dec_alike, dec_same}
@@ -33,7 +33,7 @@ use Rattle.basis_certificates.proofs.TreeDecisions.{dec_labelled, dec_spelled, d
 -- ---- entries for elements
 
 module _ {C : Type 0} (p : Presentation) (cmp : Tree ℕ → Tree ℕ → Ordering) (earlier : List (ElemEntry C)) (x : ElemEntry C) where
-  pub dec_has_lead : Dec (HasLead p cmp earlier x)
+  pub dec_has_lead : Dec (HasOwnLeadingTree p cmp earlier x)
   dec_has_lead = dec_under (dec_all_terms (IsLabelled (arity_of p) (leaf_count x.lead)) (λ t. dec_labelled (arity_of p) (leaf_count x.lead) t) x.element) (λ h. h.element_labelled)
       (λ l. dec_by (λ h. record { spelled = h.0.0; element_labelled = l; leads = h.0.1; new = h.1 }) (λ h. ((h.spelled, h.leads), h.new))
       (dec_both (dec_both (dec_spelled p x.lead) (dec_lead p cmp (leaf_count x.lead) x.element x.lead l))

@@ -37,7 +37,7 @@ use Rattle.shuffle_transfer.proofs.Orderings.{all_orderings}
 use Rattle.shuffle_transfer.proofs.NormalTrees.{order_of}
 use Rattle.shuffle_transfer.proofs.Jacobi.{jacobi_relation, lie, wide}
 use Rattle.basis_certificates.specs.Certificates.{Red, ElemEntry, Multiple, RowEntry, Relabelling, RelabelEntry, Certificate}
-use Rattle.basis_certificates.specs.Entries.{IsSpelled, HasLead, IsGoodElem, IsFit, sum_of, s_element_at, IsCommonMultiple, HasEveryRow, IsRowRed, IsGoodRow, IsRelabelling, HasEveryRelabel, IsGoodRelabel}
+use Rattle.basis_certificates.specs.Entries.{IsSpelled, HasOwnLeadingTree, IsGoodElem, IsFit, sum_of, s_element_at, IsCommonMultiple, HasEveryRow, IsRowRed, IsGoodRow, IsRelabelling, HasEveryRelabel, IsGoodRelabel}
 use Rattle.basis_certificates.specs.Holding.{AreGood, CertificateHolds}
 use Rattle.basis_certificates.specs.Laws.{Passes}
 use Rattle.basis_certificates.proofs.Lookups.{nth_within}
@@ -197,7 +197,7 @@ entry e = record { lead = t1; element = e; cofactors = tt }
 
 -- t1 leads an element of arity 3 in which it stands, and no greater tree
 pub lead_with : (e : List (ℕ × Tree ℕ)) → AllTerms e (IsLabelled (arity_of lie) 3) → AllTerms (shuffled lie e) (λ s. cmp t1 s ≡ Less → ⊥)
-    → (Alike 100 (coef tree_discrete (shuffled lie e) (shuffle_form lie t1)) 0 → ⊥) → HasLead lie cmp [] (entry e)
+    → (Alike 100 (coef tree_discrete (shuffled lie e) (shuffle_form lie t1)) 0 → ⊥) → HasOwnLeadingTree lie cmp [] (entry e)
 lead_with e labelled below there = record {
   spelled = host_spelled 3 t1 top_two host_t1;
   element_labelled = labelled;
@@ -217,7 +217,7 @@ unit_of : coef tree_discrete (shuffled lie elem.element) (shuffle_form lie t1) �
 unfolding word_discrete same_cons letter_discrete same_letter ℕ_discrete tree_discrete tree_discrete_by row_discrete_by same_leaf same_node same_more coef
 unit_of = refl
 
-pub has_lead : HasLead lie cmp [] elem
+pub has_lead : HasOwnLeadingTree lie cmp [] elem
 has_lead = lead_with elem.element element_labelled not_less (λ z. let k : 1 % 101 ≡ 0 % 101 = rw unit_of at z in absurd (omega (arith, k)))
 
 pub good_elem : IsGoodElem lie cmp (Passes test) [] elem

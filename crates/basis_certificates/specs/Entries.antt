@@ -39,7 +39,7 @@ HasUnit p x = Alike p.q (coef tree_discrete (shuffled p x.element) (shuffle_form
 
 module _ {C : Type 0} (p : Presentation) (cmp : Tree ℕ → Tree ℕ → Ordering) where
   -- The tree of the entry is a sorted spelling, it is the leading tree of the element, and it leads no earlier entry.
-  pub record HasLead (earlier : List (ElemEntry C)) (x : ElemEntry C) : Type 0 where
+  pub record HasOwnLeadingTree (earlier : List (ElemEntry C)) (x : ElemEntry C) : Type 0 where
     pub spelled : IsSpelled p x.lead
     pub element_labelled : AllTerms x.element (IsLabelled (arity_of p) (leaf_count x.lead))
     pub leads : IsLead p cmp (leaf_count x.lead) x.element x.lead
@@ -48,7 +48,7 @@ module _ {C : Type 0} (p : Presentation) (cmp : Tree ℕ → Tree ℕ → Orderi
   -- The entry is good: it has a leading tree of its own, with coefficient 1, and its cofactors show that its element is in the ideal;
   -- `Shown` says which elements are shown by which cofactors.
   pub record IsGoodElem (Shown : List (ℕ × Tree ℕ) → C → Type 0) (earlier : List (ElemEntry C)) (x : ElemEntry C) : Type 0 where
-    pub lead : HasLead earlier x
+    pub lead : HasOwnLeadingTree earlier x
     pub unit : HasUnit p x
     pub shown : Shown x.element x.cofactors
 

@@ -12,31 +12,25 @@ use Rattle.operad_ideals.specs.Presentations.{Relation, Presentation}
 use Rattle.shuffle_transfer.specs.Certified.{setting}
 use Rattle.shuffle_transfer.proofs.Orderings.{all_orderings}
 use Rattle.shuffle_completion.specs.Completion.{Task, IsUnderway, IsTask}
-use Rattle.counted_runs.specs.Items.{Question, Document, arity_in, completion, Item, relabelling, two_places, tail_of, question, traced, IsItem}
+use Rattle.counted_runs.specs.Items.{Question, Problem, arity_in, completion, Item, relabelling, two_places, tail_of, question, traced, IsItem}
 use Rattle.counted_runs.specs.Rows.{AreIdealElements}
 use Rattle.counted_runs.specs.Runs.{EntryOf, IsEntry, HasFinished}
-use Rattle.counted_runs.specs.FullRuns.{HasItem, HasLead, IsLastLead}
+use Rattle.counted_runs.specs.FullRuns.{HasItem, HasLeadingTree, IsLastLead}
 use Rattle.counted_runs.specs.Calls.{completing, call_of}
 use Rattle.counted_runs.specs.Entries.{IsChained}
 use Rattle.counted_runs.specs.RunsSoFar.{Follows, IsRunSoFar}
 use Rattle.counted_runs.proofs.RunsSoFar.{runs_so_far, serves_all}
 use Rattle.counted_runs.proofs.Entries.{entry_law}
 use Rattle.counted_runs.specs.Jobs.{Job, relabel, combine, task_of, item_of, row_of, IsJob}
-use Rattle.counted_runs.proofs.ReductionChains.{steps_of, counted_chain}
+use Rattle.counted_runs.proofs.Numbered.{one_nth, nth_member}
 
 abbrev Sum : Type 0
 Sum = List (ℕ × Tree ℕ)
 
 -- ---- the arity of an item
 
-pub one_nth : {X : Type 0} (k : ℕ) (l : List X) (x y : X) → Nth k l x → Nth k l y → x ≡ y
-one_nth k [] x y h g = absurd h
-one_nth zero (z ∷ l) x y h g = absurd h
-one_nth (suc zero) (z ∷ l) x y h g = h ∙ sym g
-one_nth (suc (suc k)) (z ∷ l) x y h g = one_nth (suc k) l x y h g
-
 -- an item has one arity
-pub one_arity : (d : Document) (n m : ℕ) (i : Item) → IsItem d n i → IsItem d m i → n ≡ m
+pub one_arity : (d : Problem) (n m : ℕ) (i : Item) → IsItem d n i → IsItem d m i → n ≡ m
 one_arity d n m (relabelling z k w) h g = sym h.2 ∙ ap (λ (r : Relation). r.arity) (one_nth k d.presentation.relations h.0 g.0 h.1 g.1) ∙ g.2
 one_arity d n m (two_places z t first second) h g = one_size n m t h.0.shuffle g.0.shuffle
 one_arity d n m (tail_of t) h g = one_size n m t h.shuffle g.shuffle
@@ -44,7 +38,7 @@ one_arity d n m (question k) h g = sym h.2 ∙ ap (λ (e : Question). e.arity) (
 one_arity d n m (traced c t) h g = one_size n m t h.2.shuffle g.2.shuffle
 
 -- a job is an item of its arity
-pub job_item : (d : Document) (lower : List Element) (n : ℕ) → ((g : Element) → Mem g lower → IsShuffleTree (arity_in d) g.arity g.lead) → (j : Job) → IsJob d.presentation lower n j → IsItem d n (item_of j)
+pub job_item : (d : Problem) (lower : List Element) (n : ℕ) → ((g : Element) → Mem g lower → IsShuffleTree (arity_in d) g.arity g.lead) → (j : Job) → IsJob d.presentation lower n j → IsItem d n (item_of j)
 job_item d lower n valid (relabel k r v) h = (r, h.0, h.1, h.2, ((all_orderings n).2 v).0 h.3)
 job_item d lower n valid (combine g k t first second) h = (
   multiples_fit (arity_in d) g.arity k.arity n g.lead k.lead t first second (valid g h.0) (valid k h.1) h.4,
@@ -61,19 +55,6 @@ pub job_completes : (j : Job) → call_of (item_of j) ≡ completing
 job_completes (relabel k r v) = refl
 job_completes (combine g h t first second) = refl
 
--- what stands at a place of a list stands in it
-pub nth_member : {X : Type 0} (k : ℕ) (l : List X) (x : X) → Nth k l x → Mem x l
-nth_member k [] x h = absurd h
-nth_member zero (y ∷ l) x h = absurd h
-nth_member (suc zero) (y ∷ l) x h = inl h
-nth_member (suc (suc k)) (y ∷ l) x h = inr (nth_member (suc k) l x h)
-
--- and what stands in it stands at some place
-pub member_nth : {X : Type 0} (l : List X) (x : X) → Mem x l → (k : ℕ) × Nth (suc k) l x
-member_nth [] x m = absurd m
-member_nth (y ∷ l) x (inl e) = (0, e)
-member_nth (y ∷ l) x (inr m) = let k = member_nth l x m in (suc k.0, k.1)
-
 -- a job over elements of which the lower ones are some is a task
 pub job_task : (p : Presentation) (lower elements : List Element) (n : ℕ) → ((g : Element) → Mem g lower → Mem g elements) → (j : Job) → IsJob p lower n j → IsTask p elements n (task_of j)
 job_task p lower elements n into (relabel k r v) h = (nth_member k p.relations r h.0, h.1, h.3)
@@ -81,10 +62,10 @@ job_task p lower elements n into (combine g k t first second) h = (into g h.0, i
 
 -- ---- entries
 
-module _ (d : Document) (N : ℕ) where
+module _ (d : Problem) (N : ℕ) where
   -- the entry of an item whose row was reduced by a chain
   abbrev pub entry_by : (n : ℕ) (i : Item) (l : List Element) (row : Sum) (uses : List (ℕ × Insertion (setting d.presentation d.compare l) n)) (last : Sum) → EntryOf d
-  entry_by n i l row uses last = record { arity = n; item = i; elements = l; row = row; steps = steps_of uses; last = last }
+  entry_by n i l row uses last = record { arity = n; item = i; elements = l; row = row; steps = uses; last = last }
 
   -- elements under way are monic elements of the ideal
   pub ideal_elements : (l : List Element) (m : ℕ) (tasks : List Task) → IsUnderway d.presentation d.compare l m tasks → AreIdealElements d.presentation d.compare l
@@ -98,7 +79,7 @@ module _ (d : Document) (N : ℕ) where
       to_most = most;
       arity_is = refl;
       ideal_elements = are;
-      chain = counted_chain (setting d.presentation d.compare l) n uses row row last (λ t. refl) c;
+      chain = c;
     }
 
     -- that of a job
@@ -116,7 +97,7 @@ module _ (d : Document) (N : ℕ) where
     pub job_grows : (run : List (EntryOf d)) → IsRunSoFar d N n l run → (lower : List Element) → ((g : Element) → Mem g lower → Mem g l) → (j : Job) → IsJob d.presentation lower n j
         → (uses : List (ℕ × Insertion (setting d.presentation d.compare l) n)) (last : Sum) → IsChain (setting d.presentation d.compare l) n (row_of d.presentation j) uses last
         → HasFinished (entry_by n (item_of j) l (row_of d.presentation j) uses last) → (HasItem run (item_of j) → ⊥)
-        → (next : List Element) → Follows n l next → ((t : Tree ℕ) → IsLastLead (entry_by n (item_of j) l (row_of d.presentation j) uses last) t → HasLead next t)
+        → (next : List Element) → Follows n l next → ((t : Tree ℕ) → IsLastLead (entry_by n (item_of j) l (row_of d.presentation j) uses last) t → HasLeadingTree next t)
         → IsRunSoFar d N n next (run ++ (entry_by n (item_of j) l (row_of d.presentation j) uses last ∷ []))
     job_grows run so lower into (relabel k r v) h uses last c finished fresh next follows kept =
         ((runs_so_far d N).1 n l run so).relation next (entry_by n (item_of (relabel k r v)) l (row_of d.presentation (relabel k r v)) uses last) k v

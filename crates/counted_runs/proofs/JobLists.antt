@@ -9,7 +9,7 @@ use Rattle.shuffle_places.specs.Multiples.{IsMultiple}
 use Rattle.shuffle_bases.specs.Elements.{Element, InOrder}
 use Rattle.operad_ideals.specs.Presentations.{Presentation}
 use Rattle.counted_runs.specs.Jobs.{Job, relabel, combine, item_of, IsJob}
-use Rattle.counted_runs.proofs.JobEntries.{one_nth}
+use Rattle.counted_runs.proofs.Numbered.{one_nth}
 
 -- a small common multiple of two different trees, turned round
 pub multiples_turn : (n : ℕ) (a b t : Tree ℕ) (first second : List ℕ) → (a ≡ b → ⊥) → IsMultiple n a b t first second → IsMultiple n b a t second first

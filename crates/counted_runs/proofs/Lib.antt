@@ -1,11 +1,9 @@
 pub mod Arities
 pub mod Becoming
-pub mod Chains
 pub mod Counters
 pub mod CyclePermutations
 pub mod CycleTypes
 pub mod Entries
-pub mod Finishing
 pub mod JobEntries
 pub mod JobLists
 pub mod Joins
@@ -17,12 +15,14 @@ pub mod LieRuns
 pub mod LieTraces
 pub mod ListedItems
 pub mod Lists
+pub mod Numbered
 pub mod Permutations
-pub mod ReductionChains
 pub mod RelationJobs
 pub mod Replaced
+pub mod RowTrees
 pub mod Rows
 pub mod RunsSoFar
+pub mod SpanChains
 pub mod StoppedRuns
 pub mod Tails
 pub mod TrialNumber

@@ -5,43 +5,48 @@ use mathlib.Core.List.{◌++◌}
 use native.Mathlib.Decide.{ℕ_discrete}
 use Rattle.modular_sums.specs.Lists.{Mem, Distinct, Nth}
 use Rattle.modular_sums.specs.Residues.{Alike}
-use Rattle.modular_sums.specs.Sums.{coef}
+use Rattle.modular_sums.specs.Sums.{coef, AllTerms}
 use Rattle.modular_sums.proofs.Coefficients.{coef_nothing}
+use Rattle.modular_sums.proofs.Images.{AllTerms-imp}
 use Rattle.labelled_trees.specs.Trees.{Tree}
 use Rattle.labelled_trees.specs.Equality.{same_leaf, same_node, same_more, tree_discrete_by, row_discrete_by, tree_discrete}
+use Rattle.shuffle_insertions.specs.ShuffleTrees.{IsShuffleTree}
 use Rattle.shuffle_insertions.proofs.Examples.{t1, t2, t3, comb}
 use Rattle.shuffle_places.specs.Multiples.{IsMultiple}
 use Rattle.shuffle_places.specs.AllMultiples.{multiples}
 use Rattle.shuffle_places.proofs.Laws.{multiples_listed}
 use Rattle.shuffle_places.specs.Overlays.{one_unit, shape_discrete}
 use Rattle.shuffle_places.proofs.Examples.{top_two, lower_two, multiples_of_t1, comb_multiple}
-use Rattle.shuffle_bases.specs.Elements.{Element, s_element}
+use Rattle.shuffle_bases.specs.Elements.{Element, IsLess, s_element}
 use Rattle.shuffle_bases.proofs.Examples.{jacobi}
 use Rattle.shuffle_normal_forms.specs.NormalForms.{InSpan}
+use Rattle.shuffle_reductions.proofs.Ends.{End, end_of}
+use Rattle.shuffle_reductions.proofs.SElements.{s_valid}
 use Rattle.operad_ideals.specs.Presentations.{Relation}
 use Rattle.shuffle_transfer.specs.Orderings.{IsOrdering, orderings}
-use Rattle.shuffle_transfer.specs.Labels.{labels}
+use Rattle.shuffle_transfer.specs.Labels.{labels, inputs_of}
 use Rattle.shuffle_transfer.specs.Transfer.{relabelled, shuffled}
 use Rattle.shuffle_transfer.specs.Certified.{setting}
 use Rattle.shuffle_transfer.specs.NormalTrees.{by_path, compare}
 use Rattle.shuffle_transfer.proofs.Orderings.{all_orderings}
 use Rattle.shuffle_transfer.proofs.Labels.{are_labels}
-use Rattle.shuffle_transfer.proofs.Jacobi.{lie, certified}
+use Rattle.shuffle_transfer.proofs.Jacobi.{lie, sound, certified}
 use Rattle.shuffle_completion.proofs.Lie.{lie_basis}
-use Rattle.counted_runs.specs.Items.{Document, completion, Item, relabelling, two_places, tail_of}
+use Rattle.counted_runs.specs.Items.{Problem, completion, Item, relabelling, two_places, tail_of}
 use Rattle.counted_runs.specs.Rows.{AreIdealElements}
 use Rattle.counted_runs.specs.Runs.{HasFinished, HasStopped, IsEntry, IsStoppedRun}
 use Rattle.counted_runs.specs.Calls.{completing, call_of}
-use Rattle.counted_runs.specs.FullRuns.{HasLead, HasItem, IsLastLead, IsFullRun}
+use Rattle.counted_runs.specs.FullRuns.{HasLeadingTree, HasItem, IsLastLead, IsFullRun}
 use Rattle.counted_runs.specs.RunsSoFar.{Serves, Follows, IsRunSoFar, RunSoFarLaw}
 use Rattle.counted_runs.specs.Entries.{IsChained}
 use Rattle.counted_runs.proofs.Entries.{entries_come_about}
-use Rattle.counted_runs.proofs.Finishing.{Finish, finish, ends_with_zero}
+use Rattle.counted_runs.proofs.RowTrees.{relabelled_trees}
+use Rattle.counted_runs.proofs.SpanChains.{chains_end_with_zero}
 use Rattle.counted_runs.proofs.RunsSoFar.{serves_all, follows_same, runs_so_far}
 use Rattle.counted_runs.proofs.Lie.{bracket, wide, ordered, valid_t1, three_trees}
-use Rattle.counted_runs.proofs.LieRuns.{BracketEntry, whole, second_order, lie_elements, jacobi_relation, first_order, coefs}
+use Rattle.counted_runs.proofs.LieRuns.{BracketEntry, divided_t1, second_order, lie_elements, jacobi_relation, first_order, coefs}
 
-abbrev pub d : Document
+abbrev pub d : Problem
 d = bracket [] false
 
 abbrev pub one : List Element
@@ -84,21 +89,21 @@ less_than_t1 : (compare lie by_path t2 t1 ≡ Less) × (compare lie by_path t3 t
 unfolding ℕ_discrete
 less_than_t1 = (refl, refl)
 
-begin_lead : (t : Tree ℕ) → IsLastLead begin t → HasLead one t
+begin_lead : (t : Tree ℕ) → IsLastLead begin t → HasLeadingTree one t
 unfolding begin
 begin_lead t h = go (three_trees t h.valid)
   where
     not_zero : Alike 100 (coef tree_discrete (form_by first_order) t1) 0 → ⊥
     not_zero z = let k = (coefs jacobi_relation refl).0 in absurd (omega (arith, k, z))
 
-    go : (t ≡ t1) ⊎ ((t ≡ t2) ⊎ (t ≡ t3)) → HasLead one t
+    go : (t ≡ t1) ⊎ ((t ≡ t2) ⊎ (t ≡ t3)) → HasLeadingTree one t
     go (inl e) = (jacobi, inl refl, sym e)
     go (inr (inl e)) = absurd (not_zero (h.leads.above t1 valid_t1 (subst (λ x. compare lie by_path x t1 ≡ Less) (sym e) less_than_t1.0)))
     go (inr (inr e)) = absurd (not_zero (h.leads.above t1 valid_t1 (subst (λ x. compare lie by_path x t1 ≡ Less) (sym e) less_than_t1.1)))
 
 begun : IsRunSoFar d 4 3 one (begin ∷ [])
 unfolding begin
-begun = (steps_of 3 [] [] ((runs_so_far d 4).0 3 [])).relation one begin 1 first_order begin_entry (λ i. absurd i.member) refl refl
+begun = (steps_of 3 [] [] ((runs_so_far d 4).0 3 [])).relation one begin 1 first_order begin_entry (λ t h g m set at. absurd m) refl refl
     (λ h. absurd h.1)
     record { lower = λ g m. absurd m; leads = λ g m. absurd m }
     record { lower = λ g m lt. let k = arity_three g m in absurd (omega (arith, k, lt)); leads = λ g m. absurd m }
@@ -106,12 +111,12 @@ begun = (steps_of 3 [] [] ((runs_so_far d 4).0 3 [])).relation one begin 1 first
 
 -- ---- what is in the span is reduced to 0 by the one element
 
-module _ (n : ℕ) (le : n ≤ 4) (two : 2 ≤ n) (item : Item) (row : Sum) where
-  reduced_row : Finish (labels lie) (setting lie (compare lie by_path) one) (are_labels lie wide) ordered certified.monic n row
-  reduced_row = finish (labels lie) (setting lie (compare lie by_path) one) (are_labels lie wide) ordered certified.monic n row
+module _ (n : ℕ) (le : n ≤ 4) (two : 2 ≤ n) (item : Item) (row : Sum) (valid : AllTerms row (IsShuffleTree (inputs_of lie) n)) where
+  reduced_row : End (labels lie) (setting lie (compare lie by_path) one) (are_labels lie wide) ordered certified.monic n row
+  reduced_row = end_of (labels lie) (setting lie (compare lie by_path) one) (are_labels lie wide) ordered certified.monic n row valid
 
   abbrev entry : BracketEntry
-  entry = record { arity = n; item = item; elements = one; row = row; steps = reduced_row.steps; last = reduced_row.last }
+  entry = record { arity = n; item = item; elements = one; row = row; steps = reduced_row.uses; last = reduced_row.last }
 
   entry_chained : IsChained d 4 n entry
   entry_chained = record { from_two = two; to_most = le; arity_is = refl; ideal_elements = lie_elements; chain = reduced_row.chain }
@@ -121,7 +126,7 @@ module _ (n : ℕ) (le : n ≤ 4) (two : 2 ≤ n) (item : Item) (row : Sum) wher
 
   no_lead : InSpan (setting lie (compare lie by_path) one) n row → (t : Tree ℕ) → IsLastLead entry t → ⊥
   no_lead m t h =
-      let z = ends_with_zero (labels lie) (setting lie (compare lie by_path) one) (are_labels lie wide) ordered certified.monic n 4 certified.s_elements le row reduced_row.steps reduced_row.last reduced_row.chain reduced_row.finished m in
+      let z = chains_end_with_zero (labels lie) (setting lie (compare lie by_path) one) (are_labels lie wide) ordered certified.monic 4 n certified.s_elements le row reduced_row.uses reduced_row.last reduced_row.chain reduced_row.finished m in
       h.leads.there (z t ∙ ap (λ c. c % 101) (coef_nothing tree_discrete t))
 
 serves : (n : ℕ) → Serves d n one one
@@ -142,9 +147,9 @@ stop_entry = (entries_come_about d 4 3 stop record { from_two = omega arith; to_
 
 stop_stopped : HasStopped stop
 unfolding stop
-stop_stopped = (whole, stands)
+stop_stopped = record { at = t1; there = stands; divided = divided_t1 }
   where
-    stands : Alike 100 (coef tree_discrete (form_by second_order) whole.tree) 0 → ⊥
+    stands : Alike 100 (coef tree_discrete (form_by second_order) t1) 0 → ⊥
     stands z = let k = (coefs jacobi_relation refl).1 in absurd (omega (arith, k, z))
 
 stop_fresh : HasItem (begin ∷ []) stop.item → ⊥
@@ -179,16 +184,19 @@ record Grown (run : List BracketEntry) (ws : List (List ℕ)) : Type 0 where
 span_by : (w : List ℕ) → Mem w (orderings 3) → InSpan (setting lie (compare lie by_path) one) 3 (form_by w)
 span_by w m = certified.relations jacobi_relation (inl refl) (omega arith) w m
 
-abbrev by : List ℕ → BracketEntry
-by w = entry 3 (omega arith) (omega arith) (item_by w) (form_by w)
+form_trees : (w : List ℕ) → Mem w (orderings 3) → AllTerms (form_by w) (IsShuffleTree (inputs_of lie) 3)
+form_trees w m = relabelled_trees d 3 jacobi_relation.terms (sound jacobi_relation (inl refl)) w (ordering w m)
 
-one_more : (run : List BracketEntry) → IsRunSoFar d 4 3 one run → (w : List ℕ) → Mem w (orderings 3) → (HasItem run (item_by w) → ⊥) → IsRunSoFar d 4 3 one (run ++ (by w ∷ []))
-one_more run s w m fresh = (steps_of 3 one run s).relation one (by w) 1 w
-    ((entries_come_about d 4 3 (by w) (entry_chained 3 (omega arith) (omega arith) (item_by w) (form_by w))).relation completion 1 jacobi_relation w refl refl refl refl (ordering w m) (λ t. refl))
-    (entry_finished 3 (omega arith) (omega arith) (item_by w) (form_by w)) refl refl fresh (serves 3) (stays 3)
-    (λ t h. absurd (no_lead 3 (omega arith) (omega arith) (item_by w) (form_by w) (span_by w m) t h))
+abbrev by : (w : List ℕ) → Mem w (orderings 3) → BracketEntry
+by w m = entry 3 (omega arith) (omega arith) (item_by w) (form_by w) (form_trees w m)
 
-grow : (run : List BracketEntry) (w : List ℕ) (ws : List (List ℕ)) → IsRunSoFar d 4 3 one run → Mem w (orderings 3) → (HasItem run (item_by w) → ⊥) → Grown (run ++ (by w ∷ [])) ws → Grown run (w ∷ ws)
+one_more : (run : List BracketEntry) → IsRunSoFar d 4 3 one run → (w : List ℕ) (m : Mem w (orderings 3)) → (HasItem run (item_by w) → ⊥) → IsRunSoFar d 4 3 one (run ++ (by w m ∷ []))
+one_more run s w m fresh = (steps_of 3 one run s).relation one (by w m) 1 w
+    ((entries_come_about d 4 3 (by w m) (entry_chained 3 (omega arith) (omega arith) (item_by w) (form_by w) (form_trees w m))).relation completion 1 jacobi_relation w refl refl refl refl (ordering w m) (λ t. refl))
+    (entry_finished 3 (omega arith) (omega arith) (item_by w) (form_by w) (form_trees w m)) refl refl fresh (serves 3) (stays 3)
+    (λ t h. absurd (no_lead 3 (omega arith) (omega arith) (item_by w) (form_by w) (form_trees w m) (span_by w m) t h))
+
+grow : (run : List BracketEntry) (w : List ℕ) (ws : List (List ℕ)) → IsRunSoFar d 4 3 one run → (m : Mem w (orderings 3)) → (HasItem run (item_by w) → ⊥) → Grown (run ++ (by w m ∷ [])) ws → Grown run (w ∷ ws)
 grow run w ws s m fresh g = record {
   more = g.more;
   so_far = g.so_far;
@@ -197,8 +205,8 @@ grow run w ws s m fresh g = record {
   only = λ i h. only i (g.only i h);
 }
   where
-    items : (i : Item) → HasItem (run ++ (by w ∷ [])) i ↔ (HasItem run i ⊎ (item_by w ≡ i))
-    items i = (steps_of 3 one run s).items (by w) i
+    items : (i : Item) → HasItem (run ++ (by w m ∷ [])) i ↔ (HasItem run i ⊎ (item_by w ≡ i))
+    items i = (steps_of 3 one run s).items (by w m) i
 
     each : (v : List ℕ) → Mem v (w ∷ ws) → HasItem g.more (item_by v)
     each v (inl e) = g.old (item_by v) ((items (item_by v)).1 (inr (ap item_by (sym e))))
@@ -208,7 +216,7 @@ grow run w ws s m fresh g = record {
     widen i (inl h) = inl h
     widen i (inr e) = inr (w, inl refl, e)
 
-    only : (i : Item) → HasItem (run ++ (by w ∷ [])) i ⊎ ((v : List ℕ) × Mem v ws × (item_by v ≡ i)) → HasItem run i ⊎ ((v : List ℕ) × Mem v (w ∷ ws) × (item_by v ≡ i))
+    only : (i : Item) → HasItem (run ++ (by w m ∷ [])) i ⊎ ((v : List ℕ) × Mem v ws × (item_by v ≡ i)) → HasItem run i ⊎ ((v : List ℕ) × Mem v (w ∷ ws) × (item_by v ≡ i))
     only i (inl h) = widen i ((items i).0 h)
     only i (inr p) = inr (p.0, inr p.1, p.2)
 
@@ -219,7 +227,7 @@ loop : (ws : List (List ℕ)) (run : List BracketEntry) → IsRunSoFar d 4 3 one
 loop [] run s distinct all fresh = record { more = run; so_far = s; old = λ i h. h; each = λ w m. absurd m; only = λ i h. inl h }
 loop (w ∷ ws) run s distinct all fresh =
     grow run w ws s (all w (inl refl)) (fresh w (inl refl))
-    (loop ws (run ++ (by w ∷ [])) (one_more run s w (all w (inl refl)) (fresh w (inl refl))) distinct.1 (λ v m. all v (inr m)) (λ v m h. still v m (((steps_of 3 one run s).items (by w) (item_by v)).0 h)))
+    (loop ws (run ++ (by w (all w (inl refl)) ∷ [])) (one_more run s w (all w (inl refl)) (fresh w (inl refl))) distinct.1 (λ v m. all v (inr m)) (λ v m h. still v m (((steps_of 3 one run s).items (by w (all w (inl refl))) (item_by v)).0 h)))
   where
     still : (v : List ℕ) → Mem v ws → HasItem run (item_by v) ⊎ (item_by w ≡ item_by v) → ⊥
     still v m (inl h) = fresh v (inr m) h
@@ -267,14 +275,18 @@ only_orders i h = go (after_relations.only i h)
 tail_item : Item
 tail_item = tail_of t1
 
+tail_is_valid : AllTerms jacobi.tail (IsShuffleTree (inputs_of lie) 3)
+tail_is_valid = AllTerms-imp (λ u. IsShuffleTree (inputs_of lie) 3 u × IsLess (setting lie (compare lie by_path) one) u t1) (IsShuffleTree (inputs_of lie) 3) jacobi.tail (λ u h. h.0)
+    (certified.monic.each jacobi (inl refl)).tail_valid
+
 tail_entry : BracketEntry
-tail_entry = entry 3 (omega arith) (omega arith) (tail_of t1) jacobi.tail
+tail_entry = entry 3 (omega arith) (omega arith) (tail_of t1) jacobi.tail tail_is_valid
 
 after_tail : IsRunSoFar d 4 3 one (after_relations.more ++ (tail_entry ∷ []))
 unfolding tail_entry
 after_tail = (steps_of 3 one after_relations.more after_relations.so_far).tail tail_entry t1 refl
-    ((entries_come_about d 4 3 tail_entry (entry_chained 3 (omega arith) (omega arith) (tail_of t1) jacobi.tail)).tail one lie_elements jacobi (inl refl) refl refl (λ t. refl))
-    (entry_finished 3 (omega arith) (omega arith) (tail_of t1) jacobi.tail) refl
+    ((entries_come_about d 4 3 tail_entry (entry_chained 3 (omega arith) (omega arith) (tail_of t1) jacobi.tail tail_is_valid)).tail one lie_elements jacobi (inl refl) refl refl (λ t. refl))
+    (entry_finished 3 (omega arith) (omega arith) (tail_of t1) jacobi.tail tail_is_valid) refl
     (λ h. let k = only_orders (tail_of t1) h in absurd (cc k.1))
     (serves 3).lower
 
@@ -286,15 +298,18 @@ row_spans =
     let r = certified.s_elements 4 (omega arith) jacobi jacobi (inl (refl, inl refl)) comb top_two lower_two comb_multiple in
     record { uses = r.uses; adds_up = r.adds_up }
 
+pair_trees : AllTerms (s_element 100 jacobi jacobi comb top_two lower_two) (IsShuffleTree (inputs_of lie) 4)
+pair_trees = s_valid (setting lie (compare lie by_path) one) ordered certified.monic 4 jacobi jacobi (inl refl) (inl refl) comb top_two lower_two comb_multiple
+
 pub the_run : List BracketEntry
 the_run = after_relations.more ++ (tail_entry ∷ [])
 
 pub the_pair : BracketEntry
-the_pair = entry 4 (omega arith) (omega arith) (two_places completion comb top_two lower_two) (s_element 100 jacobi jacobi comb top_two lower_two)
+the_pair = entry 4 (omega arith) (omega arith) (two_places completion comb top_two lower_two) (s_element 100 jacobi jacobi comb top_two lower_two) pair_trees
 
 pair_is : IsEntry d 4 the_pair
 unfolding the_pair
-pair_is = (entries_come_about d 4 4 the_pair (entry_chained 4 (omega arith) (omega arith) (two_places completion comb top_two lower_two) (s_element 100 jacobi jacobi comb top_two lower_two))).pair
+pair_is = (entries_come_about d 4 4 the_pair (entry_chained 4 (omega arith) (omega arith) (two_places completion comb top_two lower_two) (s_element 100 jacobi jacobi comb top_two lower_two) pair_trees)).pair
     one lie_elements jacobi jacobi (inl refl) (inl refl) completion comb top_two lower_two comb_multiple refl (λ t. refl)
 
 begin_four : IsRunSoFar d 4 4 one the_run
@@ -313,8 +328,8 @@ pub after_pair : IsRunSoFar d 4 4 one (the_run ++ (the_pair ∷ []))
 unfolding the_pair
 after_pair = (steps_of 4 one the_run begin_four).pair lie_elements one the_pair jacobi jacobi (inl refl) (inl refl) (omega arith) (omega arith) comb top_two lower_two refl
     record { first_at = comb_multiple.overlap.first_at; second_at = comb_multiple.overlap.second_at; row_is = λ t. refl }
-    pair_is (entry_finished 4 (omega arith) (omega arith) (two_places completion comb top_two lower_two) (s_element 100 jacobi jacobi comb top_two lower_two)) refl no_pair (serves 4) (stays 4)
-    (λ t h. absurd (no_lead 4 (omega arith) (omega arith) (two_places completion comb top_two lower_two) (s_element 100 jacobi jacobi comb top_two lower_two) row_spans t h))
+    pair_is (entry_finished 4 (omega arith) (omega arith) (two_places completion comb top_two lower_two) (s_element 100 jacobi jacobi comb top_two lower_two) pair_trees) refl no_pair (serves 4) (stays 4)
+    (λ t h. absurd (no_lead 4 (omega arith) (omega arith) (two_places completion comb top_two lower_two) (s_element 100 jacobi jacobi comb top_two lower_two) pair_trees row_spans t h))
 
 -- ---- it is full
 

@@ -4,29 +4,31 @@ use Rattle.std.specs.List.{sum_by}
 use Rattle.std.proofs.lemmas.List.Sums.{sum_by-cons}
 use native.Mathlib.Decide.{ℕ_discrete}
 use Rattle.modular_sums.specs.Lists.{Mem, Nth}
-use Rattle.modular_sums.specs.Sums.{coef}
+use Rattle.modular_sums.specs.Sums.{coef, AllTerms}
 use Rattle.labelled_trees.specs.Trees.{leaf}
+use Rattle.labelled_trees.specs.Labelled.{IsLabelled}
 use Rattle.labelled_trees.specs.Equality.{same_leaf, same_node, same_more, tree_discrete_by, row_discrete_by, tree_discrete}
 use Rattle.shuffle_insertions.specs.ShuffleTrees.{IsShuffleTree}
 use Rattle.shuffle_insertions.proofs.Examples.{l, t1}
 use Rattle.shuffle_places.specs.Places.{IsPlace}
 use Rattle.shuffle_places.proofs.Examples.{top_two}
-use Rattle.shuffle_bases.specs.Elements.{Element, Insertion}
+use Rattle.shuffle_bases.specs.Elements.{Element}
 use Rattle.shuffle_bases.proofs.Examples.{jacobi}
-use Rattle.operad_ideals.specs.Presentations.{Relation}
+use Rattle.shuffle_reductions.specs.Divided.{IsDivided}
+use Rattle.shuffle_reductions.specs.Chains.{IsChain, IsStopped}
+use Rattle.operad_ideals.specs.Presentations.{Relation, arity_of}
 use Rattle.shuffle_transfer.specs.Orderings.{IsOrdering}
 use Rattle.shuffle_transfer.specs.Labels.{inputs_of, word_discrete, same_cons, letter_discrete, same_letter}
 use Rattle.shuffle_transfer.specs.Transfer.{relabelled, shuffled}
 use Rattle.shuffle_transfer.specs.Certified.{setting}
 use Rattle.shuffle_transfer.specs.NormalTrees.{by_path, compare}
 use Rattle.shuffle_transfer.proofs.Orderings.{all_orderings}
-use Rattle.shuffle_transfer.proofs.Jacobi.{lie, certified}
-use Rattle.counted_runs.specs.Chains.{IsChain, IsStopped}
-use Rattle.counted_runs.specs.Items.{Question, Document, Purpose, relabelling, question, IsItem}
+use Rattle.shuffle_transfer.proofs.Jacobi.{lie, sound, certified}
+use Rattle.counted_runs.specs.Items.{Question, Problem, AsksElements, Purpose, relabelling, question, IsItem}
 use Rattle.counted_runs.specs.Rows.{SameSum, AreIdealElements, IsRow}
 use Rattle.counted_runs.specs.Runs.{Entry, HasFinished, IsEntry, IsStoppedRun, run_length}
 use Rattle.counted_runs.specs.Enough.{enough}
-use Rattle.counted_runs.specs.FullRuns.{InSequence, IsReduced, HasLead, IsLastLead, KeepsLead, IsFullRun}
+use Rattle.counted_runs.specs.FullRuns.{InSequence, IsRelationOrPair, HasLeadingTree, IsLastLead, KeepsLead, IsFullRun}
 use Rattle.counted_runs.proofs.StoppedRuns.{stopped_runs_short}
 use Rattle.counted_runs.proofs.Lie.{bracket, one_question, wide, ordered, valid_t1, none_above, place_t1}
 
@@ -42,15 +44,15 @@ unfoldable pub unreduced : BracketEntry
 unreduced = record { arity = 3; item = question 1; elements = jacobi ∷ []; row = (1, t1) ∷ []; steps = []; last = (1, t1) ∷ [] }
 
 -- l(l(1,2),3) is the leading tree of the Jacobi element
-abbrev pub whole : Insertion (setting lie (compare lie by_path) (jacobi ∷ [])) 3
-whole = record { of = jacobi; member = inl refl; tree = t1; set = top_two; valid = valid_t1; place = place_t1 }
+pub divided_t1 : IsDivided (setting lie (compare lie by_path) (jacobi ∷ [])) t1
+divided_t1 = record { by = jacobi; member = inl refl; set = top_two; place = place_t1 }
 
 one_isnt_zero : 1 % 101 ≡ 0 % 101 → ⊥
 one_isnt_zero e = absurd (omega (arith, e))
 
-pub unreduced_stops : IsStopped (setting lie (compare lie by_path) (jacobi ∷ [])) 3 ((1, t1) ∷ [])
+pub unreduced_stops : IsStopped (setting lie (compare lie by_path) (jacobi ∷ [])) ((1, t1) ∷ [])
 unfolding coef ℕ_discrete tree_discrete tree_discrete_by row_discrete_by same_leaf same_node same_more
-unreduced_stops = (whole, one_isnt_zero)
+unreduced_stops = record { at = t1; there = one_isnt_zero; divided = divided_t1 }
 
 unreduced_row : SameSum lie ((1, t1) ∷ []) (shuffled lie ((1, t1) ∷ []))
 unfolding word_discrete same_cons letter_discrete same_letter ℕ_discrete
@@ -79,9 +81,21 @@ unreduced_run = record {
     entry x (inl e) = subst (IsEntry (bracket one_question false) 3) (sym e) unreduced_entry
     entry x (inr m) = absurd m
 
+-- l(l(1,2),3) + l(l(2,3),1) + l(l(3,1),2)
+abbrev pub jacobi_relation : Relation
+jacobi_relation = record { arity = 3; terms = (1, t1) ∷ ((1, l (l (leaf 2) (leaf 3)) (leaf 1)) ∷ ((1, l (l (leaf 3) (leaf 1)) (leaf 2)) ∷ [])) }
+
+pub labelled_t1 : IsLabelled (arity_of lie) 3 t1
+labelled_t1 = (sound jacobi_relation (inl refl)).0
+
+-- what is asked is an element of arity 3
+asks_one : AsksElements (bracket one_question false)
+asks_one e (inl p) = subst (λ (x : Question). AllTerms x.terms (IsLabelled (arity_of lie) x.arity)) (sym p) (labelled_t1, tt)
+asks_one e (inr m) = absurd m
+
 -- the law at this run
 pub unreduced_short : run_length (unreduced ∷ []) < enough (bracket one_question false) 3
-unreduced_short = (stopped_runs_short (bracket one_question false) wide ordered 3 (unreduced ∷ []) unreduced_run).0 refl
+unreduced_short = (stopped_runs_short (bracket one_question false) sound wide asks_one ordered 3 (unreduced ∷ []) unreduced_run).0 refl
 
 -- ---- a full run has steps: of two permutations of the relation, the leading tree of the first row divides the second
 
@@ -114,18 +128,14 @@ pub coefs : (r : Relation) → Nth 1 lie.relations r → (coef tree_discrete (sh
 unfolding word_discrete same_cons letter_discrete same_letter coef ℕ_discrete tree_discrete tree_discrete_by row_discrete_by same_leaf same_node same_more
 coefs r e = subst (λ x. (coef tree_discrete (shuffled lie (relabelled first_order x.terms)) t1 % 101 ≡ 1) × (coef tree_discrete (shuffled lie (relabelled second_order x.terms)) t1 % 101 ≡ 100)) (sym e) (refl, refl)
 
--- l(l(1,2),3) + l(l(2,3),1) + l(l(3,1),2)
-abbrev pub jacobi_relation : Relation
-jacobi_relation = record { arity = 3; terms = (1, t1) ∷ ((1, l (l (leaf 2) (leaf 3)) (leaf 1)) ∷ ((1, l (l (leaf 3) (leaf 1)) (leaf 2)) ∷ [])) }
-
 -- an entry of the relation with one of these two permutations
 record IsOneOf (x : BracketEntry) : Type 0 where
-  reduced : IsReduced x.item
+  reduced : IsRelationOrPair x.item
   arity_is : x.arity ≡ 3
   there : coef tree_discrete x.row t1 % 101 ≡ 0 → ⊥
 
 module _ (questions : List Question) (N : ℕ) where
-  abbrev d : Document
+  abbrev d : Problem
   d = bracket questions false
 
   one_of : (x : BracketEntry) → IsEntry d N x → (z : Purpose) (w : List ℕ) → x.item ≡ relabelling z 1 w
@@ -134,7 +144,7 @@ module _ (questions : List Question) (N : ℕ) where
       let i : IsItem d x.arity (relabelling z 1 w) = subst (IsItem d x.arity) e h.is_item in
       let r : IsRow d (relabelling z 1 w) x.row = subst (λ j. IsRow d j x.row) e h.row_is in
       record {
-        reduced = subst IsReduced (sym e) tt;
+        reduced = subst IsRelationOrPair (sym e) tt;
         arity_is = sym i.2 ∙ ap (λ (k : Relation). k.arity) i.1;
         there = λ k. nonzero r.0 r.1 (sym (r.2 t1) ∙ k);
       }
@@ -154,18 +164,8 @@ module _ (questions : List Question) (N : ℕ) where
   }
 
   -- which a leading tree may not be, where no step is left
-  divided : (y : BracketEntry) → IsEntry d N y → HasFinished y → IsOneOf y → length y.steps ≡ 0 → HasLead y.elements t1 → ⊥
-  divided y h f o e lead = o.there (unchanged y h e t1 ∙ f insertion)
-    where
-      insertion : Insertion (setting lie (compare lie by_path) y.elements) y.arity
-      insertion = record {
-        of = lead.0;
-        member = lead.1;
-        tree = t1;
-        set = top_two;
-        valid = subst (λ n. IsShuffleTree (inputs_of lie) n t1) (sym o.arity_is) valid_t1;
-        place = subst (IsPlace t1 top_two) (sym lead.2) place_t1;
-      }
+  divided : (y : BracketEntry) → IsEntry d N y → HasFinished y → IsOneOf y → length y.steps ≡ 0 → HasLeadingTree y.elements t1 → ⊥
+  divided y h f o e lead = f t1 (λ z. o.there (unchanged y h e t1 ∙ z)) lead.0 lead.1 top_two (subst (IsPlace t1 top_two) (sym lead.2) place_t1)
 
   -- an entry of the relation with a permutation, in a run without steps
   record Found (w : List ℕ) (run : List BracketEntry) : Type 0 where

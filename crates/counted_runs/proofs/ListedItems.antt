@@ -19,7 +19,7 @@ use Rattle.shuffle_transfer.specs.Labels.{labels}
 use Rattle.shuffle_transfer.proofs.Labels.{are_labels}
 use Rattle.shuffle_transfer.proofs.Orderings.{all_orderings}
 use Rattle.counted_runs.specs.CycleTypes.{cycle_types}
-use Rattle.counted_runs.specs.Items.{Question, Document, arity_in, Purpose, completion, certificate, Item, relabelling, two_places, tail_of, question, traced, IsItem}
+use Rattle.counted_runs.specs.Items.{Question, Problem, arity_in, Purpose, completion, certificate, Item, relabelling, two_places, tail_of, question, traced, IsItem}
 use Rattle.counted_runs.specs.Enough.{counts_relation, counts_question, tree_number, relation_number, question_number}
 use Rattle.counted_runs.proofs.CycleTypes.{mem_cycle_types}
 use Rattle.counted_runs.proofs.VertexSets.{few_vertices, rising_lists, length_rising, connected_rising}
@@ -105,7 +105,7 @@ unfolding both
 either completion = inl refl
 either certificate = inr (inl refl)
 
-module _ (d : Document) (n k : ℕ) where
+module _ (d : Problem) (n k : ℕ) where
   abbrev trees_of : List (Tree ℕ)
   trees_of = all_trees (labels d.presentation) (arity_in d) n
 

@@ -20,9 +20,9 @@ use Rattle.shuffle_transfer.specs.Certified.{setting}
 use Rattle.shuffle_completion.specs.Completion.{Task, IsUnderway, IsMultipleOf}
 use Rattle.shuffle_completion.proofs.NewElements.{inverse_not_zero}
 use Rattle.shuffle_completion.proofs.Laws.{task_ends_in_zero, task_ends_in_element, order_does_not_matter, arity_begins}
-use Rattle.counted_runs.specs.Items.{Document, arity_in, Item, tail_of, IsItem}
+use Rattle.counted_runs.specs.Items.{Problem, arity_in, Item, tail_of, IsItem}
 use Rattle.counted_runs.specs.Runs.{EntryOf, IsEntry, run_length, HasFinished, HasStopped}
-use Rattle.counted_runs.specs.FullRuns.{HasItem, HasLead, IsLastLead}
+use Rattle.counted_runs.specs.FullRuns.{HasItem, HasLeadingTree, IsLastLead}
 use Rattle.counted_runs.specs.Calls.{completing, call_of, CountsStoppedCompletion}
 use Rattle.counted_runs.specs.RunsSoFar.{Follows, IsRunSoFar, RunSoFarLaw}
 use Rattle.counted_runs.proofs.RunsSoFar.{runs_so_far, follows_same, follows_more}
@@ -31,14 +31,13 @@ use Rattle.counted_runs.specs.Jobs.{Job, task_of, item_of, row_of, IsJob, AreJob
 use Rattle.counted_runs.specs.Stages.{IsGiven, HasAll, IsAtRows}
 use Rattle.counted_runs.specs.LoopLaws.{RowsBegin, RowEndsInZero, RowEndsInElement, RowStops}
 use Rattle.counted_runs.proofs.Lists.{append_nothing, append_again, behind, mem_last, images_behind, distinct_back}
-use Rattle.counted_runs.proofs.ReductionChains.{length-steps, counted_finished}
 use Rattle.counted_runs.proofs.JobEntries.{one_arity, job_item, job_no_tail, job_completes, job_task, entry_by, ideal_elements, job_entry, job_grows}
 
 abbrev Sum : Type 0
 Sum = List (ℕ × Tree ℕ)
 
 -- what has all items has them in a longer run, over elements of which those of low arity were there
-pub all_grown : (d : Document) (m : ℕ) (now next : List Element) (run more : List (EntryOf d)) → HasAll d m now run → ((i : Item) → HasItem run i → HasItem more i) → ((g : Element) → Mem g next → g.arity < m → Mem g now)
+pub all_grown : (d : Problem) (m : ℕ) (now next : List Element) (run more : List (EntryOf d)) → HasAll d m now run → ((i : Item) → HasItem run i → HasItem more i) → ((g : Element) → Mem g next → g.arity < m → Mem g now)
     → HasAll d m next more
 all_grown d m now next run more a up lower = record {
   relations = λ k r n e two le w o. up _ (a.relations k r n e two le w o);
@@ -49,7 +48,7 @@ all_grown d m now next run more a up lower = record {
     either {i} {j} (inl h) = inl (up i h)
     either {i} {j} (inr h) = inr (up j h)
 
-module _ (d : Document) (N m : ℕ) (lower new : List Element) (done : List Job) (j : Job) (left : List Job) (spent : ℕ) (a : IsAtRows d N m lower new done (j ∷ left) spent) where
+module _ (d : Problem) (N m : ℕ) (lower new : List Element) (done : List Job) (j : Job) (left : List Job) (spent : ℕ) (a : IsAtRows d N m lower new done (j ∷ left) spent) where
   abbrev elements : List Element
   elements = lower ++ new
 
@@ -107,12 +106,12 @@ module _ (d : Document) (N m : ℕ) (lower new : List Element) (done : List Job)
         go (inr e) = subst (λ i. HasItem (a.run ++ (x ∷ [])) (item_of i)) (sym e) here
 
     length_next : (count : ℕ) → count ≡ length uses → spent + count ≡ run_length (a.run ++ (x ∷ []))
-    length_next count e = let l = law.steps x in let k = length-steps uses in let c = a.counted in omega (arith, l, k, e, c)
+    length_next count e = let l = law.steps x in let c = a.counted in omega (arith, l, e, c)
 
     -- one more row is reduced, where these new elements follow
     pub row_done : (next : List Element) (count : ℕ) → count ≡ length uses → HasFinished x → ((g : Element) → Mem g next → g.arity ≡ suc m)
         → IsUnderway d.presentation d.compare (lower ++ next) m (task_of j ∷ map task_of done)
-        → Follows (suc m) (lower ++ new) (lower ++ next) → ((t : Tree ℕ) → IsLastLead x t → HasLead (lower ++ next) t)
+        → Follows (suc m) (lower ++ new) (lower ++ next) → ((t : Tree ℕ) → IsLastLead x t → HasLeadingTree (lower ++ next) t)
         → IsAtRows d N m lower next (done ++ (j ∷ [])) left (spent + count)
     row_done next count count_is finished high u follows kept = record {
       from_one = a.from_one;
@@ -165,7 +164,7 @@ rows_begin d N m elements spent t one most jobs are = record {
 pub row_ends_in_zero : RowEndsInZero
 row_ends_in_zero d N m given lower new done j left spent a count r =
     row_done d N m lower new done j left spent a [] r.uses r.chain new count r.count_is
-    (counted_finished (setting d.presentation d.compare (lower ++ new)) (suc m) [] r.finished) a.high
+    r.finished a.high
     (task_ends_in_zero d.presentation d.compare given.order (lower ++ new) m (map task_of done) a.underway (task_of j)
     (job_task d.presentation lower (lower ++ new) (suc m) (λ g h. mem_left g lower new h) j (job d N m lower new done j left spent a))
     (lower ++ new) (elements_extend_themselves (setting d.presentation d.compare (lower ++ new)) a.underway.certified.monic) r.uses r.chain)
@@ -174,7 +173,7 @@ row_ends_in_zero d N m given lower new done j left spent a count r =
     (entry_by d N (suc m) (item_of j) (lower ++ new) (row_of d.presentation j) r.uses []) (λ u. refl) t l))
 
 -- the leading tree of a multiple of a monic element is that of the element
-module _ (d : Document) (N : ℕ) (given : IsGiven d) (l : List Element) (tasks : List Task) (m : ℕ) (u : IsUnderway d.presentation d.compare l m tasks)
+module _ (d : Problem) (N : ℕ) (given : IsGiven d) (l : List Element) (tasks : List Task) (m : ℕ) (u : IsUnderway d.presentation d.compare l m tasks)
     (f : Sum) (g : Element) (monic : IsMonic (setting d.presentation d.compare l) g) (multiple : IsMultipleOf d.presentation.q f g) where
   abbrev over : Setting
   over = setting d.presentation d.compare l
@@ -213,7 +212,7 @@ module _ (d : Document) (N : ℕ) (given : IsGiven d) (l : List Element) (tasks 
 pub row_ends_in_element : RowEndsInElement
 row_ends_in_element d N m given lower new done j left spent a f count r g arity monic multiple =
     row_done d N m lower new done j left spent a f r.uses r.chain (new ++ (g ∷ [])) count r.count_is
-    (counted_finished (setting d.presentation d.compare (lower ++ new)) (suc m) f r.finished) high
+    r.finished high
     (subst (λ l. IsUnderway d.presentation d.compare l m (task_of j ∷ map task_of done)) assoc
     (task_ends_in_element d.presentation given.sound given.positive d.compare given.order (lower ++ new) m (map task_of done) a.underway (task_of j)
     (job_task d.presentation lower (lower ++ new) (suc m) (λ h k. mem_left h lower new k) j (job d N m lower new done j left spent a))
@@ -240,7 +239,7 @@ row_ends_in_element d N m given lower new done j left spent a f count r g arity 
 -- ---- the steps end in a row
 
 -- what a stopped entry gives, where its item is new
-pub entry_stops : (d : Document) (N n : ℕ) (now : List Element) (run : List (EntryOf d)) → IsRunSoFar d N n now run → (x : EntryOf d) → IsEntry d N x → HasStopped x → call_of x.item ≡ completing → (HasItem run x.item → ⊥)
+pub entry_stops : (d : Problem) (N n : ℕ) (now : List Element) (run : List (EntryOf d)) → IsRunSoFar d N n now run → (x : EntryOf d) → IsEntry d N x → HasStopped x → call_of x.item ≡ completing → (HasItem run x.item → ⊥)
     → (before after : ℕ) → after ≡ before + (run_length run + length x.steps) → CountsStoppedCompletion d N before after x.last
 entry_stops d N n now run so x entry stopped call fresh before after e =
     let law = (runs_so_far d N).1 n now run so in
@@ -258,5 +257,5 @@ row_stops d N m lower new done j left spent a f count r before =
     entry_stops d N (suc m) (lower ++ new) a.run a.so_far (entry_by d N (suc m) (item_of j) (lower ++ new) (row_of d.presentation j) r.uses f)
     (job_entry d N (suc m) (two d N m lower new done j left spent a) a.to_most (lower ++ new) (ideal_elements d N (lower ++ new) m (map task_of done) a.underway) lower
     (λ g h. mem_left g lower new h) j (job d N m lower new done j left spent a) r.uses f r.chain)
-    (r.next, r.there) (job_completes j) (a.fresh j (inl refl)) before (before + (spent + count))
-    (let c = a.counted in let k = r.count_is in let l = length-steps r.uses in omega (arith, c, k, l))
+    r.stopped (job_completes j) (a.fresh j (inl refl)) before (before + (spent + count))
+    (let c = a.counted in let k = r.count_is in omega (arith, c, k))

@@ -14,10 +14,10 @@ use Rattle.shuffle_normal_forms.specs.FreeTrees.{is_empty}
 use Rattle.operad_ideals.specs.Presentations.{Relation, Presentation}
 use Rattle.shuffle_transfer.specs.Orderings.{IsOrdering}
 use Rattle.shuffle_completion.specs.ReducedBases.{IsReducedBasis}
-use Rattle.counted_runs.specs.Items.{Document, Purpose, completion, Item, relabelling, two_places, tail_of, question, traced, IsItem}
+use Rattle.counted_runs.specs.Items.{Problem, Purpose, completion, Item, relabelling, two_places, tail_of, question, traced, IsItem}
 use Rattle.counted_runs.specs.Rows.{SameSum, AreIdealElements, IsSElement}
 use Rattle.counted_runs.specs.Runs.{AtLast, EntryOf, HasFinished, HasStopped, IsEntry, IsRun, IsFinishedRun, IsStoppedRun}
-use Rattle.counted_runs.specs.FullRuns.{IsReduced, IsAsked, HasLead, Holds, HasItem, IsLastLead, KeepsLead, IsPairEntry, HasPair, IsFullRun}
+use Rattle.counted_runs.specs.FullRuns.{IsRelationOrPair, IsAsked, HasLeadingTree, HoldsElement, HasItem, IsLastLead, KeepsLead, IsPairEntry, HasPair, IsFullRun}
 use Rattle.counted_runs.specs.Calls.{completing, call_of, IsMadeOf}
 use Rattle.counted_runs.specs.RunLaws.{AreApart}
 use Rattle.counted_runs.specs.RunsSoFar.{Serves, Follows, IsRunSoFar, RunSoFarLaw, RunsSoFarGrow}
@@ -25,11 +25,11 @@ use Rattle.counted_runs.proofs.Joins.{join, in_sequence, by_either, at_last}
 
 -- ---- lists that serve, and elements that follow
 
-pub holds_member : (p : Presentation) (l : List Element) (g : Element) → Mem g l → Holds p l g
+pub holds_member : (p : Presentation) (l : List Element) (g : Element) → Mem g l → HoldsElement p l g
 holds_member p l g m = record { by = g; member = m; arity_is = refl; lead_is = refl; tail_is = λ t. refl }
 
 -- a list with all current elements serves
-pub serves_all : (d : Document) (n : ℕ) (now l : List Element) → ((g : Element) → Mem g now → Mem g l) → Serves d n now l
+pub serves_all : (d : Problem) (n : ℕ) (now l : List Element) → ((g : Element) → Mem g now → Mem g l) → Serves d n now l
 serves_all d n now l f = record { lower = λ g m lt. holds_member d.presentation l g (f g m); leads = λ g m. (g, f g m, refl) }
 
 -- the elements stay, or one more of this arity comes
@@ -44,7 +44,7 @@ follows_more n now new e = record { lower = λ g m lt. old g lt (mem_either g no
     old g lt (inr (inl k)) = let a : g.arity ≡ new.arity = ap (λ (h : Element). h.arity) k in absurd (omega (arith, a, e, lt))
     old g lt (inr (inr m)) = absurd m
 
-module _ (d : Document) (N : ℕ) where
+module _ (d : Problem) (N : ℕ) where
   abbrev E : Type 0
   E = EntryOf d
 
@@ -79,7 +79,7 @@ module _ (d : Document) (N : ℕ) where
     abbrev pushed : (P : E → Type 0) → (x : E) → ((y : E) → Mem y run → P y) → P x → (y : E) → Mem y (run ++ (x ∷ [])) → P y
     pushed P x f h = by_either d N P run (x ∷ []) f (λ y m. subst P (sym (alone x y m)) h)
 
-    has_lead : (next : List Element) → ((g : Element) → Mem g now → HasLead next g.lead) → (t : Tree ℕ) → HasLead now t → HasLead next t
+    has_lead : (next : List Element) → ((g : Element) → Mem g now → HasLeadingTree next g.lead) → (t : Tree ℕ) → HasLeadingTree now t → HasLeadingTree next t
     has_lead next f t h = let k = f h.0 h.1 in (k.0, k.1, k.2 ∙ h.2)
 
     finished_more : (x : E) → IsEntry d N x → HasFinished x → (HasItem run x.item → ⊥) → IsFinishedRun d N (run ++ (x ∷ []))
@@ -91,10 +91,10 @@ module _ (d : Document) (N : ℕ) where
         → IsSElement d.presentation t first second g h x.row
 
     abbrev LowerIn : List Element → E → Type 0
-    LowerIn elements x = (g : Element) → Mem g elements → g.arity < x.arity → Holds d.presentation x.elements g
+    LowerIn elements x = (g : Element) → Mem g elements → g.arity < x.arity → HoldsElement d.presentation x.elements g
 
     abbrev KeptBy : List Element → E → Type 0
-    KeptBy elements x = IsReduced x.item → (t : Tree ℕ) → IsLastLead x t → HasLead elements t
+    KeptBy elements x = IsRelationOrPair x.item → (t : Tree ℕ) → IsLastLead x t → HasLeadingTree elements t
 
     -- what an entry must have: its own lists and rows, and what it leaves
     grown : (next : List Element) (x : E) → IsEntry d N x → HasFinished x → x.arity ≡ n → call_of x.item ≡ completing → (HasItem run x.item → ⊥)
@@ -112,7 +112,7 @@ module _ (d : Document) (N : ℕ) where
         below : (y : E) → Mem y run → (g : Element) → g.arity < y.arity → g.arity < n
         below y m g lt = omega (arith, s.up_to y m, lt)
 
-    lower_of : (x : E) → x.arity ≡ n → ((g : Element) → Mem g now → g.arity < n → Holds d.presentation x.elements g) → LowerIn now x
+    lower_of : (x : E) → x.arity ≡ n → ((g : Element) → Mem g now → g.arity < n → HoldsElement d.presentation x.elements g) → LowerIn now x
     lower_of x arity f g m lt = f g m (omega (arith, arity, lt))
 
     keeps_of : (x : E) → x.arity ≡ n → Serves d n now x.elements → (y : E) → Mem y run → KeepsLead y x
@@ -125,7 +125,7 @@ module _ (d : Document) (N : ℕ) where
     no_rows next x f g h mg mh lg lh z t first second e a b = absurd (f z t first second e)
 
     pub one_relation : (next : List Element) (x : E) (k : ℕ) (w : List ℕ) → IsEntry d N x → HasFinished x → x.arity ≡ n → x.item ≡ relabelling completion k w
-        → (HasItem run x.item → ⊥) → Serves d n now x.elements → Follows n now next → ((t : Tree ℕ) → IsLastLead x t → HasLead next t)
+        → (HasItem run x.item → ⊥) → Serves d n now x.elements → Follows n now next → ((t : Tree ℕ) → IsLastLead x t → HasLeadingTree next t)
         → IsRunSoFar d N n next (run ++ (x ∷ []))
     one_relation next x k w h f arity e fresh serves follows leaves =
         grown next x h f arity (ap call_of e) fresh (lower_of x arity serves.lower) (keeps_of x arity serves) (no_rows next x (λ z t first second i. absurd (cc (e, i)))) follows (λ red t l. leaves t l)
@@ -158,20 +158,20 @@ module _ (d : Document) (N : ℕ) where
     pub one_pair : AreIdealElements d.presentation d.compare now → (next : List Element) (x : E) (g h : Element) → Mem g now → Mem h now → g.arity < n → h.arity < n
         → (t : Tree ℕ) (first second : List ℕ) → x.item ≡ two_places completion t first second → IsSElement d.presentation t first second g h x.row
         → IsEntry d N x → HasFinished x → x.arity ≡ n
-        → (HasItem run x.item → ⊥) → Serves d n now x.elements → Follows n now next → ((t : Tree ℕ) → IsLastLead x t → HasLead next t)
+        → (HasItem run x.item → ⊥) → Serves d n now x.elements → Follows n now next → ((t : Tree ℕ) → IsLastLead x t → HasLeadingTree next t)
         → IsRunSoFar d N n next (run ++ (x ∷ []))
     one_pair are next x g h mg mh lg lh t first second e r i f arity fresh serves follows leaves =
         grown next x i f arity (ap call_of e) fresh (lower_of x arity serves.lower) (keeps_of x arity serves)
         (these_rows are next x g h mg mh arity t first second e r follows) follows (λ red u l. leaves u l)
 
     pub one_tail : (x : E) (t : Tree ℕ) → x.item ≡ tail_of t → IsEntry d N x → HasFinished x → x.arity ≡ n → (HasItem run x.item → ⊥)
-        → ((g : Element) → Mem g now → g.arity < n → Holds d.presentation x.elements g) → IsRunSoFar d N n now (run ++ (x ∷ []))
+        → ((g : Element) → Mem g now → g.arity < n → HoldsElement d.presentation x.elements g) → IsRunSoFar d N n now (run ++ (x ∷ []))
     one_tail x t e h f arity fresh lower =
         grown now x h f arity (ap call_of e) fresh (lower_of x arity lower) (λ y m r red. absurd (none red))
         (no_rows now x (λ z u first second i. absurd (cc (e, i)))) (follows_same n now) (λ red. absurd (none red))
       where
-        none : IsReduced x.item → ⊥
-        none red = subst IsReduced e red
+        none : IsRelationOrPair x.item → ⊥
+        none red = subst IsRelationOrPair e red
 
     -- ---- other steps
 

@@ -19,10 +19,10 @@ use Rattle.shuffle_transfer.specs.Certified.{setting}
 use Rattle.shuffle_transfer.proofs.Orderings.{all_orderings}
 use Rattle.shuffle_completion.specs.Completion.{multiple, AreAll}
 use Rattle.shuffle_completion.proofs.Ideals.{span_in_ideal}
-use Rattle.counted_runs.specs.Items.{Document, arity_in, completion, Item, relabelling, two_places, tail_of}
+use Rattle.counted_runs.specs.Items.{Problem, arity_in, completion, Item, relabelling, two_places, tail_of}
 use Rattle.counted_runs.specs.Rows.{AreIdealElements}
 use Rattle.counted_runs.specs.Runs.{EntryOf, IsEntry}
-use Rattle.counted_runs.specs.FullRuns.{HasItem, HasLead}
+use Rattle.counted_runs.specs.FullRuns.{HasItem, HasLeadingTree}
 use Rattle.counted_runs.specs.RunsSoFar.{Follows, RunSoFarLaw}
 use Rattle.counted_runs.proofs.RunsSoFar.{runs_so_far, holds_member}
 use Rattle.counted_runs.proofs.Entries.{entry_law}
@@ -31,8 +31,8 @@ use Rattle.counted_runs.specs.Reductions.{ReducesTo}
 use Rattle.counted_runs.specs.Stages.{IsGiven, HasAll, IsAtRows, IsAtTails, StandsFor, AreBecoming}
 use Rattle.counted_runs.specs.LoopLaws.{TailsBegin, TailIsReduced, TailStops}
 use Rattle.counted_runs.proofs.Lists.{append_nothing}
-use Rattle.counted_runs.proofs.ReductionChains.{length-steps, counted_finished}
-use Rattle.counted_runs.proofs.JobEntries.{member_nth, entry_by, chained}
+use Rattle.counted_runs.proofs.JobEntries.{entry_by, chained}
+use Rattle.counted_runs.proofs.Numbered.{member_nth}
 use Rattle.counted_runs.proofs.Rows.{all_grown, entry_stops}
 use Rattle.counted_runs.proofs.Replaced.{between_member, other_member, between, other_lead, same_leads, tail_replaced}
 use Rattle.counted_runs.proofs.Becoming.{becoming_itself, Parted, parted, together, fewer_pending, tail_by, leads_apart}
@@ -42,7 +42,7 @@ Sum = List (ℕ × Tree ℕ)
 
 -- ---- the tails begin
 
-module _ (d : Document) (N m : ℕ) (lower new : List Element) (done : List Job) (spent : ℕ) (a : IsAtRows d N m lower new done [] spent) where
+module _ (d : Problem) (N m : ℕ) (lower new : List Element) (done : List Job) (spent : ℕ) (a : IsAtRows d N m lower new done [] spent) where
   jobs : AreJobs d.presentation lower (suc m) done
   jobs = subst (AreJobs d.presentation lower (suc m)) (append_nothing done) a.jobs
 
@@ -135,7 +135,7 @@ tails_begin d N m given lower new done spent a pending once each is = record {
 
 -- ---- a tail is reduced
 
-module _ (d : Document) (N m : ℕ) (given : IsGiven d) (elements front : List Element) (g : Element) (back : List Element) (pending : List (Tree ℕ)) (spent : ℕ)
+module _ (d : Problem) (N m : ℕ) (given : IsGiven d) (elements front : List Element) (g : Element) (back : List Element) (pending : List (Tree ℕ)) (spent : ℕ)
     (a : IsAtTails d N m elements (front ++ (g ∷ back)) (g.lead ∷ pending) spent) where
   abbrev now : List Element
   now = front ++ (g ∷ back)
@@ -202,7 +202,7 @@ module _ (d : Document) (N m : ℕ) (given : IsGiven d) (elements front : List E
         lower h lt (inl k) = other_member front g back h k
         lower h lt (inr e) = let q = ap (λ (y : Element). y.arity) e in absurd (omega (arith, q, lt))
 
-        lead : (h : Element) → (Mem h front ⊎ Mem h back) ⊎ (h ≡ g) → HasLead (front ++ (new ∷ back)) h.lead
+        lead : (h : Element) → (Mem h front ⊎ Mem h back) ⊎ (h ≡ g) → HasLeadingTree (front ++ (new ∷ back)) h.lead
         lead h (inl k) = (h, other_member front new back h k, refl)
         lead h (inr e) = (new, between front new back, sym (ap (λ (y : Element). y.lead) e))
 
@@ -232,7 +232,7 @@ module _ (d : Document) (N m : ℕ) (given : IsGiven d) (elements front : List E
     pub tail_done : (count : ℕ) → ReducesTo (setting d.presentation d.compare (front ++ (g ∷ back))) (suc m) g.tail f count → count ≡ length uses → HasNoZeros d.presentation.q f
         → IsAtTails d N m elements (front ++ (record { arity = suc m; lead = g.lead; tail = f } ∷ back)) pending (spent + count)
     tail_done count r count_is zeros =
-        let so = law.tail x g.lead refl tail_entry (counted_finished (setting d.presentation d.compare (front ++ (g ∷ back))) (suc m) f r.finished) refl (a.fresh g.lead (inl refl))
+        let so = law.tail x g.lead refl tail_entry r.finished refl (a.fresh g.lead (inl refl))
         (λ h mh lt. holds_member d.presentation (front ++ (g ∷ back)) h mh) in
         record {
           from_one = a.from_one;
@@ -249,7 +249,7 @@ module _ (d : Document) (N m : ℕ) (given : IsGiven d) (elements front : List E
           so_far = ((runs_so_far d N).1 (suc m) (front ++ (g ∷ back)) (a.run ++ (x ∷ [])) so).changed (front ++ (new ∷ back)) follows;
           all = all_grown d (suc m) (front ++ (g ∷ back)) (front ++ (new ∷ back)) a.run (a.run ++ (x ∷ [])) a.all up (λ h mh lt. follows.lower h mh lt);
           fresh = fresh_next;
-          counted = let l = law.steps x in let k = length-steps uses in let c = a.counted in omega (arith, l, k, c, count_is);
+          counted = let l = law.steps x in let c = a.counted in omega (arith, l, c, count_is);
         }
 
 pub tail_is_reduced : TailIsReduced
@@ -258,5 +258,5 @@ tail_is_reduced d N m given elements front g back pending spent a f count r zero
 pub tail_stops : TailStops
 tail_stops d N m given elements front g back pending spent a f count r before =
     entry_stops d N (suc m) (front ++ (g ∷ back)) a.run a.so_far (entry_by d N (suc m) (tail_of g.lead) (front ++ (g ∷ back)) g.tail r.uses f)
-    (tail_entry d N m given elements front g back pending spent a f r.uses r.chain) (r.next, r.there) refl (a.fresh g.lead (inl refl)) before (before + (spent + count))
-    (let c = a.counted in let k = r.count_is in let l = length-steps r.uses in omega (arith, c, k, l))
+    (tail_entry d N m given elements front g back pending spent a f r.uses r.chain) r.stopped refl (a.fresh g.lead (inl refl)) before (before + (spent + count))
+    (let c = a.counted in let k = r.count_is in omega (arith, c, k))

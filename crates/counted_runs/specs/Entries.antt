@@ -7,19 +7,19 @@ use Rattle.shuffle_insertions.specs.ShuffleTrees.{IsShuffleTree}
 use Rattle.shuffle_places.specs.Multiples.{IsMultiple}
 use Rattle.shuffle_bases.specs.Elements.{Element, s_element}
 use Rattle.shuffle_normal_forms.specs.FreeTrees.{is_empty}
+use Rattle.shuffle_reductions.specs.Chains.{IsChain}
 use Rattle.operad_ideals.specs.Presentations.{Relation}
 use Rattle.shuffle_transfer.specs.Orderings.{IsOrdering}
 use Rattle.shuffle_transfer.specs.Labels.{symmetric_tree}
 use Rattle.shuffle_transfer.specs.Transfer.{relabelled, shuffled}
 use Rattle.shuffle_transfer.specs.Certified.{setting}
 use Rattle.shuffle_completion.specs.ReducedBases.{IsReducedBasis}
-use Rattle.counted_runs.specs.Chains.{IsChain}
 use Rattle.counted_runs.specs.CycleTypes.{IsCycleType, permutation_of}
-use Rattle.counted_runs.specs.Items.{Question, Document, arity_in, Purpose, relabelling, two_places, tail_of, question, traced}
+use Rattle.counted_runs.specs.Items.{Question, Problem, arity_in, Purpose, relabelling, two_places, tail_of, question, traced}
 use Rattle.counted_runs.specs.Rows.{SameSum, AreIdealElements}
 use Rattle.counted_runs.specs.Runs.{EntryOf, IsEntry}
 
-module _ (d : Document) (N : ℕ) where
+module _ (d : Problem) (N : ℕ) where
   -- An entry of arity n: its list is one of monic elements of the ideal, and its steps are a chain over it.
   pub record IsChained (n : ℕ) (x : EntryOf d) : Type 0 where
     pub from_two : 2 ≤ n
@@ -48,4 +48,4 @@ module _ (d : Document) (N : ℕ) where
 
 -- That holds of each chain over monic elements of the ideal.
 abbrev pub EntriesComeAbout : Type 0
-EntriesComeAbout = (d : Document) (N n : ℕ) (x : EntryOf d) → IsChained d N n x → EntryLaw d N n x
+EntriesComeAbout = (d : Problem) (N n : ℕ) (x : EntryOf d) → IsChained d N n x → EntryLaw d N n x

@@ -14,7 +14,7 @@ use Rattle.shuffle_transfer.specs.Orderings.{IsOrdering}
 use Rattle.shuffle_transfer.specs.Labels.{inputs_of}
 use Rattle.shuffle_transfer.specs.Certified.{setting}
 use Rattle.shuffle_completion.specs.ReducedBases.{IsReducedBasis}
-use Rattle.counted_runs.specs.Items.{Document, Purpose, Item, relabelling, two_places, tail_of, question, traced}
+use Rattle.counted_runs.specs.Items.{Problem, Purpose, Item, relabelling, two_places, tail_of, question, traced}
 use Rattle.counted_runs.specs.Rows.{SameSum, IsSElement}
 use Rattle.counted_runs.specs.Runs.{Entry, EntryOf, IsFinishedRun}
 
@@ -24,12 +24,12 @@ InSequence R [] = Unit {0}
 InSequence {X} R (x ∷ l) = ((y : X) → Mem y l → R x y) × InSequence R l
 
 -- the item is of the first two kinds: a relation with a permutation, or a tree with two places
-abbrev pub IsReduced : Item → Type 0
-IsReduced (relabelling z k w) = Unit {0}
-IsReduced (two_places z t first second) = Unit {0}
-IsReduced (tail_of t) = ⊥
-IsReduced (question k) = ⊥
-IsReduced (traced c t) = ⊥
+abbrev pub IsRelationOrPair : Item → Type 0
+IsRelationOrPair (relabelling z k w) = Unit {0}
+IsRelationOrPair (two_places z t first second) = Unit {0}
+IsRelationOrPair (tail_of t) = ⊥
+IsRelationOrPair (question k) = ⊥
+IsRelationOrPair (traced c t) = ⊥
 
 -- the item is reduced over the finished basis: it is a question, or a cycle type with a tree
 abbrev pub IsAsked : Item → Type 0
@@ -40,11 +40,11 @@ IsAsked (question k) = Unit {0}
 IsAsked (traced c t) = Unit {0}
 
 -- an element of the list has this leading tree
-abbrev pub HasLead : List Element → Tree ℕ → Type 0
-HasLead l t = (g : Element) × Mem g l × (g.lead ≡ t)
+abbrev pub HasLeadingTree : List Element → Tree ℕ → Type 0
+HasLeadingTree l t = (g : Element) × Mem g l × (g.lead ≡ t)
 
 -- the list holds the element: one of the list has its arity and its leading tree, and the same sum as its tail
-pub record Holds (p : Presentation) (l : List Element) (g : Element) : Type 0 where
+pub record HoldsElement (p : Presentation) (l : List Element) (g : Element) : Type 0 where
   pub by : Element
   pub member : Mem by l
   pub arity_is : by.arity ≡ g.arity
@@ -64,7 +64,7 @@ module _ {p : Presentation} {compare : Tree ℕ → Tree ℕ → Ordering} where
   -- where the items of x and y are of the first two kinds and of one arity, the leading tree of the last row of x, if that isn't 0,
   -- is that of an element of the list of y
   abbrev pub KeepsLead : Entry p compare → Entry p compare → Type 0
-  KeepsLead x y = IsReduced x.item → IsReduced y.item → x.arity ≡ y.arity → (t : Tree ℕ) → IsLastLead x t → HasLead y.elements t
+  KeepsLead x y = IsRelationOrPair x.item → IsRelationOrPair y.item → x.arity ≡ y.arity → (t : Tree ℕ) → IsLastLead x t → HasLeadingTree y.elements t
 
   -- the entry's item is the tree with the two places, and its row the S-element of g and h there
   pub record IsPairEntry (x : Entry p compare) (t : Tree ℕ) (first second : List ℕ) (g h : Element) : Type 0 where
@@ -81,13 +81,13 @@ module _ {p : Presentation} {compare : Tree ℕ → Tree ℕ → Ordering} where
 -- trees of two elements of the basis is an item with its two places, and its row is their S-element; the list of each chain holds
 -- the elements of the basis of lower arity, and that of a chain for a question those of the same arity too; and leading trees of
 -- last rows of the first two kinds are those of elements of the later lists of that arity for items of these two kinds.
-pub record IsFullRun (d : Document) (N : ℕ) (basis : List Element) (run : List (EntryOf d)) : Type 0 where
+pub record IsFullRun (d : Problem) (N : ℕ) (basis : List Element) (run : List (EntryOf d)) : Type 0 where
   pub reduced : IsReducedBasis d.presentation d.compare basis N
   pub finished : IsFinishedRun d N run
   pub relations : (k : ℕ) (r : Relation) → Nth k d.presentation.relations r → is_empty r.terms ≡ false → 2 ≤ r.arity → r.arity ≤ N
       → (w : List ℕ) → IsOrdering r.arity w → (z : Purpose) × HasItem run (relabelling z k w)
   pub multiples : (n : ℕ) → n ≤ N → (g h : Element) → Mem g basis → Mem h basis → (t : Tree ℕ) (first second : List ℕ)
       → IsMultiple n g.lead h.lead t first second → HasPair run t first second g h
-  pub lower : (x : EntryOf d) → Mem x run → (g : Element) → Mem g basis → g.arity < x.arity → Holds d.presentation x.elements g
-  pub asked : (x : EntryOf d) → Mem x run → IsAsked x.item → (g : Element) → Mem g basis → g.arity ≤ x.arity → Holds d.presentation x.elements g
+  pub lower : (x : EntryOf d) → Mem x run → (g : Element) → Mem g basis → g.arity < x.arity → HoldsElement d.presentation x.elements g
+  pub asked : (x : EntryOf d) → Mem x run → IsAsked x.item → (g : Element) → Mem g basis → g.arity ≤ x.arity → HoldsElement d.presentation x.elements g
   pub leads : InSequence KeepsLead run

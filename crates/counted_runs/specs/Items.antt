@@ -2,12 +2,14 @@
 use Rattle.std.specs.Prelude.{ℕ, ◌≡◌, List, [], ◌∷◌}
 use Rattle.std.proofs.Common.{Bool, true, false, zero, suc}
 use Rattle.std.specs.declared.cmp.Ordering.{Ordering}
-use Rattle.modular_sums.specs.Lists.{Nth}
+use Rattle.modular_sums.specs.Lists.{Mem, Nth}
+use Rattle.modular_sums.specs.Sums.{AllTerms}
 use Rattle.labelled_trees.specs.Trees.{Tree}
+use Rattle.labelled_trees.specs.Labelled.{IsLabelled}
 use Rattle.shuffle_insertions.specs.ShuffleTrees.{IsShuffleTree}
 use Rattle.shuffle_places.specs.Connected.{IsConnected}
 use Rattle.shuffle_normal_forms.specs.FreeTrees.{is_empty}
-use Rattle.operad_ideals.specs.Presentations.{Relation, Presentation}
+use Rattle.operad_ideals.specs.Presentations.{Relation, Presentation, arity_of}
 use Rattle.shuffle_transfer.specs.Orderings.{IsOrdering}
 use Rattle.shuffle_transfer.specs.Labels.{inputs_of}
 use Rattle.counted_runs.specs.CycleTypes.{IsCycleType}
@@ -17,16 +19,20 @@ pub record Question : Type 0 where
   pub arity : ℕ
   pub terms : List (ℕ × Tree ℕ)
 
--- A document: a presentation, a comparison of the shuffle trees over its labels, what is asked, and whether traces are.
-pub record Document : Type 0 where
+-- A problem: a presentation, a comparison of the shuffle trees over its labels, what is asked, and whether traces are.
+pub record Problem : Type 0 where
   pub presentation : Presentation
   pub compare : Tree ℕ → Tree ℕ → Ordering
   pub questions : List Question
   pub traces : Bool
 
--- the arity of each label of a document
-abbrev pub arity_in : Document → ℕ → ℕ
+-- the arity of each label of a problem
+abbrev pub arity_in : Problem → ℕ → ℕ
 arity_in d = inputs_of d.presentation
+
+-- The trees of each question are labelled by 1 to its arity.
+abbrev pub AsksElements : Problem → Type 0
+AsksElements d = (e : Question) → Mem e d.questions → AllTerms e.terms (IsLabelled (arity_of d.presentation) e.arity)
 
 -- what a chain is for
 pub data Purpose : Type 0 where
@@ -43,8 +49,8 @@ pub data Item : Type 0 where
   question : ℕ → Item
   traced : List ℕ → Tree ℕ → Item
 
--- The items of arity n of a document.
-abbrev pub IsItem : Document → ℕ → Item → Type 0
+-- The items of arity n of a problem.
+abbrev pub IsItem : Problem → ℕ → Item → Type 0
 IsItem d n (relabelling z k w) = (r : Relation) × Nth k d.presentation.relations r × (r.arity ≡ n) × (is_empty r.terms ≡ false) × IsOrdering n w
 IsItem d n (two_places z t first second) = IsShuffleTree (arity_in d) n t × IsConnected t first × IsConnected t second
 IsItem d n (tail_of t) = IsShuffleTree (arity_in d) n t

@@ -1,5 +1,4 @@
 pub mod Calls
-pub mod Chains
 pub mod Counters
 pub mod CycleTypes
 pub mod Enough
@@ -14,4 +13,5 @@ pub mod Rows
 pub mod RunLaws
 pub mod Runs
 pub mod RunsSoFar
+pub mod SpanChains
 pub mod Stages

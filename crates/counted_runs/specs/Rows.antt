@@ -12,7 +12,7 @@ use Rattle.shuffle_transfer.specs.Labels.{symmetric_tree}
 use Rattle.shuffle_transfer.specs.Transfer.{relabelled, shuffled, IsSumOfInsertions}
 use Rattle.shuffle_transfer.specs.Certified.{setting}
 use Rattle.counted_runs.specs.CycleTypes.{permutation_of}
-use Rattle.counted_runs.specs.Items.{Question, Document, Item, relabelling, two_places, tail_of, question, traced}
+use Rattle.counted_runs.specs.Items.{Question, Problem, Item, relabelling, two_places, tail_of, question, traced}
 
 -- two sums are the same
 abbrev pub SameSum : Presentation → List (ℕ × Tree ℕ) → List (ℕ × Tree ℕ) → Type 0
@@ -37,7 +37,7 @@ pub record IsSElement (p : Presentation) (t : Tree ℕ) (first second : List ℕ
 -- The row of an item: the shuffle form of the relabelled relation; the S-element at the two places of two monic elements of the
 -- ideal; a monic element of the ideal with that leading tree, without its leading term; the shuffle form of what is asked; that
 -- of the tree with each leaf replaced by its image under the permutation of the cycle type.
-abbrev pub IsRow : Document → Item → List (ℕ × Tree ℕ) → Type 0
+abbrev pub IsRow : Problem → Item → List (ℕ × Tree ℕ) → Type 0
 IsRow d (relabelling z k w) row = (r : Relation) × Nth k d.presentation.relations r × SameSum d.presentation row (shuffled d.presentation (relabelled w r.terms))
 IsRow d (two_places z t first second) row =
     (g : Element) × (h : Element) × IsIdealElement d.presentation d.compare g × IsIdealElement d.presentation d.compare h × IsSElement d.presentation t first second g h row

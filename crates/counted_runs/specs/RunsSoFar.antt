@@ -10,24 +10,24 @@ use Rattle.shuffle_normal_forms.specs.FreeTrees.{is_empty}
 use Rattle.operad_ideals.specs.Presentations.{Relation}
 use Rattle.shuffle_transfer.specs.Orderings.{IsOrdering}
 use Rattle.shuffle_completion.specs.ReducedBases.{IsReducedBasis}
-use Rattle.counted_runs.specs.Items.{Document, Purpose, completion, Item, relabelling, two_places, tail_of}
+use Rattle.counted_runs.specs.Items.{Problem, Purpose, completion, Item, relabelling, two_places, tail_of}
 use Rattle.counted_runs.specs.Rows.{SameSum, AreIdealElements, IsSElement}
 use Rattle.counted_runs.specs.Runs.{AtLast, EntryOf, HasFinished, HasStopped, IsEntry, IsFinishedRun, IsStoppedRun, run_length}
-use Rattle.counted_runs.specs.FullRuns.{InSequence, IsReduced, HasLead, Holds, HasItem, IsLastLead, KeepsLead, IsFullRun}
+use Rattle.counted_runs.specs.FullRuns.{InSequence, IsRelationOrPair, HasLeadingTree, HoldsElement, HasItem, IsLastLead, KeepsLead, IsFullRun}
 use Rattle.counted_runs.specs.Calls.{completing, call_of, IsMadeOf}
 
 -- The list of a chain of arity n serves the current elements: it holds those of lower arity, and has the leading trees of all.
-pub record Serves (d : Document) (n : ℕ) (now l : List Element) : Type 0 where
-  pub lower : (g : Element) → Mem g now → g.arity < n → Holds d.presentation l g
-  pub leads : (g : Element) → Mem g now → HasLead l g.lead
+pub record Serves (d : Problem) (n : ℕ) (now l : List Element) : Type 0 where
+  pub lower : (g : Element) → Mem g now → g.arity < n → HoldsElement d.presentation l g
+  pub leads : (g : Element) → Mem g now → HasLeadingTree l g.lead
 
 -- The elements that are current next follow those that are current now, in arity n: those of lower arity were there, and the
 -- leading trees of all are still there. One more element of arity n, and other tails in arity n, are allowed.
 pub record Follows (n : ℕ) (now next : List Element) : Type 0 where
   pub lower : (g : Element) → Mem g next → g.arity < n → Mem g now
-  pub leads : (g : Element) → Mem g now → HasLead next g.lead
+  pub leads : (g : Element) → Mem g now → HasLeadingTree next g.lead
 
-module _ (d : Document) (N : ℕ) where
+module _ (d : Problem) (N : ℕ) where
   -- The run so far, in arity n, with the current elements: it is finished, made of the completion's items, and has no arity above n;
   -- each list holds the current elements of lower arity; each row of a tree with two places is the S-element of the current elements
   -- of lower arity with these divisors; leading trees of last rows are kept by later lists, and by the current elements.
@@ -35,28 +35,28 @@ module _ (d : Document) (N : ℕ) where
     pub finished : IsFinishedRun d N run
     pub made_of : IsMadeOf completing run
     pub up_to : (x : EntryOf d) → Mem x run → x.arity ≤ n
-    pub lower : (x : EntryOf d) → Mem x run → (g : Element) → Mem g now → g.arity < x.arity → Holds d.presentation x.elements g
+    pub lower : (x : EntryOf d) → Mem x run → (g : Element) → Mem g now → g.arity < x.arity → HoldsElement d.presentation x.elements g
     pub rows : (x : EntryOf d) → Mem x run → (g h : Element) → Mem g now → Mem h now → g.arity < x.arity → h.arity < x.arity
         → (z : Purpose) (t : Tree ℕ) (first second : List ℕ) → x.item ≡ two_places z t first second → IsPlace t first g.lead → IsPlace t second h.lead
         → IsSElement d.presentation t first second g h x.row
     pub leads : InSequence KeepsLead run
-    pub kept : (x : EntryOf d) → Mem x run → IsReduced x.item → (t : Tree ℕ) → IsLastLead x t → HasLead now t
+    pub kept : (x : EntryOf d) → Mem x run → IsRelationOrPair x.item → (t : Tree ℕ) → IsLastLead x t → HasLeadingTree now t
 
   -- what each step of the loops does to the run so far
   pub record RunSoFarLaw (n : ℕ) (now : List Element) (run : List (EntryOf d)) (so_far : IsRunSoFar n now run) : Type 0 where
     -- a relabelled relation is reduced; the leading tree of what is left, if that isn't 0, is that of an element from now on
     pub relation : (next : List Element) (x : EntryOf d) (k : ℕ) (w : List ℕ) → IsEntry d N x → HasFinished x → x.arity ≡ n → x.item ≡ relabelling completion k w
-        → (HasItem run x.item → ⊥) → Serves d n now x.elements → Follows n now next → ((t : Tree ℕ) → IsLastLead x t → HasLead next t)
+        → (HasItem run x.item → ⊥) → Serves d n now x.elements → Follows n now next → ((t : Tree ℕ) → IsLastLead x t → HasLeadingTree next t)
         → IsRunSoFar n next (run ++ (x ∷ []))
     -- the same for an S-element of two elements of lower arity
     pub pair : AreIdealElements d.presentation d.compare now → (next : List Element) (x : EntryOf d) (g h : Element) → Mem g now → Mem h now → g.arity < n → h.arity < n
         → (t : Tree ℕ) (first second : List ℕ) → x.item ≡ two_places completion t first second → IsSElement d.presentation t first second g h x.row
         → IsEntry d N x → HasFinished x → x.arity ≡ n
-        → (HasItem run x.item → ⊥) → Serves d n now x.elements → Follows n now next → ((t : Tree ℕ) → IsLastLead x t → HasLead next t)
+        → (HasItem run x.item → ⊥) → Serves d n now x.elements → Follows n now next → ((t : Tree ℕ) → IsLastLead x t → HasLeadingTree next t)
         → IsRunSoFar n next (run ++ (x ∷ []))
     -- a tail is reduced
     pub tail : (x : EntryOf d) (t : Tree ℕ) → x.item ≡ tail_of t → IsEntry d N x → HasFinished x → x.arity ≡ n → (HasItem run x.item → ⊥)
-        → ((g : Element) → Mem g now → g.arity < n → Holds d.presentation x.elements g) → IsRunSoFar n now (run ++ (x ∷ []))
+        → ((g : Element) → Mem g now → g.arity < n → HoldsElement d.presentation x.elements g) → IsRunSoFar n now (run ++ (x ∷ []))
     -- the current elements of arity n change, but not their leading trees
     pub changed : (next : List Element) → Follows n now next → IsRunSoFar n next run
     -- the next arity begins
@@ -79,6 +79,6 @@ module _ (d : Document) (N : ℕ) where
 
 -- The completion's run begins with no entries, and grows by one entry for each chain.
 abbrev pub RunsSoFarGrow : Type 0
-RunsSoFarGrow = (d : Document) (N : ℕ)
+RunsSoFarGrow = (d : Problem) (N : ℕ)
     → ((n : ℕ) (now : List Element) → IsRunSoFar d N n now [])
     × ((n : ℕ) (now : List Element) (run : List (EntryOf d)) (so_far : IsRunSoFar d N n now run) → RunSoFarLaw d N n now run so_far)

@@ -12,16 +12,16 @@ use Rattle.shuffle_reductions.specs.Extensions.{Extends}
 use Rattle.operad_ideals.specs.Presentations.{Relation, IsSound, IsWide, IsProper}
 use Rattle.shuffle_transfer.specs.Orderings.{IsOrdering}
 use Rattle.shuffle_transfer.specs.Certified.{setting}
-use Rattle.shuffle_completion.specs.Completion.{Task, IsComplete, IsUnderway, AreAll, IsTailReduced}
-use Rattle.counted_runs.specs.Items.{Document, arity_in, completion, relabelling, two_places, tail_of}
+use Rattle.shuffle_completion.specs.Completion.{Task, IsCompletedThrough, IsUnderway, AreAll, IsTailReduced}
+use Rattle.counted_runs.specs.Items.{Problem, arity_in, completion, relabelling, two_places, tail_of}
 use Rattle.counted_runs.specs.Runs.{EntryOf, run_length}
 use Rattle.counted_runs.specs.FullRuns.{HasItem}
 use Rattle.counted_runs.specs.RunsSoFar.{IsRunSoFar}
 use Rattle.counted_runs.specs.Jobs.{Job, task_of, item_of, AreJobs}
 
--- What is asked of a document: its relations are labelled and of an arity of two or more, its generators have two inputs or more,
+-- What is asked of a problem: its relations are labelled and of an arity of two or more, its generators have two inputs or more,
 -- numbers count modulo 2 or more, and the comparison is an order of trees.
-pub record IsGiven (d : Document) : Type 0 where
+pub record IsGiven (d : Problem) : Type 0 where
   pub sound : IsSound d.presentation
   pub wide : IsWide d.presentation
   pub proper : IsProper d.presentation
@@ -30,7 +30,7 @@ pub record IsGiven (d : Document) : Type 0 where
 
 -- Each relation with terms of arity at most m is an item with each permutation, and each small common multiple of arity at most m of
 -- two elements of lower arity, in one of their two orders.
-pub record HasAll (d : Document) (m : ℕ) (elements : List Element) (run : List (EntryOf d)) : Type 0 where
+pub record HasAll (d : Problem) (m : ℕ) (elements : List Element) (run : List (EntryOf d)) : Type 0 where
   pub relations : (k : ℕ) (r : Relation) → Nth k d.presentation.relations r → is_empty r.terms ≡ false → 2 ≤ r.arity → r.arity ≤ m
       → (w : List ℕ) → IsOrdering r.arity w → HasItem run (relabelling completion k w)
   pub multiples : (n : ℕ) → n ≤ m → (g h : Element) → Mem g elements → Mem h elements → g.arity < n → h.arity < n → (t : Tree ℕ) (first second : List ℕ)
@@ -47,11 +47,11 @@ AreBecoming s n pending [] (h ∷ m) = ⊥
 AreBecoming s n pending (g ∷ l) [] = ⊥
 AreBecoming s n pending (g ∷ l) (h ∷ m) = StandsFor s n pending g h × AreBecoming s n pending l m
 
-module _ (d : Document) (N : ℕ) where
+module _ (d : Problem) (N : ℕ) where
   -- The completion is through arity n, and so many steps were taken: the elements are complete, and the run so far has all items of
   -- the relations and small common multiples.
   pub record IsThrough (n : ℕ) (elements : List Element) (spent : ℕ) : Type 0 where
-    pub complete : IsComplete d.presentation d.compare elements n
+    pub complete : IsCompletedThrough d.presentation d.compare elements n
     pub run : List (EntryOf d)
     pub so_far : IsRunSoFar d N n elements run
     pub all : HasAll d n elements run

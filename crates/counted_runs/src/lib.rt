@@ -1,7 +1,7 @@
 //! Counted runs: what a number of reductions counts, and a number that is enough. Definitions and laws, without code.
 #![tactic(auto)]
 
-ghost use Rattle.counted_runs.specs.Chains.{ChainsAreShort, ChainsEndWithZero, ChainsFinish};
+ghost use Rattle.counted_runs.specs.SpanChains.{ChainsEndWithZero};
 ghost use Rattle.counted_runs.specs.Counters.{CallsCount, CountersJoinRuns};
 ghost use Rattle.counted_runs.specs.CycleTypes.{CycleTypesListed, CycleTypesPermute};
 ghost use Rattle.counted_runs.specs.Entries.{EntriesComeAbout};
@@ -9,17 +9,12 @@ ghost use Rattle.counted_runs.specs.RunLaws.{CallsAreApart, FullRunsGrow, LastLe
 ghost use Rattle.counted_runs.specs.RunsSoFar.{RunsSoFarGrow};
 ghost use Rattle.counted_runs.specs.LoopLaws.{ArityIsDone, LoopBegins, LoopEnds, RowEndsInElement, RowEndsInZero, RowStops, RowsBegin, TailIsReduced, TailStops, TailsBegin};
 
-/// Law: a chain has at most as many steps as there are shuffle trees of its arity, and fewer where it is stopped.
-pub fn chains_are_short()
-    ensures law { ChainsAreShort }
-{}
-
 /// Law: the list of the cycle types of a number has each of them once, and nothing else.
 pub fn cycle_types_are_listed()
     ensures law { CycleTypesListed }
 {}
 
-/// Law: every stopped counted run is shorter than the number of steps that is enough.
+/// Law: every stopped counted run is shorter than the number of steps that is enough, where what is reduced is on labelled trees.
 pub fn stopped_runs_are_short()
     ensures law { StoppedRunsAreShort }
 {}
@@ -62,11 +57,6 @@ pub fn entries_come_about()
 /// Law: a call over the basis counts the steps of its chains.
 pub fn calls_count()
     ensures law { CallsCount }
-{}
-
-/// Law: each sum has a finished chain.
-pub fn chains_finish()
-    ensures law { ChainsFinish }
 {}
 
 /// Law: where S-elements reduce, a finished chain from a sum in the span of the insertions ends with 0.

@@ -17,7 +17,7 @@ use Rattle.shuffle_transfer.specs.Labels.{symmetric_tree}
 use Rattle.shuffle_transfer.specs.Transfer.{shuffled}
 use Rattle.shuffle_transfer.specs.Certified.{setting}
 use Rattle.shuffle_transfer.specs.NormalTrees.{normal_list, IsNormalTree}
-use Rattle.shuffle_completion.specs.Completion.{IsComplete}
+use Rattle.shuffle_completion.specs.Completion.{IsCompletedThrough}
 use Rattle.shuffle_completion.specs.ReducedBases.{IsMinimal, IsNormalFormOf, IsReducedBasis, IsReducedElement}
 use Rattle.shuffle_completion.proofs.Laws.{complete_is_reduced, listing_is_normal, forms_by_chains}
 use Rattle.shuffle_completion.proofs.Passing.{sorted_back}
@@ -46,7 +46,7 @@ ruled_ascending : (l : List Rule) → Pairs (λ r s. order r.0 s.0 ≡ Less) l �
 ruled_ascending [] h = tt
 ruled_ascending (r ∷ l) h = (ruled_before r.0 l h.0, ruled_ascending l h.1)
 
-module _ (o : OrderedPresentation) (ready : IsReady o) (elements : List Element) (N : ℕ) (complete : IsComplete (presentation o) (comparison o) elements N) (n : ℕ) (le : n ≤ N) where
+module _ (o : OrderedPresentation) (ready : IsReady o) (elements : List Element) (N : ℕ) (complete : IsCompletedThrough (presentation o) (comparison o) elements N) (n : ℕ) (le : n ≤ N) where
   field : IsOverField (presentation o)
   field = ready_over_field o ready
 

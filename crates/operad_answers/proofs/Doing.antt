@@ -11,6 +11,7 @@ use Rattle.operad_answers.specs.Texts.{Sum, queries}
 use Rattle.operad_answers.specs.Budgets.{asks_of, question_of, counted, IsPaid}
 use Rattle.operad_answers.specs.Commands.{Command, normal, basis, forms, prove, IsAnsweredBy, IsDone}
 use Rattle.operad_answers.specs.Laws.{ExistenceLaw, BudgetsExist, DoneExists}
+use Rattle.operad_answers.proofs.AskedElements.{asks_elements}
 use Rattle.operad_answers.proofs.Bounds.{nth_map}
 use Rattle.operad_answers.proofs.Existing.{texts_exist}
 use Rattle.operad_answers.proofs.FullRuns.{full_run, is_full, all_asked}
@@ -23,14 +24,14 @@ budgets_exist d formed N =
     let o = written d in
     let field = ready_over_field o (writable_ready d formed) in
     let c = complete_through (presentation o) field (comparison o) (order_in o) N in
-    let run = full_run (counted d) field (order_in o) c.0 N c.1 in (
+    let run = full_run (counted d) field (order_in o) (asks_elements d formed) c.0 N c.1 in (
       run_length run,
       λ command. record {
         basis = c.0;
         is_basis = complete_is_reduced (presentation o) field.sound field.wide field.not_zero (comparison o) (order_in o) c.0 N c.1;
         run = run;
-        full = is_full (counted d) field (order_in o) c.0 N c.1;
-        answered = λ k ask at is two most. all_asked (counted d) field (order_in o) c.0 N c.1 k (question_of d.field ask) (nth_map (question_of d.field) k (asks_of d) ask at) two most;
+        full = is_full (counted d) field (order_in o) (asks_elements d formed) c.0 N c.1;
+        answered = λ k ask at is two most. all_asked (counted d) field (order_in o) (asks_elements d formed) c.0 N c.1 k (question_of d.field ask) (nth_map (question_of d.field) k (asks_of d) ask at) two most;
         few = omega arith;
       },
     )

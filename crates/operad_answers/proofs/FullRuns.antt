@@ -1,10 +1,13 @@
 -- Over complete elements there is a full counted run, in which all questions are items.
-use Rattle.std.proofs.Common.{Bool, true, false, ◌≡◌, ℕ, zero, suc, ◌+◌, ◌<◌, ◌≤◌, List, [], ◌∷◌, map, refl, sym, ◌∙◌, ap, arith, subst, inl, inr, ◌⊎◌}
+use Rattle.std.proofs.Common.{Bool, true, false, ◌≡◌, ℕ, zero, suc, ◌+◌, ◌%◌, ◌<◌, ◌≤◌, List, [], ◌∷◌, map, refl, sym, ◌∙◌, ap, arith, subst, inl, inr, ◌⊎◌}
 use Rattle.std.specs.Prelude.{flat_map}
 use native.Mathlib.Decide.{dec_lt}
 use Rattle.modular_sums.specs.Lists.{Mem, Distinct, Nth}
+use Rattle.modular_sums.specs.Sums.{coef, AllTerms}
 use Rattle.modular_sums.proofs.Lists.{mem_map, mem_of_map, mem_flat, mem_of_flat}
 use Rattle.labelled_trees.specs.Trees.{Tree, IsNode}
+use Rattle.labelled_trees.specs.Equality.{tree_discrete}
+use Rattle.shuffle_insertions.specs.ShuffleTrees.{IsShuffleTree}
 use Rattle.shuffle_insertions.specs.Orders.{IsTreeOrder}
 use Rattle.shuffle_places.specs.AllMultiples.{multiples}
 use Rattle.shuffle_places.specs.Multiples.{IsMultiple}
@@ -12,7 +15,8 @@ use Rattle.shuffle_places.proofs.Laws.{multiples_listed}
 use Rattle.shuffle_bases.specs.Elements.{Element, Setting, AreMonic, s_element}
 use Rattle.shuffle_normal_forms.specs.FreeTrees.{is_empty}
 use Rattle.shuffle_normal_forms.specs.NormalForms.{InSpan}
-use Rattle.shuffle_reductions.proofs.SElements.{all_pairs, multiple_greater}
+use Rattle.shuffle_reductions.proofs.SElements.{s_valid, all_pairs, multiple_greater}
+use Rattle.shuffle_reductions.proofs.Ends.{End, end_of}
 use Rattle.operad_ideals.specs.Presentations.{Relation, Presentation}
 use Rattle.shuffle_transfer.specs.Labels.{labels, inputs_of}
 use Rattle.shuffle_transfer.specs.Orderings.{IsOrdering, orderings}
@@ -20,22 +24,26 @@ use Rattle.shuffle_transfer.specs.Transfer.{relabelled, shuffled}
 use Rattle.shuffle_transfer.specs.Certified.{setting}
 use Rattle.shuffle_transfer.proofs.Labels.{are_labels}
 use Rattle.shuffle_transfer.proofs.Orderings.{all_orderings}
-use Rattle.shuffle_completion.specs.Completion.{IsComplete}
+use Rattle.shuffle_transfer.proofs.Spanning.{all_shuffles}
+use Rattle.shuffle_completion.specs.Completion.{IsCompletedThrough}
 use Rattle.shuffle_completion.proofs.Laws.{complete_is_reduced}
 use Rattle.shuffle_completion.specs.Existence.{IsOverField}
-use Rattle.counted_runs.specs.Items.{Document, Question, Purpose, completion, Item, relabelling, two_places, question}
+use Rattle.counted_runs.specs.Items.{Problem, Question, AsksElements, Purpose, completion, Item, relabelling, two_places, question}
 use Rattle.counted_runs.specs.Rows.{SameSum, AreIdealElements, IsSElement}
 use Rattle.counted_runs.specs.Runs.{EntryOf, IsEntry, HasFinished, AllButLast}
-use Rattle.counted_runs.specs.FullRuns.{InSequence, IsReduced, Holds, HasItem, KeepsLead, HasPair, IsFullRun}
+use Rattle.counted_runs.specs.FullRuns.{InSequence, IsRelationOrPair, HoldsElement, HasItem, KeepsLead, HasPair, IsFullRun}
 use Rattle.counted_runs.specs.Entries.{IsChained}
 use Rattle.counted_runs.proofs.Entries.{entries_come_about}
-use Rattle.counted_runs.proofs.Finishing.{Finish, finish, chains_end}
+use Rattle.counted_runs.proofs.Numbered.{nth_member}
+use Rattle.counted_runs.proofs.RowTrees.{relabelled_trees}
+use Rattle.counted_runs.proofs.SpanChains.{chains_end_with_zero}
 use Rattle.counted_runs.proofs.LastLeads.{last_leads_are_one}
 use Rattle.operad_answers.proofs.ItemEquality.{item_discrete}
+use Rattle.operad_answers.proofs.KeptTrees.{keep, keep_valid, keep_same}
 use Rattle.operad_answers.proofs.NumberedLists.{over, source, found, nth_is_member, down_from, in_down, down_small}
 
-module _ (D : Document) (field : IsOverField D.presentation) (order : IsTreeOrder (inputs_of D.presentation) D.compare) (elements : List Element) (N : ℕ)
-    (complete : IsComplete D.presentation D.compare elements N) where
+module _ (D : Problem) (field : IsOverField D.presentation) (order : IsTreeOrder (inputs_of D.presentation) D.compare) (asks : AsksElements D) (elements : List Element) (N : ℕ)
+    (complete : IsCompletedThrough D.presentation D.compare elements N) where
   abbrev p : Presentation
   p = D.presentation
 
@@ -51,19 +59,28 @@ module _ (D : Document) (field : IsOverField D.presentation) (order : IsTreeOrde
   two_or_more : (g : Element) → Mem g elements → 2 ≤ g.arity
   two_or_more g m = ((complete_is_reduced D.presentation field.sound field.wide field.not_zero D.compare order elements N complete).each g m).0
 
-  finish_row : (n : ℕ) (row : List (ℕ × Tree ℕ)) → Finish (labels D.presentation) (setting D.presentation D.compare elements) (are_labels D.presentation field.wide) order complete.certified.monic n row
-  finish_row n row = finish (labels D.presentation) (setting D.presentation D.compare elements) (are_labels D.presentation field.wide) order complete.certified.monic n row
+  -- of a row the terms on shuffle trees of the arity: all of them, for each row below
+  abbrev kept : ℕ → List (ℕ × Tree ℕ) → List (ℕ × Tree ℕ)
+  kept n row = keep D.presentation field.wide n row
+
+  finish_row : (n : ℕ) (row : List (ℕ × Tree ℕ)) → End (labels D.presentation) (setting D.presentation D.compare elements) (are_labels D.presentation field.wide) order complete.certified.monic n (kept n row)
+  finish_row n row = end_of (labels D.presentation) (setting D.presentation D.compare elements) (are_labels D.presentation field.wide) order complete.certified.monic n (kept n row)
+      (keep_valid D.presentation field.wide n row)
+
+  abbrev same_row : (n : ℕ) (row : List (ℕ × Tree ℕ)) → AllTerms row (IsShuffleTree (inputs_of D.presentation) n) → SameSum D.presentation (kept n row) row
+  same_row n row h t = ap (λ e. coef tree_discrete e t % suc D.presentation.q) (keep_same D.presentation field.wide n row h)
 
   -- the entry of an item, over all elements
   abbrev entry_of : ℕ → Item → List (ℕ × Tree ℕ) → EntryOf D
-  entry_of n i row = record { arity = n; item = i; elements = elements; row = row; steps = (finish_row n row).steps; last = (finish_row n row).last }
+  entry_of n i row = record { arity = n; item = i; elements = elements; row = kept n row; steps = (finish_row n row).uses; last = (finish_row n row).last }
 
   chained : (n : ℕ) (i : Item) (row : List (ℕ × Tree ℕ)) → 2 ≤ n → n ≤ N → IsChained D N n (entry_of n i row)
   chained n i row two most = record { from_two = two; to_most = most; arity_is = refl; ideal_elements = ideal_elements; chain = (finish_row n row).chain }
 
-  last_zero : (n : ℕ) (row : List (ℕ × Tree ℕ)) → n ≤ N → InSpan (setting D.presentation D.compare elements) n row → SameSum D.presentation (finish_row n row).last []
-  last_zero n row le span = chains_end (labels D.presentation) (setting D.presentation D.compare elements) (are_labels D.presentation field.wide) order complete.certified.monic N n
-      complete.certified.s_elements le row (finish_row n row).steps (finish_row n row).last (finish_row n row).chain (finish_row n row).finished span
+  last_zero : (n : ℕ) (row : List (ℕ × Tree ℕ)) → n ≤ N → AllTerms row (IsShuffleTree (inputs_of D.presentation) n) → InSpan (setting D.presentation D.compare elements) n row → SameSum D.presentation (finish_row n row).last []
+  last_zero n row le valid span = chains_end_with_zero (labels D.presentation) (setting D.presentation D.compare elements) (are_labels D.presentation field.wide) order complete.certified.monic N n
+      complete.certified.s_elements le (kept n row) (finish_row n row).uses (finish_row n row).last (finish_row n row).chain (finish_row n row).finished
+      (subst (InSpan (setting D.presentation D.compare elements) n) (sym (keep_same D.presentation field.wide n row valid)) span)
 
   record IsPairOf (x : EntryOf D) (t : Tree ℕ) (first second : List ℕ) : Type 0 where
     one : Element
@@ -77,36 +94,42 @@ module _ (D : Document) (field : IsOverField D.presentation) (order : IsTreeOrde
     entry : IsEntry D N x
     finished : HasFinished x
     over_all : x.elements ≡ elements
-    zero : IsReduced x.item → SameSum D.presentation x.last []
+    zero : IsRelationOrPair x.item → SameSum D.presentation x.last []
     pair : (z : Purpose) (t : Tree ℕ) (first second : List ℕ) → x.item ≡ two_places z t first second → IsPairOf x t first second
 
   good_relation : (k : ℕ) (r : Relation) → Nth k D.presentation.relations r → is_empty r.terms ≡ false → 2 ≤ r.arity → r.arity ≤ N → (w : List ℕ) → Mem w (orderings r.arity)
       → Good (entry_of r.arity (relabelling completion k w) (shuffled D.presentation (relabelled w r.terms)))
   good_relation k r at some two most w o = record {
     entry = (entries_come_about D N r.arity (entry_of r.arity (relabelling completion k w) row) (chained r.arity (relabelling completion k w) row two most)).relation completion k r w refl at refl some
-        (((all_orderings r.arity).2 w).0 o) (λ t. refl);
+        (((all_orderings r.arity).2 w).0 o) (same_row r.arity row valid);
     finished = (finish_row r.arity row).finished;
     over_all = refl;
-    zero = λ h. last_zero r.arity row most (complete.certified.relations r (nth_is_member k D.presentation.relations r at) most w o);
+    zero = λ h. last_zero r.arity row most valid (complete.certified.relations r (nth_is_member k D.presentation.relations r at) most w o);
     pair = λ z t first second e. absurd (cc e);
   }
     where
       row : List (ℕ × Tree ℕ)
       row = shuffled D.presentation (relabelled w r.terms)
 
+      valid : AllTerms (shuffled D.presentation (relabelled w r.terms)) (IsShuffleTree (inputs_of D.presentation) r.arity)
+      valid = relabelled_trees D r.arity r.terms (field.sound r (nth_member k D.presentation.relations r at)) w (((all_orderings r.arity).2 w).0 o)
+
   good_pair : (m : ℕ) → m ≤ N → (g h : Element) → Mem g elements → Mem h elements → (t : Tree ℕ) (first second : List ℕ) → IsMultiple m g.lead h.lead t first second
       → Good (entry_of m (two_places completion t first second) (s_element D.presentation.q g h t first second))
   good_pair m most g h mg mh t first second i = record {
     entry = (entries_come_about D N m (entry_of m (two_places completion t first second) row) (chained m (two_places completion t first second) row two most)).pair elements ideal_elements g h mg mh
-        completion t first second i refl (λ u. refl);
+        completion t first second i refl (same_row m row valid);
     finished = (finish_row m row).finished;
     over_all = refl;
-    zero = λ q. last_zero m row most span;
+    zero = λ q. last_zero m row most valid span;
     pair = λ z u a b e. same_pair z u a b e;
   }
     where
       row : List (ℕ × Tree ℕ)
       row = s_element D.presentation.q g h t first second
+
+      valid : AllTerms (s_element D.presentation.q g h t first second) (IsShuffleTree (inputs_of D.presentation) m)
+      valid = s_valid (setting D.presentation D.compare elements) order complete.certified.monic m g h mg mh t first second i
 
       two : 2 ≤ m
       two =
@@ -126,11 +149,12 @@ module _ (D : Document) (field : IsOverField D.presentation) (order : IsTreeOrde
           subst (λ v. IsPairOf (entry_of m (two_places completion t first second) (s_element D.presentation.q g h t first second)) v a b) tree
           (subst (λ v. IsPairOf (entry_of m (two_places completion t first second) (s_element D.presentation.q g h t first second)) t v b) one
           (subst (λ v. IsPairOf (entry_of m (two_places completion t first second) (s_element D.presentation.q g h t first second)) t first v) two_is
-          record { one = g; other = h; one_there = mg; other_there = mh; row_is = record { first_at = i.overlap.first_at; second_at = i.overlap.second_at; row_is = λ v. refl } }))
+          record { one = g; other = h; one_there = mg; other_there = mh; row_is = record { first_at = i.overlap.first_at; second_at = i.overlap.second_at; row_is = same_row m row valid } }))
 
   good_question : (k : ℕ) (q : Question) → Nth k D.questions q → 2 ≤ q.arity → q.arity ≤ N → Good (entry_of q.arity (question k) (shuffled D.presentation q.terms))
   good_question k q at two most = record {
-    entry = (entries_come_about D N q.arity (entry_of q.arity (question k) (shuffled D.presentation q.terms)) (chained q.arity (question k) (shuffled D.presentation q.terms) two most)).asked k q refl at refl (λ t. refl);
+    entry = (entries_come_about D N q.arity (entry_of q.arity (question k) (shuffled D.presentation q.terms)) (chained q.arity (question k) (shuffled D.presentation q.terms) two most)).asked k q refl at refl
+        (same_row q.arity (shuffled D.presentation q.terms) (all_shuffles D.presentation q.arity q.terms (asks q (nth_member k D.questions q at))));
     finished = (finish_row q.arity (shuffled D.presentation q.terms)).finished;
     over_all = refl;
     zero = λ h. absurd h;
@@ -326,8 +350,8 @@ module _ (D : Document) (field : IsOverField D.presentation) (order : IsTreeOrde
   in_sequence (x ∷ l) g =
       ((λ y m a b e t lead. absurd ((last_leads_are_one D.presentation D.compare order x).1 ((g x (inl refl)).zero a) t lead)), in_sequence l (λ z m. g z (inr m)))
 
-  held : (x : EntryOf D) → Mem x whole.next.run → (g : Element) → Mem g elements → Holds D.presentation x.elements g
-  held x m g mg = subst (λ l. Holds D.presentation l g) (sym (each_good x m).over_all) record { by = g; member = mg; arity_is = refl; lead_is = refl; tail_is = λ t. refl }
+  held : (x : EntryOf D) → Mem x whole.next.run → (g : Element) → Mem g elements → HoldsElement D.presentation x.elements g
+  held x m g mg = subst (λ l. HoldsElement D.presentation l g) (sym (each_good x m).over_all) record { by = g; member = mg; arity_is = refl; lead_is = refl; tail_is = λ t. refl }
 
   relation_item : (k : ℕ) (r : Relation) → Nth k D.presentation.relations r → is_empty r.terms ≡ false → 2 ≤ r.arity → r.arity ≤ N → (w : List ℕ) → IsOrdering r.arity w → HasItem whole.next.run (relabelling completion k w)
   relation_item zero r at some two most w o = absurd (none_at_zero D.presentation.relations r at)

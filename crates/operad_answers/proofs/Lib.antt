@@ -1,3 +1,4 @@
+pub mod AskedElements
 pub mod Bounds
 pub mod Bridges
 pub mod CertificateLaws
@@ -15,6 +16,7 @@ pub mod Headlines
 pub mod ItemEquality
 pub mod Joined
 pub mod JoinedTexts
+pub mod KeptTrees
 pub mod LieCertificate
 pub mod LieDocument
 pub mod LieDone

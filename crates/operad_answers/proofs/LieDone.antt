@@ -12,7 +12,7 @@ use Rattle.modular_sums.specs.Lists.{Mem, Nth}
 use Rattle.shuffle_transfer.specs.Transfer.{shuffled}
 use Rattle.shuffle_transfer.specs.NormalTrees.{by_path}
 use Rattle.shuffle_transfer.proofs.Jacobi.{jacobi_relation, lie}
-use Rattle.shuffle_completion.specs.Completion.{IsComplete}
+use Rattle.shuffle_completion.specs.Completion.{IsCompletedThrough}
 use Rattle.shuffle_completion.proofs.Lie.{through_four}
 use Rattle.counted_runs.specs.Items as items
 use Rattle.counted_runs.specs.Items.{Item, question}
@@ -99,10 +99,10 @@ is_read = record {
 abbrev made : Sum → OrderedPresentation
 made e = record { field = 101; generators = generators; relations = record { arity = element_arity e; terms = e } ∷ []; order = by_path }
 
-abbrev counts : Sum → Sum → items.Document
+abbrev counts : Sum → Sum → items.Problem
 counts e f = record { presentation = presentation (made e); compare = comparison (made e); questions = record { arity = element_arity f; terms = f } ∷ []; traces = false }
 
-abbrev asked : items.Document
+abbrev asked : items.Problem
 asked = counts jacobi_relation.terms ((1, t1) ∷ [])
 
 counted_is : counted document ≡ asked
@@ -115,7 +115,7 @@ abbrev whole_run : List BracketEntry
 whole_run = the_run ++ (the_pair ∷ [])
 
 abbrev steps : ℕ
-steps = run_length whole_run + length the_chain.steps
+steps = run_length whole_run + length the_chain.uses
 
 -- the run of the completion, and the question reduced over the basis behind it
 completed : HasCountedFull asked 4 one (completing ∷ []) (run_length whole_run)
@@ -128,7 +128,7 @@ completed = ((counters_join_runs asked 4).completed one (run_length whole_run) r
 }).0
 
 abbrev answer : BracketEntry
-answer = record { arity = 3; item = question 1; elements = one; row = shuffled lie ((1, t1) ∷ []); steps = the_chain.steps; last = the_chain.last }
+answer = record { arity = 3; item = question 1; elements = one; row = shuffled lie ((1, t1) ∷ []); steps = the_chain.uses; last = the_chain.last }
 
 answer_entry : IsEntry asked 4 answer
 answer_entry = (entries_come_about asked 4 3 answer record { from_two = omega arith; to_most = omega arith; arity_is = refl; ideal_elements = lie_elements; chain = the_chain.chain }).asked
@@ -140,7 +140,7 @@ answered =
     let k = law.entry (run_length whole_run) law.nothing.0 answer answer_entry the_chain.finished refl refl (law.nothing.1 (question 1)) in
     (k.0, (k.1 (question 1)).1 (inr refl))
 
-abbrev Answered : items.Document → Type 0
+abbrev Answered : items.Problem → Type 0
 Answered x = (all : HasCountedFull x 4 one calls steps) × HasItem all.run (question 1)
 
 answered_run : Answered asked
@@ -161,8 +161,8 @@ answered_run =
 answered_here : Answered (counted document)
 answered_here = subst Answered (sym counted_is) answered_run
 
-complete_here : IsComplete (presentation (written document)) (comparison (written document)) one 4
-complete_here = subst (λ e. IsComplete (presentation (made e)) (comparison (made e)) one 4) (sym terms_are) through_four
+complete_here : IsCompletedThrough (presentation (written document)) (comparison (written document)) one 4
+complete_here = subst (λ e. IsCompletedThrough (presentation (made e)) (comparison (made e)) one 4) (sym terms_are) through_four
 
 only_one : (k : ℕ) (ask : Asked) → Nth k (asks_of document) ask → HasItem answered_here.0.run (question k)
 only_one zero ask h = absurd h

@@ -30,7 +30,7 @@ abbrev pub question_of : ℕ → Asked → Question
 question_of p ask = record { arity = element_arity (asked_element p ask); terms = asked_element p ask }
 
 -- The document of which counted runs speak: the presentation, the comparison and the questions of the text; nothing is traced.
-abbrev pub counted : Document → items.Document
+abbrev pub counted : Document → items.Problem
 counted d = record {
   presentation = presentation (written d);
   compare = comparison (written d);

@@ -17,7 +17,7 @@ use Rattle.shuffle_transfer.specs.Labels.{inputs_of, symmetric_tree}
 use Rattle.shuffle_transfer.specs.Transfer.{shuffled}
 use Rattle.shuffle_transfer.specs.Certified.{setting}
 use Rattle.shuffle_transfer.specs.NormalTrees.{normal_list, IsNormalTree}
-use Rattle.shuffle_completion.specs.Completion.{IsComplete}
+use Rattle.shuffle_completion.specs.Completion.{IsCompletedThrough}
 use Rattle.shuffle_completion.specs.ReducedBases.{IsMinimal}
 use Rattle.shuffle_completion.specs.Existence.{IsOverField}
 use Rattle.counted_runs.specs.Enough.{enough}
@@ -187,7 +187,7 @@ pub record ListingLaw (o : OrderedPresentation) (elements : List Element) (n : �
       → (h : Sum) → IsReduced o.field (parts_at o.generators) h → sums.Same tree_discrete (presentation o).q h (moved (symmetric_tree (presentation o)) f) → IsForm o n e h
 
 abbrev pub CompleteElementsAnswer : Type 0
-CompleteElementsAnswer = (o : OrderedPresentation) → IsReady o → (elements : List Element) (N : ℕ) → IsComplete (presentation o) (comparison o) elements N
+CompleteElementsAnswer = (o : OrderedPresentation) → IsReady o → (elements : List Element) (N : ℕ) → IsCompletedThrough (presentation o) (comparison o) elements N
     → (n : ℕ) → n ≤ N → ListingLaw o elements n
 
 -- ---- texts grow
@@ -226,7 +226,7 @@ EnoughIsNotSpent = (d : Document) → IsWritable d → (N B : ℕ) → IsSpent d
 -- What calls have counted, where it is the length of a full run over complete elements and the questions that the command answers are
 -- among its items, is paid by each bound that it doesn't exceed.
 abbrev pub CountedRunsPay : Type 0
-CountedRunsPay = (d : Document) → IsWritable d → (N B : ℕ) (elements : List Element) → IsComplete (presentation (written d)) (comparison (written d)) elements N
+CountedRunsPay = (d : Document) → IsWritable d → (N B : ℕ) (elements : List Element) → IsCompletedThrough (presentation (written d)) (comparison (written d)) elements N
     → (calls : List Call) (count : ℕ) (full : HasCountedFull (counted d) N elements calls count) → count ≤ B → (command : Command)
     → ((k : ℕ) (ask : Asked) → Nth k (asks_of d) ask → IsAnsweredBy command ask → Nth k (counted d).questions (question_of d.field ask)
     → 2 ≤ (question_of d.field ask).arity → (question_of d.field ask).arity ≤ N → HasItem full.run (question k))

@@ -18,7 +18,7 @@ use Rattle.shuffle_transfer.specs.Certified.{setting}
 use Rattle.shuffle_transfer.specs.NormalTrees.{normal_list, IsNormalTree, IsIndependent, IsSpanning}
 use Rattle.shuffle_transfer.proofs.Labels.{are_labels}
 use Rattle.shuffle_transfer.proofs.Spanning.{all_shuffles}
-use Rattle.shuffle_completion.specs.Completion.{IsComplete, IsTailReduced, AreTailsReduced}
+use Rattle.shuffle_completion.specs.Completion.{IsCompletedThrough, IsTailReduced, AreTailsReduced}
 use Rattle.shuffle_completion.specs.ReducedBases.{IsNormalFormOf, IsReducedBasis}
 use Rattle.shuffle_completion.proofs.Laws.{starts, arity_begins, arity_ends, complete_is_reduced, listing_is_normal, forms_by_chains}
 use Rattle.shuffle_completion.proofs.Passing.{normal_zero}
@@ -67,7 +67,7 @@ module _ (p : Presentation) (good : IsOverField p) (compare : Tree ℕ → Tree 
 
   -- ---- one more arity
 
-  next_arity : (elements : List Element) (N : ℕ) → 1 ≤ N → IsComplete p compare elements N → (more : List Element) × IsComplete p compare more (suc N)
+  next_arity : (elements : List Element) (N : ℕ) → 1 ≤ N → IsCompletedThrough p compare elements N → (more : List Element) × IsCompletedThrough p compare more (suc N)
   next_arity elements N one c =
       let monic = c.certified.monic in
       let start : Progress p good compare order elements N one [] = record { now = elements; underway = arity_begins p compare elements N c; kept = λ g m. m; old = λ g m lt. m } in
@@ -76,11 +76,11 @@ module _ (p : Presentation) (good : IsOverField p) (compare : Tree ℕ → Tree 
       let r = all_reduced d.progress.now (suc N) u.certified.monic d.progress.now (λ g m. (m, u.reached g m)) in
       (r.0, arity_ends p good.sound good.wide compare order d.progress.now N d.tasks u (are_all p good compare order elements N one monic [] d) r.0 r.1)
 
-  through : (N : ℕ) → (elements : List Element) × IsComplete p compare elements (suc N)
+  through : (N : ℕ) → (elements : List Element) × IsCompletedThrough p compare elements (suc N)
   through zero = ([], starts p good.proper compare)
   through (suc N) = let c = through N in next_arity c.0 (suc N) (omega arith) c.1
 
-  pub complete_through : (N : ℕ) → (elements : List Element) × IsComplete p compare elements N
+  pub complete_through : (N : ℕ) → (elements : List Element) × IsCompletedThrough p compare elements N
   complete_through zero =
       let c = (through zero).1 in (
         [],
