@@ -1,8 +1,6 @@
 pub mod Arities
 pub mod Becoming
 pub mod Counters
-pub mod CyclePermutations
-pub mod CycleTypes
 pub mod Entries
 pub mod JobEntries
 pub mod JobLists

@@ -18,10 +18,10 @@ use Rattle.shuffle_transfer.specs.Orderings.{orderings}
 use Rattle.shuffle_transfer.specs.Labels.{labels}
 use Rattle.shuffle_transfer.proofs.Labels.{are_labels}
 use Rattle.shuffle_transfer.proofs.Orderings.{all_orderings}
-use Rattle.counted_runs.specs.CycleTypes.{cycle_types}
+use Rattle.action_characters.specs.CycleTypes.{cycle_types}
 use Rattle.counted_runs.specs.Items.{Question, Problem, arity_in, Purpose, completion, certificate, Item, relabelling, two_places, tail_of, question, traced, IsItem}
 use Rattle.counted_runs.specs.Enough.{counts_relation, counts_question, tree_number, relation_number, question_number}
-use Rattle.counted_runs.proofs.CycleTypes.{mem_cycle_types}
+use Rattle.action_characters.proofs.CycleTypes.{cycle_types_listed}
 use Rattle.counted_runs.proofs.VertexSets.{few_vertices, rising_lists, length_rising, connected_rising}
 use Rattle.counted_runs.proofs.Permutations.{length_each, length_orderings}
 
@@ -229,4 +229,4 @@ module _ (d : Problem) (n k : ℕ) where
 
     pub in_fifth : (c : List ℕ) (t : Tree ℕ) → IsItem d n (traced c t) → Mem (traced c t) fifth_kind
     unfolding fifth_kind traced_by
-    in_fifth c t h = mem_flat traced_by c (traced c t) (cycle_types n) (mem_cycle_types n c h.1) (mem_map (λ t. traced c t) t trees_of (listed_tree t h.2))
+    in_fifth c t h = mem_flat traced_by c (traced c t) (cycle_types n) (((cycle_types_listed n).2 c).1 h.1) (mem_map (λ t. traced c t) t trees_of (listed_tree t h.2))

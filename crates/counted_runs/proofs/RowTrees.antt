@@ -23,10 +23,10 @@ use Rattle.shuffle_transfer.specs.Certified.{setting}
 use Rattle.shuffle_transfer.proofs.Forth.{back_labelled}
 use Rattle.shuffle_transfer.proofs.Spanning.{all_shuffles}
 use Rattle.shuffle_transfer.proofs.TransferLaw.{labelled-relabelled}
-use Rattle.counted_runs.specs.CycleTypes.{IsCycleType, permutation_of}
+use Rattle.action_characters.specs.CycleTypes.{IsCycleType, type_permutation}
 use Rattle.counted_runs.specs.Items.{Question, Problem, arity_in, AsksElements, Item, relabelling, two_places, tail_of, question, traced, IsItem}
 use Rattle.counted_runs.specs.Rows.{SameSum, IsIdealElement, IsRow}
-use Rattle.counted_runs.proofs.CyclePermutations.{cycle_types_permute}
+use Rattle.action_characters.proofs.TypePermutations.{types_are_permutations}
 use Rattle.counted_runs.proofs.Numbered.{one_nth, nth_member}
 
 abbrev Sum : Type 0
@@ -43,8 +43,8 @@ module _ (d : Problem) where
 
   -- a tree relabelled by the permutation of a cycle type
   pub traced_trees : (n : ℕ) (c : List ℕ) (t : Tree ℕ) → IsCycleType n c → IsShuffleTree (arity_in d) n t
-      → OnTrees n (shuffled d.presentation (relabelled (permutation_of c) ((1, symmetric_tree d.presentation t) ∷ [])))
-  traced_trees n c t h v = relabelled_trees n ((1, symmetric_tree d.presentation t) ∷ []) (back_labelled d.presentation n t v, tt) (permutation_of c) (cycle_types_permute n c h)
+      → OnTrees n (shuffled d.presentation (relabelled (type_permutation c) ((1, symmetric_tree d.presentation t) ∷ [])))
+  traced_trees n c t h v = relabelled_trees n ((1, symmetric_tree d.presentation t) ∷ []) (back_labelled d.presentation n t v, tt) (type_permutation c) (types_are_permutations n c h).0
 
   module _ (order : IsTreeOrder (arity_in d) d.compare) where
     -- a monic element inserted in a shuffle tree
@@ -99,4 +99,4 @@ module _ (d : Problem) where
           by_same n row (shuffled d.presentation r.0.terms) r.2
           (all_shuffles d.presentation n r.0.terms (subst (λ m. AllTerms r.0.terms (IsLabelled (arity_of d.presentation) m)) (sym (ap (λ (x : Question). x.arity) e) ∙ i.2) (asks r.0 (nth_member k d.questions r.0 r.1))))
       row_trees n (traced c t) row i r =
-          by_same n row (shuffled d.presentation (relabelled (permutation_of c) ((1, symmetric_tree d.presentation t) ∷ []))) r (traced_trees n c t i.1 i.2)
+          by_same n row (shuffled d.presentation (relabelled (type_permutation c) ((1, symmetric_tree d.presentation t) ∷ []))) r (traced_trees n c t i.1 i.2)

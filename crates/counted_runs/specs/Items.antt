@@ -12,7 +12,7 @@ use Rattle.shuffle_normal_forms.specs.FreeTrees.{is_empty}
 use Rattle.operad_ideals.specs.Presentations.{Relation, Presentation, arity_of}
 use Rattle.shuffle_transfer.specs.Orderings.{IsOrdering}
 use Rattle.shuffle_transfer.specs.Labels.{inputs_of}
-use Rattle.counted_runs.specs.CycleTypes.{IsCycleType}
+use Rattle.action_characters.specs.CycleTypes.{IsCycleType}
 
 -- What is asked: an element of an arity, that of a query line, or the left side less the right one of a same line.
 pub record Question : Type 0 where

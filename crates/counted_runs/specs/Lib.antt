@@ -1,6 +1,5 @@
 pub mod Calls
 pub mod Counters
-pub mod CycleTypes
 pub mod Enough
 pub mod Entries
 pub mod FullRuns

@@ -11,7 +11,7 @@ use Rattle.operad_ideals.specs.Presentations.{Relation, Presentation}
 use Rattle.shuffle_transfer.specs.Labels.{symmetric_tree}
 use Rattle.shuffle_transfer.specs.Transfer.{relabelled, shuffled, IsSumOfInsertions}
 use Rattle.shuffle_transfer.specs.Certified.{setting}
-use Rattle.counted_runs.specs.CycleTypes.{permutation_of}
+use Rattle.action_characters.specs.CycleTypes.{type_permutation}
 use Rattle.counted_runs.specs.Items.{Question, Problem, Item, relabelling, two_places, tail_of, question, traced}
 
 -- two sums are the same
@@ -43,4 +43,4 @@ IsRow d (two_places z t first second) row =
     (g : Element) × (h : Element) × IsIdealElement d.presentation d.compare g × IsIdealElement d.presentation d.compare h × IsSElement d.presentation t first second g h row
 IsRow d (tail_of t) row = (g : Element) × IsIdealElement d.presentation d.compare g × (g.lead ≡ t) × SameSum d.presentation row g.tail
 IsRow d (question k) row = (e : Question) × Nth k d.questions e × SameSum d.presentation row (shuffled d.presentation e.terms)
-IsRow d (traced c t) row = SameSum d.presentation row (shuffled d.presentation (relabelled (permutation_of c) ((1, symmetric_tree d.presentation t) ∷ [])))
+IsRow d (traced c t) row = SameSum d.presentation row (shuffled d.presentation (relabelled (type_permutation c) ((1, symmetric_tree d.presentation t) ∷ [])))

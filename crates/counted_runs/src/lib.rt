@@ -3,16 +3,10 @@
 
 ghost use Rattle.counted_runs.specs.SpanChains.{ChainsEndWithZero};
 ghost use Rattle.counted_runs.specs.Counters.{CallsCount, CountersJoinRuns};
-ghost use Rattle.counted_runs.specs.CycleTypes.{CycleTypesListed, CycleTypesPermute};
 ghost use Rattle.counted_runs.specs.Entries.{EntriesComeAbout};
 ghost use Rattle.counted_runs.specs.RunLaws.{CallsAreApart, FullRunsGrow, LastLeadsAreOne, QuestionsDontMatter, RunsJoin, StoppedRunsAreShort};
 ghost use Rattle.counted_runs.specs.RunsSoFar.{RunsSoFarGrow};
 ghost use Rattle.counted_runs.specs.LoopLaws.{ArityIsDone, LoopBegins, LoopEnds, RowEndsInElement, RowEndsInZero, RowStops, RowsBegin, TailIsReduced, TailStops, TailsBegin};
-
-/// Law: the list of the cycle types of a number has each of them once, and nothing else.
-pub fn cycle_types_are_listed()
-    ensures law { CycleTypesListed }
-{}
 
 /// Law: every stopped counted run is shorter than the number of steps that is enough, where what is reduced is on labelled trees.
 pub fn stopped_runs_are_short()
@@ -62,11 +56,6 @@ pub fn calls_count()
 /// Law: where S-elements reduce, a finished chain from a sum in the span of the insertions ends with 0.
 pub fn chains_end_with_zero()
     ensures law { ChainsEndWithZero }
-{}
-
-/// Law: the permutation of a cycle type of n is one of 1 to n.
-pub fn cycle_types_permute()
-    ensures law { CycleTypesPermute }
 {}
 
 /// Law: a last row has one leading tree or none, and none where it is 0.
