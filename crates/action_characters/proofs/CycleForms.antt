@@ -14,7 +14,7 @@ use Rattle.shuffle_insertions.proofs.Upto.{in_upto, upto_mem, upto_rises}
 use Rattle.shuffle_transfer.specs.Orderings.{IsOrdering, entry}
 use Rattle.shuffle_transfer.proofs.Permutes.{mem_rest, pick_out, length_rest}
 use Rattle.shuffle_transfer.proofs.Orderings.{entry_mem, mem_entry, entry-listed, entry_within, one_distinct}
-use Rattle.action_characters.specs.CycleTypes.{Falls, cycle, cycles, EachHasType}
+use Rattle.action_characters.specs.CycleTypes.{IsWeaklyDecreasing, cycle, cycles, EachHasType}
 use Rattle.action_characters.proofs.Entries.{entry_one, entry-append_left, entry-append_right, entry-append_behind}
 use Rattle.action_characters.proofs.CycleTypes.{sum-cons}
 use Rattle.action_characters.proofs.TypePermutations.{length-cycle, cycle_next, cycle_last}
@@ -142,12 +142,12 @@ length_mem m x [] e i = absurd i
 length_mem m x (z ∷ zs) e (inl f) = inl (e ∙ ap length f)
 length_mem m x (z ∷ zs) e (inr i) = inr (length_mem m x zs e i)
 
-inserted_falls : (z : List ℕ) (zs : List (List ℕ)) → Falls (lengths zs) → Falls (lengths (insert z zs))
+inserted_falls : (z : List ℕ) (zs : List (List ℕ)) → IsWeaklyDecreasing (lengths zs) → IsWeaklyDecreasing (lengths (insert z zs))
 unfolding insert lengths
 inserted_falls z [] h = (λ m i. absurd i, tt)
 inserted_falls z (y ∷ zs) h = go (dec_lt (length z) (length y)) (inserted_falls z zs h.1)
   where
-    go : (d : Dec (length z < length y)) → Falls (lengths (insert z zs)) → Falls (lengths (ordered d z y zs (insert z zs)))
+    go : (d : Dec (length z < length y)) → IsWeaklyDecreasing (lengths (insert z zs)) → IsWeaklyDecreasing (lengths (ordered d z y zs (insert z zs)))
     go (yes lt) ih = (λ m i. let k = mem_lengths (insert z zs) m i in low m k.0 k.2 (insert_mem z zs k.0 k.1), ih)
       where
         low : (m : ℕ) (x : List ℕ) → m ≡ length x → (x ≡ z) ⊎ Mem x zs → m ≤ length y
@@ -165,7 +165,7 @@ module _ (n : ℕ) (w : List ℕ) (o : IsOrdering n w) where
     each : (z : List ℕ) → Mem z zs → IsCycleOf (entry w) z
     distinct : Distinct (joined zs)
     within : (u : ℕ) → Mem u (joined zs) → (0 < u) × (u ≤ n)
-    falls : Falls (lengths zs)
+    falls : IsWeaklyDecreasing (lengths zs)
 
   -- ---- what goes to a number of a cycle is one
 

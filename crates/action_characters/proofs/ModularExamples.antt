@@ -9,7 +9,7 @@ use Rattle.modular_sums.proofs.Sameness.{same_if_agree}
 use Rattle.modular_sums.proofs.Coefficients.{coef_absent, coef_nothing}
 use Rattle.modular_sums.proofs.Images.{AllTerms-imp}
 use Rattle.modular_sums.proofs.Replacements.{sum_over}
-use Rattle.action_characters.specs.ModularTraces.{KeepsSpans, AreIndependent, IsForm, IsSpannedBy, IsTrace}
+use Rattle.action_characters.specs.ModularTraces.{KeepsSpans, AreIndependent, IsFormOn, IsSpannedBy, IsLinearTrace}
 use Rattle.action_characters.proofs.Choices.{mem_discrete}
 use Rattle.action_characters.proofs.Congruences.{coef-expand_sum, congruent_refl}
 use Rattle.action_characters.proofs.ModularTraces.{bases_agree, one}
@@ -31,7 +31,7 @@ abbrev high : List ℕ
 high = 1 ∷ (2 ∷ [])
 
 abbrev Form : List ℕ → List (ℕ × ℕ) → List (ℕ × ℕ) → Type 0
-Form = IsForm ℕ_discrete value 100
+Form = IsFormOn ℕ_discrete value 100
 
 -- c times 0 + 1 + 2
 in_span : (c : ℕ) (e : List (ℕ × ℕ)) → Same ℕ_discrete 100 e (expand value ((c, tt) ∷ [])) → Member ℕ_discrete value 100 e
@@ -139,7 +139,7 @@ forms_low : ℕ → List (ℕ × ℕ)
 forms_low zero = one 1
 forms_low (suc t) = (100, 0) ∷ ((100, 1) ∷ [])
 
-trace_low : IsTrace ℕ_discrete value 100 next low 100
+trace_low : IsLinearTrace ℕ_discrete value 100 next low 100
 unfolding forms_low ℕ_discrete coef
 trace_low = record { forms = forms_low; each = each; adds_up = refl }
   where
@@ -149,5 +149,5 @@ trace_low = record { forms = forms_low; each = each; adds_up = refl }
     each t (inr (inr m)) = absurd m
 
 -- so on the other list there is no other trace
-pub trace_high : (r : ℕ) → IsTrace ℕ_discrete value 100 next high r → 100 ≡ r
+pub trace_high : (r : ℕ) → IsLinearTrace ℕ_discrete value 100 next high r → 100 ≡ r
 trace_high r h = bases_agree ℕ (Unit {0}) ℕ_discrete value 100 next keeps low high low_free high_free low_by_high high_by_low 100 r trace_low h

@@ -9,7 +9,7 @@ use Rattle.modular_sums.specs.Sums.{coef, scale, Same, expand, Member}
 use Rattle.modular_sums.proofs.Sums.{AllTerms-append, AllTerms-scale}
 use Rattle.modular_sums.proofs.Differences.{same_of_zero}
 use Rattle.modular_sums.proofs.Links.{member_one}
-use Rattle.action_characters.specs.ModularTraces.{KeepsSpans, AreIndependent, IsForm, IsTrace}
+use Rattle.action_characters.specs.ModularTraces.{KeepsSpans, AreIndependent, IsFormOn, IsLinearTrace}
 use Rattle.action_characters.specs.ModularLaws.{FormsOnIndependentLists, LinearTracesExist, TracesCommute, BasesAgree}
 use Rattle.action_characters.proofs.Totals.{total, sum_by-total, total_ext, total_alike, total_swap, sum_over-total}
 use Rattle.action_characters.proofs.Choices.{chosen}
@@ -22,15 +22,15 @@ forms_are_unique M I dec value q l free e f g a b =
 
 pub traces_exist : (M I : Type 0) → LinearTracesExist M I
 traces_exist M I dec value q image l h =
-    let c = chosen dec l [] (λ t f. IsForm dec value q l (image t) f) h in
+    let c = chosen dec l [] (λ t f. IsFormOn dec value q l (image t) f) h in
     (sum_by (λ t. coef dec (c.0 t) t) l % suc q, record { forms = c.0; each = c.1; adds_up = refl })
 
 -- a form of a sum that is the same
-pub form_same : {M I : Type 0} (dec : Discrete M) (value : I → List (ℕ × M)) (q : ℕ) (l : List M) (d e f : List (ℕ × M)) → Same dec q d e → IsForm dec value q l e f → IsForm dec value q l d f
+pub form_same : {M I : Type 0} (dec : Discrete M) (value : I → List (ℕ × M)) (q : ℕ) (l : List M) (d e f : List (ℕ × M)) → Same dec q d e → IsFormOn dec value q l e f → IsFormOn dec value q l d f
 form_same dec value q l d e f s h = record { on_list = h.on_list; rest = congruent_same dec value q d e f f s (λ t. refl) h.rest }
 
 pub trace_same : {M I : Type 0} (dec : Discrete M) (value : I → List (ℕ × M)) (q : ℕ) (first second : M → List (ℕ × M)) (l : List M) (r : ℕ)
-    → ((t : M) → Mem t l → Same dec q (first t) (second t)) → IsTrace dec value q second l r → IsTrace dec value q first l r
+    → ((t : M) → Mem t l → Same dec q (first t) (second t)) → IsLinearTrace dec value q second l r → IsLinearTrace dec value q first l r
 trace_same dec value q first second l r s h =
     record { forms = h.forms; each = λ t m. form_same dec value q l (first t) (second t) (h.forms t) (s t m) (h.each t m); adds_up = h.adds_up }
 
@@ -39,9 +39,9 @@ trace_same dec value q first second l r s h =
 module _ {M N I J : Type 0} (decm : Discrete M) (decn : Discrete N) (q : ℕ) (value : I → List (ℕ × M)) (other : J → List (ℕ × N))
     (back : N → List (ℕ × M)) (keeps : KeepsSpans decm q other value back)
     (k : List M) (l : List N) (free : AreIndependent decm value q k) (free_l : AreIndependent decn other q l)
-    (B : N → List (ℕ × M)) (B_is : (u : N) → Mem u l → IsForm decm value q k (back u) (B u)) where
+    (B : N → List (ℕ × M)) (B_is : (u : N) → Mem u l → IsFormOn decm value q k (back u) (B u)) where
   -- the form of an image, through the form of what is mapped
-  pub form_through : (e f : List (ℕ × N)) → IsForm decn other q l e f → IsForm decm value q k (expand back e) (expand B f)
+  pub form_through : (e f : List (ℕ × N)) → IsFormOn decn other q l e f → IsFormOn decm value q k (expand back e) (expand B f)
   form_through e f h = record {
     on_list = AllTerms-expand B (λ u. Mem u l) (λ t. Mem t k) f (λ u m. (B_is u m).on_list) h.on_list;
     rest = congruent_then decm value q (expand back e) (expand back f) (expand B f)
@@ -50,7 +50,7 @@ module _ {M N I J : Type 0} (decm : Discrete M) (decn : Discrete N) (q : ℕ) (v
   }
 
   -- the coefficient of a form, as a sum over the other list
-  pub coefficient : (e f : List (ℕ × N)) (g : List (ℕ × M)) → IsForm decn other q l e f → IsForm decm value q k (expand back e) g
+  pub coefficient : (e f : List (ℕ × N)) (g : List (ℕ × M)) → IsFormOn decn other q l e f → IsFormOn decm value q k (expand back e) g
       → (t : M) → Alike q (coef decm g t) (total (λ u. coef decn f u * coef decm (B u) t) l)
   coefficient e f g h i t =
       forms_are_unique M I decm value q k free (expand back e) g (expand B f) i (form_through e f h) t
@@ -58,8 +58,8 @@ module _ {M N I J : Type 0} (decm : Discrete M) (decn : Discrete N) (q : ℕ) (v
 
 pub traces_commute : (M N I J : Type 0) → TracesCommute M N I J
 traces_commute M N I J decm decn q value other there back keeps keeps_back k l free free_l there_is back_is r s tr ts =
-    let a = chosen decm k [] (λ t f. IsForm decn other q l (there t) f) there_is in
-    let b = chosen decn l [] (λ u f. IsForm decm value q k (back u) f) back_is in
+    let a = chosen decm k [] (λ t f. IsFormOn decn other q l (there t) f) there_is in
+    let b = chosen decn l [] (λ u f. IsFormOn decm value q k (back u) f) back_is in
     let A : M → List (ℕ × N) = a.0 in
     let B : N → List (ℕ × M) = b.0 in
     let first : Alike q (total (λ t. coef decm (tr.forms t) t) k) (total (λ t. total (λ u. coef decn (A t) u * coef decm (B u) t) l) k)
@@ -93,12 +93,12 @@ expand_one dec q image t u =
 
 pub bases_agree : (M I : Type 0) → BasesAgree M I
 bases_agree M I dec value q image keeps k l free free_l to_l to_k r s tr ts =
-    let c = chosen dec l [] (λ u f. IsForm dec value q k (one u) f) to_k in
+    let c = chosen dec l [] (λ u f. IsFormOn dec value q k (one u) f) to_k in
     traces_commute M M I I dec dec q value value one image
     (λ i. subst (Member dec value q) (sym (one_expand (value i))) (member_one dec value q i)) keeps k l free free_l to_l
     (λ u m. (
       expand c.0 (ts.forms u),
-      subst (λ e. IsForm dec value q k e (expand c.0 (ts.forms u))) (one_expand (image u))
+      subst (λ e. IsFormOn dec value q k e (expand c.0 (ts.forms u))) (one_expand (image u))
           (form_through dec dec q value value one (λ i. subst (Member dec value q) (sym (one_expand (value i))) (member_one dec value q i)) k l free free_l c.0 c.1 (image u) (ts.forms u) (ts.each u m)),
     ))
     r s

@@ -9,7 +9,7 @@ use Rattle.modular_sums.proofs.Residues.{alike_add}
 use Rattle.modular_sums.proofs.Coefficients.{coef_nothing, coef_first}
 use Rattle.modular_sums.proofs.Differences.{same_gone}
 use Rattle.modular_sums.proofs.Images.{AllTerms-imp}
-use Rattle.action_characters.specs.ModularTraces.{IsForm, IsTrace as IsTraceOf}
+use Rattle.action_characters.specs.ModularTraces.{IsFormOn, IsLinearTrace}
 use Rattle.action_characters.proofs.Totals.{total, sum_by-total, total_ext}
 use Rattle.action_characters.proofs.Choices.{chosen}
 use Rattle.action_characters.proofs.Congruences.{AllTerms-expand, congruent_images}
@@ -37,7 +37,7 @@ use Rattle.action_characters.proofs.Spans.{InSpan, in_span, free_list, as_form, 
 
 module _ (p : Presentation) (n : ℕ) (l : List (Tree ℕ)) (spanning : IsSpanning p n l) where
   -- each labelled tree has a form
-  pub tree_form : (t : Tree ℕ) → IsLabelled (arity_of p) n t → (f : List (ℕ × Tree ℕ)) × IsForm tree_discrete (element p n) p.q l (one t) f
+  pub tree_form : (t : Tree ℕ) → IsLabelled (arity_of p) n t → (f : List (ℕ × Tree ℕ)) × IsFormOn tree_discrete (element p n) p.q l (one t) f
   tree_form t h = let k = spanning t h in (k.0, record { on_list = k.1; rest = in_span p n ((1, t) ∷ scale p.q k.0) k.2 })
 
   -- the trees of an element
@@ -58,7 +58,7 @@ module _ (p : Presentation) (n : ℕ) (l : List (Tree ℕ)) (spanning : IsSpanni
 
   pub element_form : (e : List (ℕ × Tree ℕ)) → AllTerms e (IsLabelled (arity_of p) n) → (f : List (ℕ × Tree ℕ)) × IsNormalForm p n l e f
   element_form e h =
-      let c = chosen tree_discrete (trees e) [] (λ t f. IsForm tree_discrete (element p n) p.q l (one t) f) (λ t m. tree_form t (labelled_among e h t m)) in (
+      let c = chosen tree_discrete (trees e) [] (λ t f. IsFormOn tree_discrete (element p n) p.q l (one t) f) (λ t m. tree_form t (labelled_among e h t m)) in (
         expand c.0 e,
         as_normal p n l e (expand c.0 e) record {
           on_list = AllTerms-expand c.0 (λ t. Mem t (trees e)) (λ t. Mem t l) e (λ t m. (c.1 t m).on_list) (among e);
@@ -75,16 +75,16 @@ forms_are_unique p n l free spanning e h =
 -- ---- traces
 
 module _ (p : Presentation) (n : ℕ) (w : List ℕ) where
-  pub as_trace : (l : List (Tree ℕ)) (r : ℕ) → IsTrace p n w l r → IsTraceOf tree_discrete (element p n) p.q (image p n w) l r
+  pub as_trace : (l : List (Tree ℕ)) (r : ℕ) → IsTrace p n w l r → IsLinearTrace tree_discrete (element p n) p.q (image p n w) l r
   as_trace l r h = record { forms = h.forms; each = λ t m. as_form p n l (image p n w t) (h.forms t) (h.each t m); adds_up = h.adds_up }
 
   -- a basis has a form of each tree that is relabelled
-  acted_form : IsOrdering n w → (k l : List (Tree ℕ)) → IsBasis p n k → IsBasis p n l → (t : Tree ℕ) → Mem t k → (f : List (ℕ × Tree ℕ)) × IsForm tree_discrete (element p n) p.q l (image p n w t) f
+  acted_form : IsOrdering n w → (k l : List (Tree ℕ)) → IsBasis p n k → IsBasis p n l → (t : Tree ℕ) → Mem t k → (f : List (ℕ × Tree ℕ)) × IsFormOn tree_discrete (element p n) p.q l (image p n w t) f
   acted_form o k l a b t m = tree_form p n l b.spanning (acted w t) (labelled-acted (arity_of p) n w o t (a.labelled t m))
 
 pub traces_exist : TracesExist
 traces_exist p n w o l b =
-    let c = chosen tree_discrete l [] (λ t f. IsForm tree_discrete (element p n) p.q l (image p n w t) f) (acted_form p n w o l l b b) in
+    let c = chosen tree_discrete l [] (λ t f. IsFormOn tree_discrete (element p n) p.q l (image p n w t) f) (acted_form p n w o l l b b) in
     (sum_by (λ t. coef tree_discrete (c.0 t) t) l % suc p.q, record { forms = c.0; each = λ t m. as_normal p n l (image p n w t) (c.0 t) (c.1 t m); adds_up = refl })
 
 pub trace_is_invariant : TraceIsInvariant

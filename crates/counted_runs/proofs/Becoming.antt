@@ -11,7 +11,7 @@ use Rattle.shuffle_bases.specs.Elements.{Insertion}
 use Rattle.shuffle_reductions.specs.Extensions.{over, Extends}
 use Rattle.shuffle_completion.specs.Completion.{IsTailReduced, AreTailsReduced}
 use Rattle.counted_runs.specs.Reductions.{ReducesTo}
-use Rattle.counted_runs.specs.Stages.{StandsFor, AreBecoming}
+use Rattle.counted_runs.specs.Stages.{IsBecoming, AreBecoming}
 use Rattle.counted_runs.proofs.Replaced.{leads_of}
 
 -- at first each is itself
@@ -19,7 +19,7 @@ pub becoming_itself : (s : Setting) (n : ℕ) (pending : List (Tree ℕ)) (l : L
 becoming_itself s n pending [] h = tt
 becoming_itself s n pending (g ∷ l) h = (go (h g (inl refl)), becoming_itself s n pending l (λ k m. h k (inr m)))
   where
-    go : (g.arity < n) ⊎ ((g.arity ≡ n) × Mem g.lead pending) → StandsFor s n pending g g
+    go : (g.arity < n) ⊎ ((g.arity ≡ n) × Mem g.lead pending) → IsBecoming s n pending g g
     go (inl k) = inl (k, refl)
     go (inr k) = inr (inl (k.0, refl, k.1))
 
@@ -30,7 +30,7 @@ all_reduced s n [] (h ∷ m) b = absurd b
 all_reduced s n (g ∷ l) [] b = absurd b
 all_reduced s n (g ∷ l) (h ∷ m) b = (go b.0, all_reduced s n l m b.1)
   where
-    go : StandsFor s n [] g h → ((g.arity < n) × (h ≡ g)) ⊎ ((g.arity ≡ n) × IsTailReduced s g h)
+    go : IsBecoming s n [] g h → ((g.arity < n) × (h ≡ g)) ⊎ ((g.arity ≡ n) × IsTailReduced s g h)
     go (inl k) = inl k
     go (inr (inl k)) = absurd k.2
     go (inr (inr k)) = inr (k.0, k.1)
@@ -42,7 +42,7 @@ pub record Parted (s : Setting) (n : ℕ) (pending : List (Tree ℕ)) (elements 
   pub after : List Element
   pub parted : elements ≡ before ++ (of ∷ after)
   pub first : AreBecoming s n pending before front
-  pub here : StandsFor s n pending of h
+  pub here : IsBecoming s n pending of h
   pub last : AreBecoming s n pending after back
 
 pub parted : (s : Setting) (n : ℕ) (pending : List (Tree ℕ)) (elements front : List Element) (h : Element) (back : List Element) → AreBecoming s n pending elements (front ++ (h ∷ back)) → Parted s n pending elements front h back
@@ -55,7 +55,7 @@ parted s n pending (g ∷ elements) (y ∷ front) h back b =
 
 -- the parts put together
 pub together : (s : Setting) (n : ℕ) (pending : List (Tree ℕ)) (before : List Element) (g : Element) (after front : List Element) (h : Element) (back : List Element)
-    → AreBecoming s n pending before front → StandsFor s n pending g h → AreBecoming s n pending after back → AreBecoming s n pending (before ++ (g ∷ after)) (front ++ (h ∷ back))
+    → AreBecoming s n pending before front → IsBecoming s n pending g h → AreBecoming s n pending after back → AreBecoming s n pending (before ++ (g ∷ after)) (front ++ (h ∷ back))
 together s n pending [] g after [] h back a b c = (b, c)
 together s n pending [] g after (y ∷ front) h back a b c = absurd a
 together s n pending (x ∷ before) g after [] h back a b c = absurd a
@@ -72,7 +72,7 @@ fewer_pending s n t pending (g ∷ l) (h ∷ m) b f = (go b.0, fewer_pending s n
     left e (inl q) = absurd (f h (inl refl) (ap (λ (x : Element). x.lead) e ∙ q))
     left e (inr m) = m
 
-    go : StandsFor s n (t ∷ pending) g h → StandsFor s n pending g h
+    go : IsBecoming s n (t ∷ pending) g h → IsBecoming s n pending g h
     go (inl k) = inl k
     go (inr (inl k)) = inr (inl (k.0, k.1, left k.1 k.2))
     go (inr (inr k)) = inr (inr (k.0, k.1, λ m. k.2 (inr m)))

@@ -17,9 +17,9 @@ use Rattle.shuffle_completion.specs.ReducedBases.{IsReducedBasis}
 use Rattle.counted_runs.specs.Items.{Problem, Purpose, completion, Item, relabelling, two_places, tail_of, question, traced, IsItem}
 use Rattle.counted_runs.specs.Rows.{SameSum, AreIdealElements, IsSElement}
 use Rattle.counted_runs.specs.Runs.{AtLast, EntryOf, HasFinished, HasStopped, IsEntry, IsRun, IsFinishedRun, IsStoppedRun}
-use Rattle.counted_runs.specs.FullRuns.{IsRelationOrPair, IsAsked, HasLeadingTree, HoldsElement, HasItem, IsLastLead, KeepsLead, IsPairEntry, HasPair, IsFullRun}
+use Rattle.counted_runs.specs.FullRuns.{IsRelationOrPair, IsQuestionOrTrace, HasLeadingTree, HoldsElement, HasItem, IsLastLead, KeepsLead, IsPairEntry, HasPair, IsFullRun}
 use Rattle.counted_runs.specs.Calls.{completing, call_of, IsMadeOf}
-use Rattle.counted_runs.specs.RunLaws.{AreApart}
+use Rattle.counted_runs.specs.RunLaws.{HaveNoCommonItem}
 use Rattle.counted_runs.specs.RunsSoFar.{Serves, Follows, IsRunSoFar, RunSoFarLaw, RunsSoFarGrow}
 use Rattle.counted_runs.proofs.Joins.{join, in_sequence, by_either, at_last}
 
@@ -65,7 +65,7 @@ module _ (d : Problem) (N : ℕ) where
   alone x y (inl e) = e
   alone x y (inr m) = absurd m
 
-  apart_from : (run : List E) (x : E) → (HasItem run x.item → ⊥) → AreApart run (x ∷ [])
+  apart_from : (run : List E) (x : E) → (HasItem run x.item → ⊥) → HaveNoCommonItem run (x ∷ [])
   apart_from run x f y z m n e = f (y, m, e ∙ ap (λ (w : E). w.item) (alone x z n))
 
   one_run : (x : E) → IsEntry d N x → IsRun d N (x ∷ [])
@@ -211,7 +211,7 @@ module _ (d : Problem) (N : ℕ) where
 
     -- ---- the end
 
-    asked_none : (i : Item) → call_of i ≡ completing → IsAsked i → ⊥
+    asked_none : (i : Item) → call_of i ≡ completing → IsQuestionOrTrace i → ⊥
     asked_none (relabelling z k w) e a = a
     asked_none (two_places z t first second) e a = a
     asked_none (tail_of t) e a = a

@@ -28,7 +28,7 @@ use Rattle.counted_runs.proofs.RunsSoFar.{runs_so_far, holds_member}
 use Rattle.counted_runs.proofs.Entries.{entry_law}
 use Rattle.counted_runs.specs.Jobs.{Job, relabel, combine, task_of, AreJobs}
 use Rattle.counted_runs.specs.Reductions.{ReducesTo}
-use Rattle.counted_runs.specs.Stages.{IsGiven, HasAll, IsAtRows, IsAtTails, StandsFor, AreBecoming}
+use Rattle.counted_runs.specs.Stages.{IsGiven, HasAll, IsAtRows, IsAtTails, IsBecoming, AreBecoming}
 use Rattle.counted_runs.specs.LoopLaws.{TailsBegin, TailIsReduced, TailStops}
 use Rattle.counted_runs.proofs.Lists.{append_nothing}
 use Rattle.counted_runs.proofs.JobEntries.{entry_by, chained}
@@ -147,7 +147,7 @@ module _ (d : Problem) (N m : ℕ) (given : IsGiven d) (elements front : List El
   part = parted s (suc m) (g.lead ∷ pending) elements front g back a.becoming
 
   -- the element still stands for itself
-  still : StandsFor (setting d.presentation d.compare elements) (suc m) (g.lead ∷ pending) part.of g → (part.of.arity ≡ suc m) × (g ≡ part.of)
+  still : IsBecoming (setting d.presentation d.compare elements) (suc m) (g.lead ∷ pending) part.of g → (part.of.arity ≡ suc m) × (g ≡ part.of)
   still (inl k) =
       let mine = (a.extends.monic.each g (between front g back)).lead_valid in
       let same = one_size g.arity (suc m) g.lead mine.shuffle (a.valid g.lead (inl refl)).shuffle in

@@ -32,12 +32,12 @@ IsRelationOrPair (question k) = ⊥
 IsRelationOrPair (traced c t) = ⊥
 
 -- the item is reduced over the finished basis: it is a question, or a cycle type with a tree
-abbrev pub IsAsked : Item → Type 0
-IsAsked (relabelling z k w) = ⊥
-IsAsked (two_places z t first second) = ⊥
-IsAsked (tail_of t) = ⊥
-IsAsked (question k) = Unit {0}
-IsAsked (traced c t) = Unit {0}
+abbrev pub IsQuestionOrTrace : Item → Type 0
+IsQuestionOrTrace (relabelling z k w) = ⊥
+IsQuestionOrTrace (two_places z t first second) = ⊥
+IsQuestionOrTrace (tail_of t) = ⊥
+IsQuestionOrTrace (question k) = Unit {0}
+IsQuestionOrTrace (traced c t) = Unit {0}
 
 -- an element of the list has this leading tree
 abbrev pub HasLeadingTree : List Element → Tree ℕ → Type 0
@@ -89,5 +89,5 @@ pub record IsFullRun (d : Problem) (N : ℕ) (basis : List Element) (run : List 
   pub multiples : (n : ℕ) → n ≤ N → (g h : Element) → Mem g basis → Mem h basis → (t : Tree ℕ) (first second : List ℕ)
       → IsMultiple n g.lead h.lead t first second → HasPair run t first second g h
   pub lower : (x : EntryOf d) → Mem x run → (g : Element) → Mem g basis → g.arity < x.arity → HoldsElement d.presentation x.elements g
-  pub asked : (x : EntryOf d) → Mem x run → IsAsked x.item → (g : Element) → Mem g basis → g.arity ≤ x.arity → HoldsElement d.presentation x.elements g
+  pub asked : (x : EntryOf d) → Mem x run → IsQuestionOrTrace x.item → (g : Element) → Mem g basis → g.arity ≤ x.arity → HoldsElement d.presentation x.elements g
   pub leads : InSequence KeepsLead run

@@ -37,15 +37,15 @@ pub record HasAll (d : Problem) (m : ℕ) (elements : List Element) (run : List 
       → IsMultiple n g.lead h.lead t first second → HasItem run (two_places completion t first second) ⊎ HasItem run (two_places completion t second first)
 
 -- In the second list h stands for g: it is g, of lower arity, or of arity n with its tail still to reduce; or g with its tail reduced.
-abbrev pub StandsFor : Setting → ℕ → List (Tree ℕ) → Element → Element → Type 0
-StandsFor s n pending g h = ((g.arity < n) × (h ≡ g)) ⊎ (((g.arity ≡ n) × (h ≡ g) × Mem g.lead pending) ⊎ ((g.arity ≡ n) × IsTailReduced s g h × (Mem g.lead pending → ⊥)))
+abbrev pub IsBecoming : Setting → ℕ → List (Tree ℕ) → Element → Element → Type 0
+IsBecoming s n pending g h = ((g.arity < n) × (h ≡ g)) ⊎ (((g.arity ≡ n) × (h ≡ g) × Mem g.lead pending) ⊎ ((g.arity ≡ n) × IsTailReduced s g h × (Mem g.lead pending → ⊥)))
 
 -- the elements of the second list stand for those of the first, in order
 abbrev pub AreBecoming : Setting → ℕ → List (Tree ℕ) → List Element → List Element → Type 0
 AreBecoming s n pending [] [] = Unit {0}
 AreBecoming s n pending [] (h ∷ m) = ⊥
 AreBecoming s n pending (g ∷ l) [] = ⊥
-AreBecoming s n pending (g ∷ l) (h ∷ m) = StandsFor s n pending g h × AreBecoming s n pending l m
+AreBecoming s n pending (g ∷ l) (h ∷ m) = IsBecoming s n pending g h × AreBecoming s n pending l m
 
 module _ (d : Problem) (N : ℕ) where
   -- The completion is through arity n, and so many steps were taken: the elements are complete, and the run so far has all items of
