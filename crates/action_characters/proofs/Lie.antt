@@ -3,7 +3,7 @@ use Rattle.std.proofs.Common.{◌≡◌, ℕ, zero, suc, List, [], ◌∷◌, re
 use mathlib.Core.List.{◌++◌}
 use native.Mathlib.Decide.{ℕ_discrete}
 use Rattle.modular_sums.specs.Lists.{Mem}
-use Rattle.modular_sums.specs.Sums.{coef, scale, Same, AllTerms}
+use Rattle.modular_sums.specs.Sums.{coef, scale, moved, Same, AllTerms}
 use Rattle.modular_sums.proofs.Sums.{Member-scale, Member-same, AllTerms-scale}
 use Rattle.modular_sums.proofs.Images.{AllTerms-imp}
 use Rattle.modular_sums.proofs.Sameness.{same_if_agree}
@@ -15,7 +15,7 @@ use Rattle.shuffle_bases.proofs.Examples.{jacobi}
 use Rattle.operad_ideals.specs.Presentations.{arity_of}
 use Rattle.operad_ideals.specs.Ideals.{InIdeal}
 use Rattle.shuffle_transfer.specs.Orderings.{IsOrdering}
-use Rattle.shuffle_transfer.specs.Labels.{labels, word_discrete, same_cons, letter_discrete, same_letter}
+use Rattle.shuffle_transfer.specs.Labels.{labels, symmetric_tree, word_discrete, same_cons, letter_discrete, same_letter}
 use Rattle.shuffle_transfer.specs.Transfer.{relabelled, shuffled, inserted_relation}
 use Rattle.shuffle_transfer.specs.Certified.{setting}
 use Rattle.shuffle_transfer.proofs.Orderings.{all_orderings}
@@ -27,14 +27,15 @@ use Rattle.shuffle_bases.specs.Elements.{Setting, value_of}
 use Rattle.shuffle_transfer.specs.NormalTrees.{IsNormalForm, by_path, compare}
 use Rattle.shuffle_transfer.proofs.Jacobi.{jacobi_relation, lie, wide, sound, certified, two_normal, lie_normal, lie_transfer, relation_in_ideal}
 use Rattle.action_characters.specs.Actions.{acted, IsConjugateBy}
-use Rattle.action_characters.specs.CycleTypes.{cycle_types, type_permutation}
+use Rattle.action_characters.specs.CycleTypes.{IsCycleType, cycle_types, type_permutation}
 use Rattle.action_characters.specs.Traces.{IsBasis, HasNormalTrees, IsTrace, AreShuffleRows}
 use Rattle.action_characters.proofs.Actions.{labelled-acted}
 use Rattle.action_characters.proofs.CycleTypes.{cycle_types_listed}
 use Rattle.action_characters.proofs.TypePermutations.{types_are_permutations}
-use Rattle.action_characters.proofs.Traces.{forms_are_unique, conjugates_have_one_trace, rows_give_trace, identity_counts}
+use Rattle.action_characters.proofs.CycleForms.{each_has_type}
+use Rattle.action_characters.proofs.Traces.{forms_are_unique, traces_exist, trace_is_invariant, conjugates_have_one_trace, types_suffice, rows_give_trace, identity_counts}
 use Rattle.shuffle_transfer.proofs.RelabelledIdeals.{ideal_is_relabelled}
-use Rattle.action_characters.proofs.ShuffleRows.{shuffle_rows_give_trace}
+use Rattle.action_characters.proofs.ShuffleRows.{shuffle_forms_pass_back, shuffle_rows_give_trace}
 use Rattle.action_characters.proofs.NormalTraces.{listing_has_normal_trees, normal_trees_give_trace}
 
 -- the normal trees of arity 3: l(l(1,3),2) and l(1,l(2,3))
@@ -210,3 +211,30 @@ pub lie_by_shuffle_rows : (k : List (Tree ℕ)) → IsBasis lie 3 k → IsTrace 
 unfolding word_discrete same_cons letter_discrete same_letter ℕ_discrete tree_discrete tree_discrete_by row_discrete_by same_leaf same_node same_more coef three_rows
 lie_by_shuffle_rows k b =
     shuffle_rows_give_trace lie sound wide (omega arith) by_path (jacobi ∷ []) 4 certified 3 (omega arith) trees normal (type_permutation three) (is_type three (inl refl)) three_rows shuffle_rows k b
+
+-- the first of these rows, passed back
+lie_passed : IsNormalForm lie 3 trees ((1, acted (type_permutation three) t2) ∷ []) (moved (symmetric_tree lie) ((100, t2) ∷ ((100, t3) ∷ [])))
+unfolding three_rows
+lie_passed = (shuffle_forms_pass_back lie sound wide (omega arith) by_path (jacobi ∷ []) 4 certified 3 (omega arith) trees normal ((1, acted (type_permutation three) t2) ∷ []) ((100, t2) ∷ ((100, t3) ∷ []))
+    (labelled-acted (arity_of lie) 3 (type_permutation three) (is_type three (inl refl)) t2 (basis.labelled t2 (inl refl)), tt) shuffle_rows.0).0
+
+-- ---- a permutation that is none of a cycle type
+
+orders : IsOrdering 3 swap
+orders = ((all_orderings 3).2 swap).0 (inr (inl refl))
+
+swap_has_trace : (r : ℕ) × IsTrace lie 3 swap trees r
+swap_has_trace = traces_exist lie 3 swap orders trees basis
+
+swap_has_one : (k : List (Tree ℕ)) → IsBasis lie 3 k → (r : ℕ) → IsTrace lie 3 swap k r → swap_has_trace.0 ≡ r
+swap_has_one k b r tr = trace_is_invariant lie 3 swap orders trees k basis b swap_has_trace.0 r swap_has_trace.1 tr
+
+swap_has_type : (c : List ℕ) × IsCycleType 3 c × ((v : List ℕ) × IsOrdering 3 v × IsConjugateBy 3 v (type_permutation c) swap)
+swap_has_type = each_has_type 3 swap orders
+
+-- its type has a trace, which is that of the permutation
+swap_by_type : (r : ℕ) × IsTrace lie 3 swap trees r
+swap_by_type =
+    let k = types_suffice 3 swap orders in
+    let t = traces_exist lie 3 (type_permutation k.0) (types_are_permutations 3 k.0 k.1).0 trees basis in
+    (t.0, k.2 lie trees basis t.0 t.1)

@@ -12,7 +12,7 @@ use Rattle.modular_sums.proofs.Replacements.{sum_over}
 use Rattle.action_characters.specs.ModularTraces.{KeepsSpans, AreIndependent, IsFormOn, IsSpannedBy, IsLinearTrace}
 use Rattle.action_characters.proofs.Choices.{mem_discrete}
 use Rattle.action_characters.proofs.Congruences.{coef-expand_sum, congruent_refl}
-use Rattle.action_characters.proofs.ModularTraces.{bases_agree, one}
+use Rattle.action_characters.proofs.ModularTraces.{forms_are_unique, traces_exist, traces_commute, bases_agree, one}
 
 -- 0 + 1 + 2
 abbrev value : Unit {0} → List (ℕ × ℕ)
@@ -151,3 +151,16 @@ trace_low = record { forms = forms_low; each = each; adds_up = refl }
 -- so on the other list there is no other trace
 pub trace_high : (r : ℕ) → IsLinearTrace ℕ_discrete value 100 next high r → 100 ≡ r
 trace_high r h = bases_agree ℕ (Unit {0}) ℕ_discrete value 100 next keeps low high low_free high_free low_by_high high_by_low 100 r trace_low h
+
+-- 2 has no other form on the list
+only_form : (f : List (ℕ × ℕ)) → Form low (one 2) f → Same ℕ_discrete 100 ((100, 0) ∷ ((100, 1) ∷ [])) f
+only_form f h = forms_are_unique ℕ (Unit {0}) ℕ_discrete value 100 low low_free (one 2) ((100, 0) ∷ ((100, 1) ∷ [])) f two_low h
+
+-- and there is a trace
+some_trace : (r : ℕ) × IsLinearTrace ℕ_discrete value 100 next low r
+some_trace = traces_exist ℕ (Unit {0}) ℕ_discrete value 100 next low (λ t m. (trace_low.forms t, trace_low.each t m))
+
+-- the map twice has one trace, whichever of the two comes first
+twice : (r s : ℕ) → IsLinearTrace ℕ_discrete value 100 (λ t. expand next (next t)) low r → IsLinearTrace ℕ_discrete value 100 (λ t. expand next (next t)) low s → r ≡ s
+twice = traces_commute ℕ ℕ (Unit {0}) (Unit {0}) ℕ_discrete ℕ_discrete 100 value value next next keeps keeps low low low_free low_free
+    (λ t m. (trace_low.forms t, trace_low.each t m)) (λ t m. (trace_low.forms t, trace_low.each t m))

@@ -15,6 +15,7 @@ pub mod ListedItems
 pub mod Lists
 pub mod Numbered
 pub mod Permutations
+pub mod PreLieNumber
 pub mod RelationJobs
 pub mod Replaced
 pub mod RowTrees
@@ -23,6 +24,5 @@ pub mod RunsSoFar
 pub mod SpanChains
 pub mod StoppedRuns
 pub mod Tails
-pub mod TrialNumber
 pub mod VertexSets
 pub mod Weights

@@ -42,8 +42,9 @@ use Rattle.counted_runs.specs.Entries.{IsChained}
 use Rattle.counted_runs.proofs.Entries.{entries_come_about}
 use Rattle.counted_runs.proofs.RowTrees.{relabelled_trees}
 use Rattle.counted_runs.proofs.SpanChains.{chains_end_with_zero}
+use Rattle.counted_runs.proofs.LastLeads.{last_leads_are_one}
 use Rattle.counted_runs.proofs.RunsSoFar.{serves_all, follows_same, runs_so_far}
-use Rattle.counted_runs.proofs.Lie.{bracket, wide, ordered, valid_t1, three_trees}
+use Rattle.counted_runs.proofs.Lie.{bracket, wide, ordered, valid_t1, three_trees, none_above}
 use Rattle.counted_runs.proofs.LieRuns.{BracketEntry, divided_t1, second_order, lie_elements, jacobi_relation, first_order, coefs}
 
 abbrev pub d : Problem
@@ -100,6 +101,17 @@ begin_lead t h = go (three_trees t h.valid)
     go (inl e) = (jacobi, inl refl, sym e)
     go (inr (inl e)) = absurd (not_zero (h.leads.above t1 valid_t1 (subst (λ x. compare lie by_path x t1 ≡ Less) (sym e) less_than_t1.0)))
     go (inr (inr e)) = absurd (not_zero (h.leads.above t1 valid_t1 (subst (λ x. compare lie by_path x t1 ≡ Less) (sym e) less_than_t1.1)))
+
+-- the leading tree of this row is l(l(1,2),3), and no other
+only_lead : (u : Tree ℕ) → IsLastLead begin u → t1 ≡ u
+unfolding begin
+only_lead u h = (last_leads_are_one lie (compare lie by_path) ordered begin).0 t1 u itself h
+  where
+    there : Alike 100 (coef tree_discrete (form_by first_order) t1) 0 → ⊥
+    there z = let k = (coefs jacobi_relation refl).0 in absurd (omega (arith, k, z))
+
+    itself : IsLastLead begin t1
+    itself = record { valid = valid_t1; leads = record { there = there; above = λ t v less. absurd (none_above t v less) } }
 
 begun : IsRunSoFar d 4 3 one (begin ∷ [])
 unfolding begin

@@ -5,6 +5,7 @@ pub mod Ideals
 pub mod Laws
 pub mod LeadingTrees
 pub mod Lie
+pub mod LieExistence
 pub mod Listings
 pub mod Minimal
 pub mod NewElements

@@ -1,5 +1,5 @@
 -- An example: the Jacobi element over one binary label as the rule of the greatest of the three trees of arity 3.
-use Rattle.std.proofs.Common.{◌≡◌, ℕ, zero, suc, ◌*◌, ◌<◌, ◌≤◌, List, [], ◌∷◌, Option, Some, None, refl, sym, ap, ◌∙◌, subst, arith, inl, inr}
+use Rattle.std.proofs.Common.{◌≡◌, ℕ, zero, suc, ◌*◌, ◌<◌, ◌≤◌, List, [], ◌∷◌, Option, Some, None, refl, sym, ap, ◌∙◌, subst, arith, inl, inr, ◌⊎◌}
 use mathlib.Core.List.{◌++◌}
 use native.Mathlib.Decide.{ℕ_discrete}
 use Rattle.std.specs.List.{slice_get}
@@ -16,7 +16,7 @@ use Rattle.modular_sums.specs.Lists.{Mem}
 use Rattle.shuffle_reductions.specs.Extensions.{over as with_elements}
 use Rattle.shuffle_reductions.proofs.Laws.{lists_grow, elements_extend_themselves}
 use Rattle.shuffle_reductions.specs.TableGrowth.{IsChanged, AreValid}
-use Rattle.shuffle_reductions.proofs.GrownTables.{tables_grow_lem}
+use Rattle.shuffle_reductions.proofs.GrownTables.{tables_change_lem, tables_grow_lem}
 use Rattle.shuffle_normal_forms.specs.FreeTrees.{IsFree}
 use Rattle.shuffle_normal_forms.proofs.Leading.{one_not_zero}
 use Rattle.shuffle_normal_forms.proofs.Examples.{free_at}
@@ -141,3 +141,31 @@ all_valid (suc (suc (suc k))) h = absurd (omega arith)
 
 grown : IsChanged setting (jacobi ∷ (second ∷ [])) 3 sorted insertions table second 1 []
 grown = tables_grow_lem setting by_path monic 3 sorted insertions table the_table all_valid second two_monic 1 (omega arith) [] (record { arity = refl; lead = refl; tail_there = λ t. refl; lower = tt })
+
+-- ---- t1 alone takes the place of the Jacobi element, and the rule of position 2 has no tail
+
+abbrev bare : Element
+bare = record { arity = 3; lead = t1; tail = [] }
+
+bare_alone : AreMonic (with_elements setting (bare ∷ []))
+unfolding ℕ_discrete tree_discrete tree_discrete_by row_discrete_by same_leaf same_node same_more
+bare_alone = record {
+  each = λ h m. subst (IsMonic (with_elements setting (bare ∷ []))) (sym (one h m)) (record { lead_valid = valid_at 3 t1 refl; lead_node = tt; tail_valid = tt });
+  apart = λ g h m o e. one g m ∙ sym (one h o);
+}
+  where
+    one : (h : Element) → Mem h (bare ∷ []) → h ≡ bare
+    one h (inl e) = e
+    one h (inr m) = absurd m
+
+changed : IsChanged setting (bare ∷ []) 3 sorted insertions table bare 2 []
+changed = tables_change_lem setting by_path monic 3 sorted insertions table the_table all_valid (bare ∷ []) bare_alone 2 (omega arith) bare (inl refl) []
+    (record { arity = refl; lead = refl; tail_there = λ t. refl; lower = tt }) old new
+  where
+    old : (h : Element) → Mem h (jacobi ∷ []) → Mem h (bare ∷ []) ⊎ ((h.arity ≡ 3) × (h.lead ≡ tree_in sorted 2))
+    old h (inl e) = inr (ap (λ (x : Element). x.arity) e, ap (λ (x : Element). x.lead) e)
+    old h (inr m) = absurd m
+
+    new : (h : Element) → Mem h (bare ∷ []) → Mem h (jacobi ∷ []) ⊎ (h ≡ bare)
+    new h (inl e) = inr e
+    new h (inr m) = absurd m
