@@ -1,6 +1,5 @@
 -- Basis certificates, as values: what is claimed of a list of elements of a symmetric operad.
-use Rattle.std.specs.Prelude.{ℕ, List, [], ◌∷◌, Option, Some, None}
-use Rattle.std.proofs.Common.{zero, suc}
+use Rattle.std.specs.Prelude.{ℕ, List, [], Option, Some, None}
 use Rattle.labelled_trees.specs.Trees.{Tree}
 
 -- A reduction: a number times the insertion of an element at a place in a tree. The element is that of an entry, named by its number,

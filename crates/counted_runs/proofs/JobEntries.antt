@@ -1,7 +1,7 @@
 -- The entry of a reduction in a counted run.
-use Rattle.std.proofs.Common.{◌≡◌, ℕ, suc, ◌≤◌, List, [], ◌∷◌, zero, refl, sym, ap, ◌∙◌, inl, inr}
+use Rattle.std.proofs.Common.{◌≡◌, ℕ, ◌≤◌, List, [], ◌∷◌, refl, sym, ap, ◌∙◌}
 use mathlib.Core.List.{◌++◌}
-use Rattle.modular_sums.specs.Lists.{Mem, Nth}
+use Rattle.modular_sums.specs.Lists.{Mem}
 use Rattle.labelled_trees.specs.Trees.{Tree}
 use Rattle.shuffle_insertions.specs.ShuffleTrees.{IsShuffleTree}
 use Rattle.shuffle_places.proofs.Sizes.{one_size}

@@ -24,5 +24,6 @@ pub mod RunsSoFar
 pub mod SpanChains
 pub mod StoppedRuns
 pub mod Tails
+pub mod TwoBrackets
 pub mod VertexSets
 pub mod Weights

@@ -1,17 +1,15 @@
 -- Where S-elements reduce, finished chains from sums in the span end with 0.
-use Rattle.std.proofs.Common.{ℕ, ◌*◌, ◌≤◌, List, [], ◌∷◌, sym, ◌∙◌, ◌⊎◌, inl, inr}
+use Rattle.std.proofs.Common.{ℕ, ◌*◌, List, [], ◌∷◌, sym, ◌∙◌, ◌⊎◌, inl, inr}
 use mathlib.Core.List.{◌++◌}
 use Rattle.modular_sums.specs.Sums.{scale, Same, expand}
 use Rattle.labelled_trees.specs.Trees.{Tree}
 use Rattle.labelled_trees.specs.Equality.{tree_discrete}
-use Rattle.shuffle_insertions.specs.Labels.{AreLabels}
-use Rattle.shuffle_insertions.specs.Orders.{IsTreeOrder}
-use Rattle.shuffle_bases.specs.Elements.{Setting, AreMonic, Insertion, value_of}
-use Rattle.shuffle_bases.specs.Reductions.{SElementsReduce, IsLed}
+use Rattle.shuffle_bases.specs.Elements.{Setting, Insertion, value_of}
+use Rattle.shuffle_bases.specs.Reductions.{IsLed}
 use Rattle.shuffle_bases.proofs.Laws.{diamond}
 use Rattle.shuffle_normal_forms.specs.NormalForms.{InSpan}
 use Rattle.shuffle_normal_forms.proofs.Insertions.{span}
-use Rattle.shuffle_reductions.specs.Chains.{IsChain, IsFinished}
+use Rattle.shuffle_reductions.specs.Chains.{IsChain}
 use Rattle.counted_runs.specs.SpanChains.{ChainsEndWithZero}
 
 abbrev Sum : Type 0

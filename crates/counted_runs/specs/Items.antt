@@ -1,6 +1,6 @@
 -- The items of a counted run.
-use Rattle.std.specs.Prelude.{ℕ, ◌≡◌, List, [], ◌∷◌}
-use Rattle.std.proofs.Common.{Bool, true, false, zero, suc}
+use Rattle.std.specs.Prelude.{ℕ, ◌≡◌, List}
+use Rattle.std.proofs.Common.{Bool, true, false}
 use Rattle.std.specs.declared.cmp.Ordering.{Ordering}
 use Rattle.modular_sums.specs.Lists.{Mem, Nth}
 use Rattle.modular_sums.specs.Sums.{AllTerms}
