@@ -21,7 +21,6 @@ pub mod Replaced
 pub mod RowTrees
 pub mod Rows
 pub mod RunsSoFar
-pub mod SpanChains
 pub mod StoppedRuns
 pub mod Tails
 pub mod TwoBrackets

@@ -22,6 +22,7 @@ use Rattle.shuffle_bases.proofs.Examples.{jacobi}
 use Rattle.shuffle_normal_forms.specs.NormalForms.{InSpan}
 use Rattle.shuffle_reductions.proofs.Ends.{End, end_of}
 use Rattle.shuffle_reductions.proofs.SElements.{s_valid}
+use Rattle.shuffle_reductions.proofs.SpanChains.{chains_end_with_zero}
 use Rattle.operad_ideals.specs.Presentations.{Relation}
 use Rattle.shuffle_transfer.specs.Orderings.{IsOrdering, orderings}
 use Rattle.shuffle_transfer.specs.Labels.{labels, inputs_of}
@@ -41,7 +42,6 @@ use Rattle.counted_runs.specs.RunsSoFar.{Serves, Follows, IsRunSoFar, RunSoFarLa
 use Rattle.counted_runs.specs.Entries.{IsChained}
 use Rattle.counted_runs.proofs.Entries.{entries_come_about}
 use Rattle.counted_runs.proofs.RowTrees.{relabelled_trees}
-use Rattle.counted_runs.proofs.SpanChains.{chains_end_with_zero}
 use Rattle.counted_runs.proofs.LastLeads.{last_leads_are_one}
 use Rattle.counted_runs.proofs.RunsSoFar.{serves_all, follows_same, runs_so_far}
 use Rattle.counted_runs.proofs.Lie.{bracket, wide, ordered, valid_t1, three_trees, none_above}

@@ -12,5 +12,4 @@ pub mod Rows
 pub mod RunLaws
 pub mod Runs
 pub mod RunsSoFar
-pub mod SpanChains
 pub mod Stages

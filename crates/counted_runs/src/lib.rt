@@ -1,7 +1,6 @@
 //! Counted runs: what a number of reductions counts, and a number that is enough. Definitions and laws, without code.
 #![tactic(auto)]
 
-ghost use Rattle.counted_runs.specs.SpanChains.{ChainsEndWithZero};
 ghost use Rattle.counted_runs.specs.Counters.{CallsCount, CountersJoinRuns};
 ghost use Rattle.counted_runs.specs.Entries.{EntriesComeAbout};
 ghost use Rattle.counted_runs.specs.RunLaws.{CallsAreApart, FullRunsGrow, LastLeadsAreOne, QuestionsDontMatter, RunsJoin, StoppedRunsAreShort};
@@ -51,11 +50,6 @@ pub fn entries_come_about()
 /// Law: a call over the basis counts the steps of its chains.
 pub fn calls_count()
     ensures law { CallsCount }
-{}
-
-/// Law: where S-elements reduce, a finished chain from a sum in the span of the insertions ends with 0.
-pub fn chains_end_with_zero()
-    ensures law { ChainsEndWithZero }
 {}
 
 /// Law: a last row has one leading tree or none, and none where it is 0.

@@ -17,6 +17,7 @@ use Rattle.shuffle_normal_forms.specs.FreeTrees.{is_empty}
 use Rattle.shuffle_normal_forms.specs.NormalForms.{InSpan}
 use Rattle.shuffle_reductions.proofs.SElements.{s_valid, all_pairs, multiple_greater}
 use Rattle.shuffle_reductions.proofs.Ends.{End, end_of}
+use Rattle.shuffle_reductions.proofs.SpanChains.{chains_end_with_zero}
 use Rattle.operad_ideals.specs.Presentations.{Relation, Presentation}
 use Rattle.shuffle_transfer.specs.Labels.{labels, inputs_of}
 use Rattle.shuffle_transfer.specs.Orderings.{IsOrdering, orderings}
@@ -36,7 +37,6 @@ use Rattle.counted_runs.specs.Entries.{IsChained}
 use Rattle.counted_runs.proofs.Entries.{entries_come_about}
 use Rattle.counted_runs.proofs.Numbered.{nth_member}
 use Rattle.counted_runs.proofs.RowTrees.{relabelled_trees}
-use Rattle.counted_runs.proofs.SpanChains.{chains_end_with_zero}
 use Rattle.counted_runs.proofs.LastLeads.{last_leads_are_one}
 use Rattle.operad_answers.proofs.ItemEquality.{item_discrete}
 use Rattle.operad_answers.proofs.KeptTrees.{keep, keep_valid, keep_same}

@@ -12,6 +12,7 @@ pub mod LastSums
 pub mod Laws
 pub mod Lengths
 pub mod SElements
+pub mod SpanChains
 pub mod Standing
 pub mod Steps
 pub mod SweepExamples

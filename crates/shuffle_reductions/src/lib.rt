@@ -1,7 +1,7 @@
 //! Chains of reductions over elements with leading trees, and the lists over which they run. Definitions and laws, without code.
 #![tactic(auto)]
 
-ghost use Rattle.shuffle_reductions.specs.Laws.{ChainsAddUp, ChainsAreShort, ChainsEnd, ChainsFall, ChainsJoin, ChainsToZero, ElementsExtendThemselves, ExtensionsGrow, ExtensionsReduce, FinishedChains, MultiplesAreGreater, OneLastSum, SElementsByChains, SElementsInAnyOrder, SElementsTurn, TreesMayBeKept, WholeInsertions};
+ghost use Rattle.shuffle_reductions.specs.Laws.{ChainsAddUp, ChainsAreShort, ChainsEnd, ChainsEndWithZero, ChainsFall, ChainsJoin, ChainsToZero, ElementsExtendThemselves, ExtensionsGrow, ExtensionsReduce, FinishedChains, MultiplesAreGreater, OneLastSum, SElementsByChains, SElementsInAnyOrder, SElementsTurn, TreesMayBeKept, WholeInsertions};
 ghost use Rattle.shuffle_reductions.specs.TableGrowth.{TablesChange, TablesGrow};
 ghost use Rattle.shuffle_reductions.specs.SweepLaws.{SweptChains};
 
@@ -38,6 +38,11 @@ pub fn finished_chains()
 /// Law: where S-elements reduce, finished chains end in one sum exactly where the first sums differ by one of the span.
 pub fn one_last_sum()
     ensures law { OneLastSum }
+{}
+
+/// Law: where S-elements reduce, a finished chain from a sum in the span ends with 0.
+pub fn chains_end_with_zero()
+    ensures law { ChainsEndWithZero }
 {}
 
 /// Law: a sum with a chain to 0 reduces below each bound of its trees.

@@ -10,7 +10,7 @@ use Rattle.shuffle_bases.proofs.Laws.{diamond}
 use Rattle.shuffle_normal_forms.specs.NormalForms.{InSpan}
 use Rattle.shuffle_normal_forms.proofs.Insertions.{span}
 use Rattle.shuffle_reductions.specs.Chains.{IsChain}
-use Rattle.counted_runs.specs.SpanChains.{ChainsEndWithZero}
+use Rattle.shuffle_reductions.specs.Laws.{ChainsEndWithZero}
 
 abbrev Sum : Type 0
 Sum = List (ℕ × Tree ℕ)
