@@ -9,10 +9,10 @@ use Rattle.shuffle_completion.proofs.Laws.{complete_is_reduced}
 use Rattle.presentation_text.specs.declared.document.Document.{Document}
 use Rattle.operad_answers.specs.OrderedPresentations.{presentation, comparison, written}
 use Rattle.operad_answers.specs.Parts.{line}
-use Rattle.operad_answers.specs.Limits.{IsAskWithin, IsFirstCrowded, IsFirstWide}
+use Rattle.operad_answers.specs.Limits.{IsAskWithin, IsFirstWithTooManyTrees, IsFirstOfGreaterArity}
 use Rattle.operad_answers.specs.Budgets.{asks_of, question_of}
 use Rattle.operad_answers.specs.Laws.{CountedRunsPay, LimitLaw, LimitsExclude}
-use Rattle.operad_answers.proofs.Ready.{writable_ready, ready_over_field, order_in}
+use Rattle.operad_answers.proofs.WellFormed.{writable_well_formed, well_formed_over_field, order_in}
 
 -- ---- budgets
 
@@ -25,7 +25,7 @@ nth_map f (suc (suc k)) (y ∷ l) x h = nth_map f (suc k) l x h
 pub counted_runs_pay : CountedRunsPay
 counted_runs_pay d formed N B elements complete calls count full few command items =
     let o = written d in
-    let field = ready_over_field o (writable_ready d formed) in
+    let field = well_formed_over_field o (writable_well_formed d formed) in
     record {
       basis = elements;
       is_basis = complete_is_reduced (presentation o) field.sound field.wide field.not_zero (comparison o) (order_in o) elements N complete;
@@ -55,24 +55,24 @@ first_alike P (z ∷ front) others (w ∷ before) behind x y e a b f g =
 -- ---- limits
 
 module _ (d : Document) (N : ℕ) where
-  one_arity : (m n : ℕ) → IsFirstCrowded d N m → IsFirstCrowded d N n → m ≡ n
+  one_arity : (m n : ℕ) → IsFirstWithTooManyTrees d N m → IsFirstWithTooManyTrees d N n → m ≡ n
   one_arity m n a b = go (dec_lt m n) (dec_lt n m)
     where
       go : Dec (m < n) → Dec (n < m) → m ≡ n
-      go (yes lt) e = let low = b.before m a.from_one lt in let high = a.crowded in absurd (omega (arith, low, high))
-      go (no f) (yes lt) = let low = a.before n b.from_one lt in let high = b.crowded in absurd (omega (arith, low, high))
+      go (yes lt) e = let low = b.before m a.from_one lt in let high = a.too_many in absurd (omega (arith, low, high))
+      go (no f) (yes lt) = let low = a.before n b.from_one lt in let high = b.too_many in absurd (omega (arith, low, high))
       go (no f) (no g) = omega (arith, f, g)
 
-  one_number : (m n : ℕ) → IsFirstWide N d.asks m → IsFirstWide N d.asks n → m ≡ n
+  one_number : (m n : ℕ) → IsFirstOfGreaterArity N d.asks m → IsFirstOfGreaterArity N d.asks n → m ≡ n
   one_number m n a b =
-      a.number_is ∙ ap (λ ask. ask.line) (first_alike (λ ask. IsAskWithin N ask.kind) a.front a.others b.front b.others a.ask b.ask (sym a.asks_are ∙ b.asks_are) a.within b.within a.wide b.wide) ∙ sym b.number_is
+      a.number_is ∙ ap (λ ask. ask.line) (first_alike (λ ask. IsAskWithin N ask.kind) a.front a.others b.front b.others a.ask b.ask (sym a.asks_are ∙ b.asks_are) a.within b.within a.greater b.greater) ∙ sym b.number_is
 
   pub limit_law : LimitLaw d N
   limit_law = record {
-    one_crowded = λ text other a b. a.text_is ∙ ap (λ n. line (codes "fault limit trees " ++ decimal n)) (one_arity a.arity b.arity a.first b.first) ∙ sym b.text_is;
-    one_wide = λ text other a b. a.text_is ∙ ap (λ n. line (codes "fault limit query " ++ decimal n)) (one_number a.number b.number a.first b.first) ∙ sym b.text_is;
-    not_crowded = λ text a u. let low = u a.arity a.first.from_one a.first.to_most in let high = a.first.crowded in omega (arith, low, high);
-    not_wide = λ text a w. (a.first).wide (in_the_middle (λ ask. IsAskWithin N ask.kind) (a.first).front (a.first).others (a.first).ask (subst (All (λ ask. IsAskWithin N ask.kind)) (a.first).asks_are w.asks));
+    one_too_many = λ text other a b. a.text_is ∙ ap (λ n. line (codes "fault limit trees " ++ decimal n)) (one_arity a.arity b.arity a.first b.first) ∙ sym b.text_is;
+    one_greater = λ text other a b. a.text_is ∙ ap (λ n. line (codes "fault limit query " ++ decimal n)) (one_number a.number b.number a.first b.first) ∙ sym b.text_is;
+    not_too_many = λ text a u. let low = u a.arity a.first.from_one a.first.to_most in let high = a.first.too_many in omega (arith, low, high);
+    not_greater = λ text a w. (a.first).greater (in_the_middle (λ ask. IsAskWithin N ask.kind) (a.first).front (a.first).others (a.first).ask (subst (All (λ ask. IsAskWithin N ask.kind)) (a.first).asks_are w.asks));
   }
 
 pub limits_exclude : LimitsExclude

@@ -40,11 +40,11 @@ use Rattle.presentation_text.specs.declared.document.Document.{Document}
 use Rattle.presentation_text.specs.declared.document.OrderName.TheVariants.{Path}
 use Rattle.operad_answers.specs.OrderedPresentations.{OrderedPresentation, presentation, comparison, written}
 use Rattle.operad_answers.specs.Texts.{Sum, IsFormsText}
-use Rattle.operad_answers.specs.Limits.{IsAskWithin, IsUncrowded, IsWithinLimits}
+use Rattle.operad_answers.specs.Limits.{IsAskWithin, HasFewTrees, IsWithinLimits}
 use Rattle.operad_answers.specs.Budgets.{asks_of, counted, IsPaid}
 use Rattle.operad_answers.specs.Commands.{forms, IsTextOf, IsAnsweredBy, IsDone}
 use Rattle.operad_answers.proofs.Bounds.{counted_runs_pay}
-use Rattle.operad_answers.proofs.Ready.{documents_writable}
+use Rattle.operad_answers.proofs.WellFormed.{documents_writable}
 use Rattle.operad_answers.proofs.LieTexts.{generators, lie_written, lie_answer}
 use Rattle.operad_answers.proofs.LieDocument.{comb, jacobi_terms, comb_is, terms_are}
 use Rattle.operad_answers.proofs.LieProof.{label_one}
@@ -61,8 +61,8 @@ document = record { version = 1; field = 101; order = Path; weights = 0 ∷ []; 
 term_is : terms_of one_term ≡ (1, t1) ∷ []
 term_is = ap (λ t. (1, t) ∷ []) (comb_is 1 2 3)
 
-told : Told
-told = record {
+content : Told
+content = record {
   version = 1;
   field = Some 101;
   order = Some Path;
@@ -73,14 +73,14 @@ told = record {
   section = 6;
 }
 
-reading : read_text bytes ≡ Ok (record { told = told; tail = None })
-unfolding word_line lines_from document_from term_in further_in element_in word_fault field_line order_line symmetry_in named_arity_in generator_in gen_line rel_line query_in same_in query_line same_line row_in tree_in whole_tree_in told ℕ_discrete
+reading : read_text bytes ≡ Ok (record { told = content; tail = None })
+unfolding word_line lines_from document_from term_in further_in element_in word_fault field_line order_line symmetry_in named_arity_in generator_in gen_line rel_line query_in same_in query_line same_line row_in tree_in whole_tree_in content ℕ_discrete
 reading = refl
 
 is_read : IsReadAs bytes document
-unfolding told
+unfolding content
 is_read = record {
-  whole = record { told = told; tail = None };
+  whole = record { told = content; tail = None };
   reading_is = reading;
   says = record {
     version_is = refl;
@@ -174,21 +174,21 @@ paid = counted_runs_pay document (documents_writable bytes document is_read) 4 s
 
 -- ---- no limit is met
 
-uncrowded : IsUncrowded document 4
+few_trees : HasFewTrees document 4
 unfolding word_discrete same_cons letter_discrete same_letter ℕ_discrete
-uncrowded zero one_le le = absurd (omega (arith, one_le))
-uncrowded (suc zero) one_le le = omega arith
-uncrowded (suc (suc zero)) one_le le = omega arith
-uncrowded (suc (suc (suc zero))) one_le le = omega arith
-uncrowded (suc (suc (suc (suc zero)))) one_le le = omega arith
-uncrowded (suc (suc (suc (suc (suc n))))) one_le le = absurd (omega (arith, le))
+few_trees zero one_le le = absurd (omega (arith, one_le))
+few_trees (suc zero) one_le le = omega arith
+few_trees (suc (suc zero)) one_le le = omega arith
+few_trees (suc (suc (suc zero))) one_le le = omega arith
+few_trees (suc (suc (suc (suc zero)))) one_le le = omega arith
+few_trees (suc (suc (suc (suc (suc n))))) one_le le = absurd (omega (arith, le))
 
 three_leaves : IsNumbered 3 (tree_of (comb 1 2 3))
 three_leaves = subst (IsNumbered 3) (sym (comb_is 1 2 3)) (numbered_of_labelled label_one)
 
 within : IsWithinLimits document 4
 within = record {
-  uncrowded = uncrowded;
+  few_trees = few_trees;
   asks = All-from_recursion (λ ask. IsAskWithin 4 ask.kind) document.asks ((3, omega arith, All-from_recursion (λ term. IsNumbered 3 (tree_of term.tree)) one_term (three_leaves, tt)), tt);
 }
 
@@ -202,4 +202,4 @@ forms_text = subst (λ e. IsFormsText (made e) (asks_of document) (codes "l(1,l(
     (subst (λ e. IsFormsText lie_written (query e ∷ []) (codes "l(1,l(2,3)) + l(l(1,3),2)\n")) (sym term_is) plain_forms)
 
 pub lie_done : IsDone forms document 4 steps (codes "l(1,l(2,3)) + l(l(1,3),2)\n")
-lie_done = record { within = within; told = forms_text; paid = paid }
+lie_done = record { within = within; prints = forms_text; paid = paid }
