@@ -28,18 +28,13 @@ use Rattle.operad_answers.specs.Headline.{HasArity, IsInIdeal, LinesDecide, IsRi
 use Rattle.operad_answers.proofs.JoinedTexts.{comparisons_few}
 use Rattle.operad_answers.proofs.Existing.{are_bases}
 use Rattle.operad_answers.proofs.ReducedRules.{reduced_rules}
+use Rattle.operad_answers.proofs.NumberedLists.{nth_is_member}
 use Rattle.operad_answers.proofs.Ordered.{all_members}
 use Rattle.operad_answers.proofs.PrintedLines.{answer_at, answer_lines, blocks_hold, prove_texts_are_read}
 use Rattle.operad_answers.proofs.Forms.{decide, one_answer}
 use Rattle.operad_answers.proofs.Deciding.{verdicts_decide}
 use Rattle.operad_answers.proofs.Questions.{questions_are_elements}
 use Rattle.operad_answers.proofs.WellFormed.{writable_well_formed, documents_writable}
-
-nth_member : {X : Type 0} (i : ℕ) (l : List X) (x : X) → Nth i l x → Mem x l
-nth_member i [] x h = absurd h
-nth_member zero (y ∷ l) x h = absurd h
-nth_member (suc zero) (y ∷ l) x h = inl h
-nth_member (suc (suc i)) (y ∷ l) x h = inr (nth_member (suc i) l x h)
 
 pub all_of : {X : Type 0} (P : X → Type 0) (l : List X) → ((x : X) → Mem x l → P x) → All P l
 all_of P l h = All-from_recursion P l (all_members P l h)
@@ -79,9 +74,9 @@ module _ (d : Document) (formed : IsWritable d) where
         as_many = ap length are ∙ each_long (IsAnswer (written d)) (queries (asks_of d)) printed.answers printed.are_answers;
         ended = printed.text_is ∙ ap (flat_map line) (sym are);
         are_forms = subst (EachWith (IsAnswer (written d)) (queries (asks_of d))) (sym are) printed.are_answers;
-        arities = λ i e he. let k = elements.queried e (nth_member i (queries (asks_of d)) e he) in (k.0, k.1.1);
+        arities = λ i e he. let k = elements.queried e (nth_is_member i (queries (asks_of d)) e he) in (k.0, k.1.1);
         exactly = λ i j e f he hf n a b one two g h.
-            both e f (elements.queried e (nth_member i (queries (asks_of d)) e he)) (elements.queried f (nth_member j (queries (asks_of d)) f hf)) n a b one two
+            both e f (elements.queried e (nth_is_member i (queries (asks_of d)) e he)) (elements.queried f (nth_is_member j (queries (asks_of d)) f hf)) n a b one two
             (answer_at (written d) well_formed i (queries (asks_of d)) printed.answers printed.are_answers e one he (subst (λ l. Nth i l one) are g))
             (answer_at (written d) well_formed j (queries (asks_of d)) printed.answers printed.are_answers f two hf (subst (λ l. Nth j l two) are h));
       }
@@ -168,7 +163,7 @@ module _ (d : Document) (formed : IsWritable d) where
     verdicts = printed.verdicts;
     text_is = printed.text_is;
     are_verdicts = printed.are_verdicts;
-    arities = λ k sides h. let w = elements.compared sides (nth_member k (comparisons (asks_of d)) sides h) in (w.0, (w.1).1, (w.2).1);
+    arities = λ k sides h. let w = elements.compared sides (nth_is_member k (comparisons (asks_of d)) sides h) in (w.0, (w.1).1, (w.2).1);
     right = right;
     as_many = as_many_blocks 1 (comparisons (asks_of d)) printed.verdicts printed.are_verdicts;
     read = λ number. (prove_texts_are_read d formed (asks_of d) elements few text printed number).0;

@@ -87,8 +87,8 @@ formed : IsWellFormed (written lie_document)
 formed = documents_well_formed.1 lie_bytes lie_document lie_is_read
 
 pub lie_holds : HoldsOver lie_document 4 lie_certificate.0
-lie_holds = written_over lie_document formed (jacobi ∷ []) (subst (λ o. AreMonic (setting (presentation o) (comparison o) (jacobi ∷ []))) (sym lie_is_written) certified.monic) ((λ m. m), tt) 4
-    lie_certificate.0 (subst (λ o. IsWritten (presentation o) (comparison o) (jacobi ∷ []) 4 lie_certificate.0) (sym lie_is_written) lie_certificate.1) one_shown
+lie_holds = written_over lie_document formed (jacobi ∷ []) (subst (λ o. AreMonic (setting (presentation o) (comparison o) (jacobi ∷ []))) (sym (lie_is_written lie_document.asks)) certified.monic) ((λ m. m), tt) 4
+    lie_certificate.0 (subst (λ o. IsWritten (presentation o) (comparison o) (jacobi ∷ []) 4 lie_certificate.0) (sym (lie_is_written lie_document.asks)) lie_certificate.1) one_shown
 
 element_steps : HasElementSteps lie_document lie_certificate.0
 element_steps x m = subst (λ (steps : List Step). All (λ (step : Step). IsElement generators (terms_of step.element)) steps) (sym (lie_certificate.2 x m))

@@ -35,6 +35,7 @@ use Rattle.symmetric_sums.proofs.LastOnes.{AllPairs-from_pairs}
 use Rattle.presentation_text.specs.Accepted.{IsDemanded}
 use Rattle.presentation_text.specs.PrintedElements.{IsSaidTerm}
 use Rattle.presentation_text.specs.TreeForms.{any_arity}
+use Rattle.presentation_text.specs.declared.document.Ask.{Ask}
 use Rattle.certificate_text.specs.Plain.{PlainUse, PlainStep, PlainBlock, plain_block}
 use Rattle.certificate_text.specs.Writable.{IsWritableUse, IsWritableStep, IsWritable}
 use Rattle.certificate_text.specs.PrintedBlocks.{block_text}
@@ -45,7 +46,7 @@ use Rattle.symmetric_sums.specs.Uses.{IsGoodUse, sum_of}
 use Rattle.operad_answers.specs.Texts.{Sum}
 use Rattle.operad_answers.specs.Verdicts.{Sides, difference, IsYes}
 use Rattle.operad_answers.proofs.LieTexts.{generators, rules_three, three_are}
-use Rattle.operad_answers.proofs.LieDocument.{lie_document, bracket, comb, jacobi_terms, comb_is, terms_are}
+use Rattle.operad_answers.proofs.LieDocument.{lie_with, bracket, comb, jacobi_terms, comb_is, terms_are}
 
 -- ---- the block
 
@@ -240,9 +241,9 @@ unfolding digits
 first_line = refl
 
 -- `same l(l(1,2),3) = l(1,l(2,3)) + l(l(1,3),2)` gets a yes
-pub lie_yes : IsYes lie_document 1 sides
+pub lie_yes : (asks : List Ask) → IsYes (lie_with asks) 1 sides
     (codes "# 1 yes\nwant l(l(1,2),3) - l(1,l(2,3)) - l(l(1,3),2)\nstep -l(1,l(2,3)) + l(l(1,2),3) - l(l(1,3),2)\nuse 1 ; 0 ; rel 1 ; 1 ; 2 ; 3\nend\n")
-lie_yes = record {
+lie_yes asks = record {
   shown = record {
     block = the_block;
     writable = subst (IsWritable 101 generators) (sym plain_is) writable;

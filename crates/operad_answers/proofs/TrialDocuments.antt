@@ -1,26 +1,24 @@
 -- The document of a trial exists, and writes the presentation of each trial.
-use Rattle.std.proofs.Common.{◌≡◌, ℕ, suc, List, [], ◌∷◌, map, None, refl, sym, ◌∙◌, ap}
+use Rattle.std.proofs.Common.{◌≡◌, ℕ, suc, List, [], ◌∷◌, map, None, refl, ◌∙◌, ap}
 use mathlib.Core.Path.{ap₂}
 use Rattle.operad_ideals.specs.Presentations.{Relation}
 use Rattle.shuffle_transfer.specs.NormalTrees.{OneOrder}
 use Rattle.symmetric_trees.specs.declared.generators.Generator.{Generator}
-use Rattle.symmetric_sums.specs.Instances.{element_arity}
 use Rattle.symmetric_sums.specs.Membership.{relation_of}
-use Rattle.symmetric_sums.specs.Terms.{terms_of}
-use Rattle.symmetric_sums.specs.declared.term.Term.{Term}
-use Rattle.presentation_text.specs.DraftForms.{asked_kind, asked}
+use Rattle.presentation_text.specs.DraftForms.{asked}
 use Rattle.presentation_text.specs.LineForms.{Asked, same}
 use Rattle.presentation_text.specs.declared.document.Ask.{Ask}
 use Rattle.presentation_text.specs.declared.document.AskKind.TheVariants.{Same}
 use Rattle.presentation_text.specs.declared.document.Document.{Document}
 use Rattle.presentation_text.specs.declared.document.OrderName.TheVariants.{Path}
 use Rattle.trial_elements.specs.PreLie.{pre_lie_terms}
-use Rattle.trial_elements.specs.Elements.{minus_one, trial_elements}
+use Rattle.trial_elements.specs.Elements.{minus_one, trial_presentation, trial_elements}
 use Rattle.symmetric_sums.proofs.MadeSums.{program_terms, made_terms}
 use Rattle.operad_answers.specs.OrderedPresentations.{OrderedPresentation, order_named, written}
 use Rattle.operad_answers.specs.Texts.{Sum}
 use Rattle.operad_answers.specs.Verdicts.{numbered_from}
 use Rattle.operad_answers.specs.TrialDocuments.{trial_generator, trial_written, trial_questions, IsTrialDocument}
+use Rattle.operad_answers.proofs.OneText.{relations_of, relations_are, asks_are}
 use Rattle.operad_answers.specs.TrialLaws.{TrialDocumentsExist, TrialDocumentsWrite}
 
 -- ---- the document
@@ -64,36 +62,26 @@ documents_exist seed = (
 
 -- ---- what it writes
 
-abbrev of_terms : Sum → Relation
-of_terms e = record { arity = element_arity e; terms = e }
-
-relations_by_terms : (rels : List (List Term)) → map relation_of rels ≡ map of_terms (map terms_of rels)
-relations_by_terms [] = refl
-relations_by_terms (rel ∷ rels) = ap (λ l. relation_of rel ∷ l) (relations_by_terms rels)
-
 abbrev made : ℕ → List Generator → List Relation → OneOrder → OrderedPresentation
 made p generators relations order = record { field = p; generators = generators; relations = relations; order = order }
 
 written_is : (seed : ℕ) (d : Document) → IsTrialDocument seed d → written d ≡ trial_written
+unfolding relations_of
 written_is seed d h =
-    let relations : map relation_of d.rels ≡ of_terms (pre_lie_terms minus_one) ∷ [] = relations_by_terms d.rels ∙ ap (map of_terms) h.relations_are in
+    let relations : map relation_of d.rels ≡ trial_presentation.relations = relations_are d.rels ∙ ap relations_of h.relations_are in
     ap (λ p. made p d.gens (map relation_of d.rels) (order_named d.order d.weights)) h.field_is
     ∙ ap (λ g. made 32003 g (map relation_of d.rels) (order_named d.order d.weights)) h.generators_are
     ∙ ap (λ l. made 32003 (trial_generator ∷ []) l (order_named d.order d.weights)) relations
-    ∙ ap (λ order. made 32003 (trial_generator ∷ []) (of_terms (pre_lie_terms minus_one) ∷ []) (order_named order d.weights)) h.order_is
+    ∙ ap (λ order. made 32003 (trial_generator ∷ []) trial_presentation.relations (order_named order d.weights)) h.order_is
 
 -- ---- what it asks
 
-asked_back : (asks : List Ask) → map (λ x. x.1) (map asked asks) ≡ map (λ ask. asked_kind ask.kind) asks
-asked_back [] = refl
-asked_back (ask ∷ asks) = ap (λ l. asked_kind ask.kind ∷ l) (asked_back asks)
-
-without_numbers : (k : ℕ) (l : List Asked) → map (λ x. x.1) (numbered_from k l) ≡ l
+without_numbers : (k : ℕ) (l : List Asked) → map (λ (x : ℕ × Asked). x.1) (numbered_from k l) ≡ l
 without_numbers k [] = refl
 without_numbers k (x ∷ l) = ap (λ m. x ∷ m) (without_numbers (suc k) l)
 
 pub documents_write : TrialDocumentsWrite
 documents_write = (
   refl,
-  λ seed d h. (written_is seed d h, sym (asked_back d.asks) ∙ ap (map (λ x. x.1)) h.asks_are ∙ without_numbers 6 (trial_questions seed)),
+  λ seed d h. (written_is seed d h, asks_are d.asks ∙ ap (map (λ (x : ℕ × Asked). x.1)) h.asks_are ∙ without_numbers 6 (trial_questions seed)),
 )
