@@ -6,9 +6,9 @@ use Rattle.shuffle_completion.proofs.Laws.{complete_is_reduced}
 use Rattle.shuffle_completion.proofs.Existence.{complete_through}
 use Rattle.counted_runs.specs.Runs.{run_length}
 use Rattle.symmetric_trees.specs.Trees.{IsLabelled}
-use Rattle.operad_answers.specs.OrderedPresentations.{presentation, comparison, written}
+use Rattle.operad_answers.specs.OrderedPresentations.{presentation, comparison, written, asks_of}
 use Rattle.operad_answers.specs.Texts.{Sum, queries}
-use Rattle.operad_answers.specs.Budgets.{asks_of, question_of, counted, IsPaid}
+use Rattle.operad_answers.specs.Budgets.{question_of, counted, IsPaid}
 use Rattle.operad_answers.specs.Commands.{Command, normal, basis, forms, prove, IsAnsweredBy, IsDone}
 use Rattle.operad_answers.specs.Laws.{ExistenceLaw, BudgetsExist, DoneExists}
 use Rattle.operad_answers.proofs.Bounds.{nth_map}

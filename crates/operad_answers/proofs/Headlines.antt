@@ -18,11 +18,10 @@ use Rattle.presentation_text.specs.declared.document.Document.{Document}
 use Rattle.certificate_text.specs.PrintedBlocks.{block_text}
 use Rattle.certificate_text.specs.Plain.{plain_block}
 use Rattle.certificate_check.specs.Blocks.{BlockHolds}
-use Rattle.operad_answers.specs.OrderedPresentations.{presentation, written, IsWellFormed}
+use Rattle.operad_answers.specs.OrderedPresentations.{presentation, written, IsWellFormed, asks_of}
 use Rattle.operad_answers.specs.Parts.{line}
 use Rattle.operad_answers.specs.Texts.{Sum, EachWith, IsNarrow, queries, IsAnswer, IsFormsText}
 use Rattle.operad_answers.specs.Verdicts.{Sides, comparisons, numbered_from, yes_line, is_yes, yes_number, IsYes, IsNo, IsVerdict, IsProveText, verdict_block, verdict_blocks, AreQuestionsOver}
-use Rattle.operad_answers.specs.Budgets.{asks_of}
 use Rattle.operad_answers.specs.Commands.{Command, normal, basis, forms, prove, IsTextOf}
 use Rattle.operad_answers.specs.Headline.{HasArity, IsInIdeal, LinesDecide, IsRightVerdict, VerdictsAreRight, Means, Headline}
 use Rattle.operad_answers.proofs.JoinedTexts.{comparisons_few}

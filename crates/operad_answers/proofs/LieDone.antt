@@ -31,10 +31,10 @@ use Rattle.presentation_text.specs.Presentations.{IsReadAs}
 use Rattle.presentation_text.specs.declared.document.Ask.{Ask}
 use Rattle.presentation_text.specs.declared.document.AskKind.TheVariants.{Query}
 use Rattle.presentation_text.specs.declared.document.Document.{Document}
-use Rattle.operad_answers.specs.OrderedPresentations.{OrderedPresentation, presentation, comparison, written}
+use Rattle.operad_answers.specs.OrderedPresentations.{OrderedPresentation, presentation, comparison, written, asks_of}
 use Rattle.operad_answers.specs.Texts.{Sum, IsFormsText}
 use Rattle.operad_answers.specs.Limits.{IsAskWithin, HasFewTrees, IsWithinLimits}
-use Rattle.operad_answers.specs.Budgets.{asks_of, counted, IsPaid}
+use Rattle.operad_answers.specs.Budgets.{counted, IsPaid}
 use Rattle.operad_answers.specs.Commands.{forms, IsTextOf, IsAnsweredBy, IsDone}
 use Rattle.operad_answers.proofs.Bounds.{counted_runs_pay}
 use Rattle.operad_answers.proofs.WellFormed.{documents_writable}

@@ -28,11 +28,10 @@ use Rattle.certificate_text.specs.Writable.{IsSaidSum, IsWritableUse, IsWritable
 use Rattle.certificate_text.specs.declared.block.Step.{Step}
 use Rattle.certificate_text.proofs.ReadyBlocks.{prime_positive}
 use Rattle.symmetric_sums.specs.Uses.{IsGoodUse, sum_of}
-use Rattle.operad_answers.specs.OrderedPresentations.{presentation, written, IsWellFormed}
+use Rattle.operad_answers.specs.OrderedPresentations.{presentation, written, IsWellFormed, asks_of}
 use Rattle.operad_answers.specs.Parts.{line}
 use Rattle.operad_answers.specs.Texts.{Sum, EachWith, IsNarrow, IsForm}
 use Rattle.operad_answers.specs.Verdicts.{Sides, difference, comparisons, numbered_from, yes_line, WantingBlock, IsVerdict, IsProveText}
-use Rattle.operad_answers.specs.Budgets.{asks_of}
 use Rattle.operad_answers.specs.Laws.{MembersHaveBlocks, VerdictsExist}
 use Rattle.operad_answers.proofs.CollectedForms.{one_form_of}
 use Rattle.operad_answers.proofs.Forms.{has_form}

@@ -42,12 +42,12 @@ use Rattle.certificate_text.specs.Plain.{plain_block}
 use Rattle.certificate_text.specs.Tails.{AreReadAs}
 use Rattle.certificate_text.specs.declared.block.Block.{Block}
 use Rattle.certificate_check.specs.Blocks.{BlockHolds}
-use Rattle.operad_answers.specs.OrderedPresentations.{OrderedPresentation, presentation, comparison, written, IsWellFormed}
+use Rattle.operad_answers.specs.OrderedPresentations.{OrderedPresentation, presentation, comparison, written, IsWellFormed, asks_of}
 use Rattle.operad_answers.specs.Parts.{line, part_text, AreParts, AreInOrder}
 use Rattle.operad_answers.specs.Texts.{Sum, IsNarrow, queries, IsNormalText, IsBasisText, IsFormsText, IsBasisOfQuotient, IsForm, IsAnswer, IsRuleOf}
 use Rattle.operad_answers.specs.Verdicts.{Sides, difference, comparisons, numbered_from, yes_number, WantingBlock, IsYes, IsNo, IsVerdict, IsProveText, verdict_blocks, AreQuestionsOver}
 use Rattle.operad_answers.specs.Limits.{HasFewTrees, IsWithinLimits}
-use Rattle.operad_answers.specs.Budgets.{asks_of, question_of, counted, IsSpent, IsPaid}
+use Rattle.operad_answers.specs.Budgets.{question_of, counted, IsSpent, IsPaid}
 use Rattle.operad_answers.specs.Commands.{Command, prove, IsTextOf, IsAnsweredBy, IsDone, HasTooManyTrees, AsksGreaterArity}
 
 -- ---- documents

@@ -2,9 +2,8 @@
 use Rattle.std.specs.Prelude.{ℕ, ◌≡◌, List, []}
 use Rattle.presentation_text.specs.declared.document.Document.{Document}
 use Rattle.trial_elements.specs.Elements.{trial_presentation, trial_elements, element_of_line}
-use Rattle.operad_answers.specs.OrderedPresentations.{presentation, written}
+use Rattle.operad_answers.specs.OrderedPresentations.{presentation, written, asks_of}
 use Rattle.operad_answers.specs.Texts.{Sum}
-use Rattle.operad_answers.specs.Budgets.{asks_of}
 use Rattle.operad_answers.specs.TrialDocuments.{trial_written, trial_questions, IsTrialDocument}
 use Rattle.operad_answers.specs.TrialTexts.{IsTrialForm, six_lines, IsTrialText}
 
