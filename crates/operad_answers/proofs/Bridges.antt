@@ -27,13 +27,13 @@ use Rattle.symmetric_trees.specs.SpellingOrder.{order}
 use Rattle.symmetric_trees.specs.Trees.{IsLabelled}
 use Rattle.symmetric_sums.specs.Collected.{IsReduced}
 use Rattle.symmetric_sums.specs.Collecting.{Pairs}
-use Rattle.operad_answers.specs.OrderedPresentations.{OrderedPresentation, presentation, comparison, IsReady}
+use Rattle.operad_answers.specs.OrderedPresentations.{OrderedPresentation, presentation, comparison, IsWellFormed}
 use Rattle.operad_answers.specs.Parts.{AreInOrder}
 use Rattle.operad_answers.specs.Texts.{Sum, IsForm, IsRuleOf}
 use Rattle.operad_answers.specs.Laws.{ListingLaw, CompleteElementsAnswer}
 use Rattle.operad_answers.proofs.Ordered.{Ascending, all_members}
 use Rattle.operad_answers.proofs.Forms.{form_of_same}
-use Rattle.operad_answers.proofs.Ready.{ready_over_field, order_in}
+use Rattle.operad_answers.proofs.WellFormed.{well_formed_over_field, order_in}
 
 abbrev Rule : Type 0
 Rule = Tree ℕ × Sum
@@ -46,9 +46,9 @@ ruled_ascending : (l : List Rule) → Pairs (λ r s. order r.0 s.0 ≡ Less) l �
 ruled_ascending [] h = tt
 ruled_ascending (r ∷ l) h = (ruled_before r.0 l h.0, ruled_ascending l h.1)
 
-module _ (o : OrderedPresentation) (ready : IsReady o) (elements : List Element) (N : ℕ) (complete : IsCompletedThrough (presentation o) (comparison o) elements N) (n : ℕ) (le : n ≤ N) where
+module _ (o : OrderedPresentation) (well_formed : IsWellFormed o) (elements : List Element) (N : ℕ) (complete : IsCompletedThrough (presentation o) (comparison o) elements N) (n : ℕ) (le : n ≤ N) where
   field : IsOverField (presentation o)
-  field = ready_over_field o ready
+  field = well_formed_over_field o well_formed
 
   abbrev S : Tree ℕ → Tree ℕ
   S = symmetric_tree (presentation o)
@@ -92,7 +92,7 @@ module _ (o : OrderedPresentation) (ready : IsReady o) (elements : List Element)
         let f : IsNormalFormOf (presentation o) (comparison o) n ((1, r.0) ∷ []) (scale q (moved S (s.0).tail))
         = subst (λ t. IsNormalFormOf (presentation o) (comparison o) n ((1, t) ∷ []) (scale q (moved S (s.0).tail))) (sym s.3.tree_is)
         (subst (λ k. IsNormalFormOf (presentation o) (comparison o) k ((1, S (s.0).lead) ∷ []) (scale q (moved S (s.0).tail))) s.2 e.normal_form) in
-        form_of_same o ready n ((1, r.0) ∷ []) (scale q (moved S (s.0).tail)) r.1 f s.3.tail_is s.3.reduced
+        form_of_same o well_formed n ((1, r.0) ∷ []) (scale q (moved S (s.0).tail)) r.1 f s.3.tail_is s.3.reduced
 
     ruled : Pairs (λ r s. order r.0 s.0 ≡ Less) rules → AreInOrder (IsMinimal (presentation o) (comparison o) n) (map (λ r. r.0) rules) × AllByRecursion (λ r. IsForm o n ((1, r.0) ∷ []) r.1) rules
     ruled a = (
@@ -116,10 +116,10 @@ module _ (o : OrderedPresentation) (ready : IsReady o) (elements : List Element)
       let chain2 = (chains_join s n).0 (shuffled (presentation o) e) (shuffled (presentation o) e) uses f g (λ t. refl) fg chain in
       let form = forms_by_chains (presentation o) field.sound field.wide (comparison o) (order_in o) elements N complete.certified more ext n le e v uses g chain2
       (λ t k. finished t (has_same tree_discrete q g f (λ u. sym (fg u)) t k)) (trim_no_zeros tree_discrete q f) in
-      form_of_same o ready n e (moved S g) h form (λ t. same t ∙ Same-moved tree_discrete tree_discrete q S f g fg t) r
+      form_of_same o well_formed n e (moved S g) h form (λ t. same t ∙ Same-moved tree_discrete tree_discrete q S f g fg t) r
 
   pub listing_law : ListingLaw o elements n
   listing_law = record { listed = listed; ruled = λ two rules a source rule. ruled two rules source rule a; reduced = reduced }
 
 pub complete_elements_answer : CompleteElementsAnswer
-complete_elements_answer o ready elements N complete n le = listing_law o ready elements N complete n le
+complete_elements_answer o well_formed elements N complete n le = listing_law o well_formed elements N complete n le

@@ -16,13 +16,13 @@ use Rattle.symmetric_trees.specs.Trees.{IsLabelled}
 use Rattle.presentation_text.specs.LineForms.{Asked}
 use Rattle.presentation_text.specs.SumText.{sum_text}
 use Rattle.presentation_text.specs.TreeText.{tree_text}
-use Rattle.operad_answers.specs.OrderedPresentations.{OrderedPresentation, presentation, comparison, IsReady}
+use Rattle.operad_answers.specs.OrderedPresentations.{OrderedPresentation, presentation, comparison, IsWellFormed}
 use Rattle.operad_answers.specs.Parts.{line, part_text, AreParts, AreInOrder}
 use Rattle.operad_answers.specs.Texts.{Sum, EachWith, queries, IsNormalPart, IsBasisPart, IsBasisOfQuotient, IsForm, IsAnswer, IsFormsText, IsNormalText, rule_text}
 use Rattle.operad_answers.specs.Laws.{TextsExist, NormalTextsAreBases}
 use Rattle.operad_answers.proofs.Ordered.{sorted, in_order, those_of_order, all_members}
 use Rattle.operad_answers.proofs.Forms.{has_form}
-use Rattle.operad_answers.proofs.Ready.{ready_over_field, order_in}
+use Rattle.operad_answers.proofs.WellFormed.{well_formed_over_field, order_in}
 
 -- ---- parts
 
@@ -37,9 +37,9 @@ pub parts_are : (IsPart IsOther : ℕ → List ℕ → Type 0) → ((n : ℕ) (t
 parts_are IsPart IsOther f first zero text h = h
 parts_are IsPart IsOther f first (suc k) text h = (h.0, h.1, parts_are IsPart IsOther f first k h.0 h.2, f (first + k) h.1 h.3, h.4)
 
-module _ (o : OrderedPresentation) (ready : IsReady o) where
+module _ (o : OrderedPresentation) (well_formed : IsWellFormed o) where
   field : IsOverField (presentation o)
-  field = ready_over_field o ready
+  field = well_formed_over_field o well_formed
 
   -- ---- normal trees
 
@@ -77,7 +77,7 @@ module _ (o : OrderedPresentation) (ready : IsReady o) where
   rules_of : (n : ℕ) (l : List (Tree ℕ)) → ((t : Tree ℕ) → Mem t l → IsLabelled o.generators n t) → Rules n l
   rules_of n [] h = record { rules = []; trees = refl; forms = tt }
   rules_of n (t ∷ l) h =
-      let f = has_form o ready n ((1, t) ∷ []) (h t (inl refl), tt) in
+      let f = has_form o well_formed n ((1, t) ∷ []) (h t (inl refl), tt) in
       let rest = rules_of n l (λ u m. h u (inr m)) in
       record { rules = (t, f.0) ∷ rest.rules; trees = ap (λ k. t ∷ k) rest.trees; forms = (f.1, rest.forms) }
 
@@ -99,7 +99,7 @@ module _ (o : OrderedPresentation) (ready : IsReady o) where
 
   answer_to : (n : ℕ) (e : Sum) → AllTerms e (IsLabelled o.generators n) → (answer : List ℕ) × IsAnswer o e answer
   answer_to n e v =
-      let f = has_form o ready n e v in
+      let f = has_form o well_formed n e v in
       (sum_text o.field o.generators f.0, record { arity = n; labelled = v; form = f.0; is_form = f.1; answer_is = refl })
 
   answers_to : (es : List Sum) → ((e : Sum) → Mem e es → (n : ℕ) × AllTerms e (IsLabelled o.generators n)) → (answers : List (List ℕ)) × EachWith (IsAnswer o) es answers
@@ -114,11 +114,11 @@ module _ (o : OrderedPresentation) (ready : IsReady o) where
   forms_text asks h = let a = answers_to (queries asks) h in (flat_map line a.0, record { answers = a.0; are_answers = a.1; text_is = refl })
 
 pub texts_exist : TextsExist
-texts_exist o ready = record {
-  normal = λ N. parts_exist (IsNormalPart o) 1 (λ n l. normal_part o ready n) N;
-  basis = λ N. parts_exist (IsBasisPart o) 2 (basis_part o ready) (N - 1);
-  answer = answer_to o ready;
-  forms = forms_text o ready;
+texts_exist o well_formed = record {
+  normal = λ N. parts_exist (IsNormalPart o) 1 (λ n l. normal_part o well_formed n) N;
+  basis = λ N. parts_exist (IsBasisPart o) 2 (basis_part o well_formed) (N - 1);
+  answer = answer_to o well_formed;
+  forms = forms_text o well_formed;
 }
 
 pub normal_texts_are_bases : NormalTextsAreBases

@@ -26,21 +26,21 @@ use Rattle.symmetric_sums.proofs.Expansions.{one_label}
 use Rattle.symmetric_sums.proofs.Forms.{one_reduced}
 use Rattle.presentation_text.specs.SumText.{IsPrintable, sum_text}
 use Rattle.presentation_text.proofs.PrintedSums.{read_back}
-use Rattle.operad_answers.specs.OrderedPresentations.{OrderedPresentation, presentation, comparison, IsReady}
+use Rattle.operad_answers.specs.OrderedPresentations.{OrderedPresentation, presentation, comparison, IsWellFormed}
 use Rattle.operad_answers.specs.Texts.{Sum, IsForm, IsAnswer}
 use Rattle.operad_answers.proofs.Collected.{reduced_stands, read_out, read_same, read_reduced, less_same}
 use Rattle.operad_answers.proofs.Ordered.{sorted, in_order}
-use Rattle.operad_answers.proofs.Ready.{ready_over_field, order_in, prime_above}
+use Rattle.operad_answers.proofs.WellFormed.{well_formed_over_field, order_in, prime_above}
 
-module _ (o : OrderedPresentation) (ready : IsReady o) where
+module _ (o : OrderedPresentation) (well_formed : IsWellFormed o) where
   abbrev p : Presentation
   p = presentation o
 
   pub whole : suc (o.field - 1) ≡ o.field
-  whole = let above = prime_above o.field ready.prime in omega (arith, above)
+  whole = let above = prime_above o.field well_formed.prime in omega (arith, above)
 
   positive : 0 < o.field
-  positive = let above = prime_above o.field ready.prime in omega (arith, above)
+  positive = let above = prime_above o.field well_formed.prime in omega (arith, above)
 
   nothing_reduced : IsReduced o.field (parts_at o.generators) []
   nothing_reduced = record { sorted = λ k d l. absurd (omega (arith, l)); ascending = λ i j d l w. absurd (omega (arith, w)); residues = λ k d l. absurd (omega (arith, l)) }
@@ -56,7 +56,7 @@ module _ (o : OrderedPresentation) (ready : IsReady o) where
   )
     where
       law : InIdeal (presentation o) n (d ++ scale (presentation o).q e) ↔ Same tree_discrete (presentation o).q f g
-      law = normal_forms_decide (presentation o) ready.sound (comparison o) (order_in o) n d e f g a.normal_form b.normal_form
+      law = normal_forms_decide (presentation o) well_formed.sound (comparison o) (order_in o) n d e f g a.normal_form b.normal_form
 
   pub one_form : (n : ℕ) (e f g : Sum) → IsForm o n e f → IsForm o n e g → f ≡ g
   one_form n e f g a b = (decided n e e f g a b).0 (ideal-same (presentation o) n (e ++ scale (presentation o).q e) [] (same_gone tree_discrete (presentation o).q e) (ideal_zero (presentation o) n))
@@ -106,7 +106,7 @@ module _ (o : OrderedPresentation) (ready : IsReady o) where
       law = decided n d e a.form b.form one two
 
       apart : sum_text o.field o.generators a.form ≡ sum_text o.field o.generators b.form → a.form ≡ b.form
-      apart = (read_back o.field o.generators ready.prime ready.table ready.words).apart a.form b.form
+      apart = (read_back o.field o.generators well_formed.prime well_formed.table well_formed.words).apart a.form b.form
           (printable n a.form few one.reduced.residues (form_labelled n d a.form one)) (printable n b.form few two.reduced.residues (form_labelled n e b.form two))
 
   -- ---- normal forms that are the same, and reduced
@@ -125,7 +125,7 @@ module _ (o : OrderedPresentation) (ready : IsReady o) where
   -- each element has one
   pub has_form : (n : ℕ) (e : Sum) → AllTerms e (IsLabelled o.generators n) → (f : Sum) × IsForm o n e f
   has_form n e v =
-      let field = ready_over_field o ready in
+      let field = well_formed_over_field o well_formed in
       let s = some_form (presentation o) field (comparison o) (order_in o) n e v in
       let l = normal_trees (presentation o) field (comparison o) (order_in o) n in
       let q = (presentation o).q in

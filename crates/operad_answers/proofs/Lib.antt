@@ -2,7 +2,6 @@ pub mod AskedElements
 pub mod Bounds
 pub mod Bridges
 pub mod CertificateLaws
-pub mod CertificatePremises
 pub mod Collected
 pub mod CollectedForms
 pub mod Deciding
@@ -26,13 +25,14 @@ pub mod LieTexts
 pub mod Limits
 pub mod Members
 pub mod NumberedLists
+pub mod OneGenerator
 pub mod OneText
 pub mod Ordered
 pub mod PrintedLines
 pub mod PrintedTrees
 pub mod ProgramSums
 pub mod Questions
-pub mod Ready
+pub mod WellFormed
 pub mod ReducedRules
 mod TrialDocuments
 mod TrialTexts

@@ -35,6 +35,7 @@ use Rattle.symmetric_sums.proofs.LastOnes.{AllPairs-from_pairs}
 use Rattle.presentation_text.specs.Accepted.{IsDemanded}
 use Rattle.presentation_text.specs.PrintedElements.{IsSaidTerm}
 use Rattle.presentation_text.specs.TreeForms.{any_arity}
+use Rattle.presentation_text.specs.declared.document.Ask.{Ask}
 use Rattle.certificate_text.specs.Plain.{PlainUse, PlainStep, PlainBlock, plain_block}
 use Rattle.certificate_text.specs.Writable.{IsWritableUse, IsWritableStep, IsWritable}
 use Rattle.certificate_text.specs.PrintedBlocks.{block_text}
@@ -45,7 +46,7 @@ use Rattle.symmetric_sums.specs.Uses.{IsGoodUse, sum_of}
 use Rattle.operad_answers.specs.Texts.{Sum}
 use Rattle.operad_answers.specs.Verdicts.{Sides, difference, IsYes}
 use Rattle.operad_answers.proofs.LieTexts.{generators, rules_three, three_are}
-use Rattle.operad_answers.proofs.LieDocument.{lie_document, bracket, comb, jacobi_terms, comb_is, terms_are}
+use Rattle.operad_answers.proofs.LieDocument.{lie_with, bracket, comb, jacobi_terms, comb_is, terms_are}
 
 -- ---- the block
 
@@ -67,7 +68,7 @@ element = at 100 right_comb ∷ (at 1 (comb 1 2 3) ∷ (at 100 (comb 1 3 2) ∷ 
 abbrev use_one : Instance
 use_one = record { coef = 1; context = Leaf 0; rule = Rel 1; inputs = Leaf 1 ∷ (Leaf 2 ∷ (Leaf 3 ∷ [])) }
 
-abbrev step_one : Step
+abbrev pub step_one : Step
 step_one = record { element = element; uses = use_one ∷ [] }
 
 abbrev the_block : Block
@@ -78,7 +79,7 @@ the_block = record { want = want; steps = step_one ∷ [] }
 abbrev wanted_sum : Sum
 wanted_sum = (1, t1) ∷ ((100, t3) ∷ ((100, t2) ∷ []))
 
-abbrev step_sum : Sum
+abbrev pub step_sum : Sum
 step_sum = (100, t3) ∷ ((1, t1) ∷ ((100, t2) ∷ []))
 
 three_terms : (i j k : ℕ) (a b c : ProgramTree) (x y z : Tree ℕ) → tree_of a ≡ x → tree_of b ≡ y → tree_of c ≡ z
@@ -89,7 +90,7 @@ three_terms i j k a b c x y z e f g =
 want_is : terms_of want ≡ wanted_sum
 want_is = three_terms 1 100 100 (comb 1 2 3) right_comb (comb 1 3 2) t1 t3 t2 (comb_is 1 2 3) right_is (comb_is 1 3 2)
 
-element_is : terms_of element ≡ step_sum
+pub element_is : terms_of element ≡ step_sum
 element_is = three_terms 100 1 100 right_comb (comb 1 2 3) (comb 1 3 2) t3 t1 t2 right_is (comb_is 1 2 3) (comb_is 1 3 2)
 
 abbrev leaves_three : List (Tree ℕ)
@@ -124,24 +125,24 @@ label_two = ((three_are.all t2).0 (inr (inl refl))).labelled
 label_three : IsLabelled generators 3 t3
 label_three = ((three_are.all t3).0 (inl refl)).labelled
 
-said_one : (c : ℕ) → 0 < c → c < 101 → IsSaidTerm 101 generators 3 (c, t1)
-said_one c some small = record { nonzero = some; residue = small; tree = record { labelled = label_one; narrow = omega arith; shallow = omega arith } }
+writable_one : (c : ℕ) → 0 < c → c < 101 → IsSaidTerm 101 generators 3 (c, t1)
+writable_one c some small = record { nonzero = some; residue = small; tree = record { labelled = label_one; narrow = omega arith; shallow = omega arith } }
 
-said_two : (c : ℕ) → 0 < c → c < 101 → IsSaidTerm 101 generators 3 (c, t2)
-said_two c some small = record { nonzero = some; residue = small; tree = record { labelled = label_two; narrow = omega arith; shallow = omega arith } }
+writable_two : (c : ℕ) → 0 < c → c < 101 → IsSaidTerm 101 generators 3 (c, t2)
+writable_two c some small = record { nonzero = some; residue = small; tree = record { labelled = label_two; narrow = omega arith; shallow = omega arith } }
 
-said_three : (c : ℕ) → 0 < c → c < 101 → IsSaidTerm 101 generators 3 (c, t3)
-said_three c some small = record { nonzero = some; residue = small; tree = record { labelled = label_three; narrow = omega arith; shallow = omega arith } }
+writable_three : (c : ℕ) → 0 < c → c < 101 → IsSaidTerm 101 generators 3 (c, t3)
+writable_three c some small = record { nonzero = some; residue = small; tree = record { labelled = label_three; narrow = omega arith; shallow = omega arith } }
 
 demanded : (i : ℕ) → i ≤ 99 → IsDemanded generators (any_arity true) (leaf i)
 demanded i small = record { fits = tt; shallow = omega arith; narrow = omega arith; small = small; numbered = λ e. cc; least = omega arith; arity = λ n e. cc }
 
 writable : IsWritable 101 generators (made wanted_sum step_sum (leaf 0) leaves_three)
 writable = record {
-  want = (3, All-from_recursion (IsSaidTerm 101 generators 3) wanted_sum (said_one 1 (omega arith) (omega arith), (said_three 100 (omega arith) (omega arith), (said_two 100 (omega arith) (omega arith), tt))));
+  want = (3, All-from_recursion (IsSaidTerm 101 generators 3) wanted_sum (writable_one 1 (omega arith) (omega arith), (writable_three 100 (omega arith) (omega arith), (writable_two 100 (omega arith) (omega arith), tt))));
   steps = All-from_recursion (IsWritableStep 101 generators) (plain_step_one ∷ []) (
     record {
-      element = (3, All-from_recursion (IsSaidTerm 101 generators 3) step_sum (said_three 100 (omega arith) (omega arith), (said_one 1 (omega arith) (omega arith), (said_two 100 (omega arith) (omega arith), tt))));
+      element = (3, All-from_recursion (IsSaidTerm 101 generators 3) step_sum (writable_three 100 (omega arith) (omega arith), (writable_one 1 (omega arith) (omega arith), (writable_two 100 (omega arith) (omega arith), tt))));
       uses = All-from_recursion (IsWritableUse 101 generators) (plain_use_one ∷ []) (
         record {
           coef = omega arith;
@@ -162,7 +163,7 @@ used_is : moved (in_place use_one) (terms_of jacobi_terms) ≡ jacobi_relation.t
 used_is = ap (λ c. moved (placed c (map tree_of (Leaf 1 ∷ (Leaf 2 ∷ (Leaf 3 ∷ []))))) (terms_of jacobi_terms)) (tree_of-leaf 0)
     ∙ ap (λ i. moved (placed (leaf 0) i) (terms_of jacobi_terms)) inputs_are ∙ ap (moved (placed (leaf 0) leaves_three)) terms_are
 
-abbrev rels : List (List Term)
+abbrev pub rels : List (List Term)
 rels = jacobi_terms ∷ []
 
 sum_is : sum_of 101 generators rels [] (use_one ∷ []) ≡ jacobi_relation.terms
@@ -191,14 +192,14 @@ valid = record {
   labelled = subst (λ e. AllTerms e (IsLabelled generators 3)) (sym used_is) (sound jacobi_relation (inl refl));
 }
 
-step_reduced : IsReduced 101 (parts_at generators) step_sum
+pub step_reduced : IsReduced 101 (parts_at generators) step_sum
 step_reduced = record {
   sorted = All-from_recursion (λ x. IsSorted (parts lie) x.1) step_sum (((three_are.all t3).0 (inl refl)).sorted, ((((rules_three.0).all t1).0 (inl refl)).sorted, (((three_are.all t2).0 (inr (inl refl))).sorted, tt)));
   ascending = AllPairs-from_pairs (λ x y. tree_order x.1 y.1 ≡ Less) step_sum ((refl, (refl, tt)), ((refl, tt), (tt, tt)));
   residues = All-from_recursion (λ x. (0 < x.0) × (x.0 < 101)) step_sum ((omega arith, omega arith), ((omega arith, omega arith), ((omega arith, omega arith), tt)));
 }
 
-collected_step : IsCollected 101 (parts_at generators) step_sum step_sum × IsCollected 101 (parts_at generators) jacobi_relation.terms step_sum × IsCollected 101 (parts_at generators) wanted_sum step_sum
+pub collected_step : IsCollected 101 (parts_at generators) step_sum step_sum × IsCollected 101 (parts_at generators) jacobi_relation.terms step_sum × IsCollected 101 (parts_at generators) wanted_sum step_sum
 unfolding ℕ_discrete tree_discrete tree_discrete_by row_discrete_by same_leaf same_node same_more coef
 collected_step = (
   record { reduced = step_reduced; same = same_if_agree tree_discrete 100 step_sum (spelled_sum 100 (parts lie) step_sum) refl },
@@ -206,10 +207,10 @@ collected_step = (
   record { reduced = step_reduced; same = same_if_agree tree_discrete 100 step_sum (spelled_sum 100 (parts lie) wanted_sum) refl },
 )
 
-abbrev Collects : Sum → Type 0
+abbrev pub Collects : Sum → Type 0
 Collects e = IsCollected 101 (parts_at generators) e step_sum
 
-holds : BlockHolds 101 generators rels want (step_one ∷ [])
+pub holds : BlockHolds 101 generators rels want (step_one ∷ [])
 holds = record {
   steps_hold = (
     record {
@@ -240,9 +241,9 @@ unfolding digits
 first_line = refl
 
 -- `same l(l(1,2),3) = l(1,l(2,3)) + l(l(1,3),2)` gets a yes
-pub lie_yes : IsYes lie_document 1 sides
+pub lie_yes : (asks : List Ask) → IsYes (lie_with asks) 1 sides
     (codes "# 1 yes\nwant l(l(1,2),3) - l(1,l(2,3)) - l(l(1,3),2)\nstep -l(1,l(2,3)) + l(l(1,2),3) - l(l(1,3),2)\nuse 1 ; 0 ; rel 1 ; 1 ; 2 ; 3\nend\n")
-lie_yes = record {
+lie_yes asks = record {
   shown = record {
     block = the_block;
     writable = subst (IsWritable 101 generators) (sym plain_is) writable;

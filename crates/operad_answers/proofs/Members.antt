@@ -39,7 +39,7 @@ use Rattle.operad_answers.specs.OrderedPresentations.{presentation, written}
 use Rattle.operad_answers.specs.Texts.{Sum}
 use Rattle.labelled_trees.proofs.MadeTrees.{program_tree, made_tree, made_trees}
 use Rattle.operad_answers.proofs.ProgramSums.{multiple-same}
-use Rattle.operad_answers.proofs.Ready.{writable_ready}
+use Rattle.operad_answers.proofs.WellFormed.{writable_well_formed}
 use Rattle.presentation_text.proofs.ShortTrees.{context_demanded, inputs_demanded}
 
 -- ---- sums one after the other
@@ -158,7 +158,7 @@ module _ (d : Document) (formed : IsWritable d) (n : ℕ) (few : n ≤ 9) where
 
     used_writable : (x : ℕ × Tree ℕ) (e : Sum) → r.terms ≡ x ∷ e → IsWritableUse d.field d.gens (plain_use used)
     used_writable x e is =
-        let own : AllTerms (x ∷ e) (IsLabelled d.gens r.arity) = subst (λ f. AllTerms f (IsLabelled d.gens r.arity)) is ((writable_ready d formed).sound r m) in
+        let own : AllTerms (x ∷ e) (IsLabelled d.gens r.arity) = subst (λ f. AllTerms f (IsLabelled d.gens r.arity)) is ((writable_well_formed d formed).sound r m) in
         let large : AllTerms (moved (placed context inputs) (x ∷ e)) (IsLabelled d.gens n) = subst (λ f. AllTerms (moved (placed context inputs) f) (IsLabelled d.gens n)) is labelled in
         let within = number.within in
         let most = formed.few in

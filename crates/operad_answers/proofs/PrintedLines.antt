@@ -32,13 +32,13 @@ use Rattle.certificate_text.proofs.BlocksRead.{blocks_accepted}
 use Rattle.certificate_text.proofs.PresentationLaws.{trees_are_accepted, elements_are_accepted}
 use Rattle.certificate_text.proofs.PrintedLines.{blocks_read_back}
 use Rattle.certificate_check.specs.Blocks.{BlockHolds}
-use Rattle.operad_answers.specs.OrderedPresentations.{OrderedPresentation, written, IsReady}
+use Rattle.operad_answers.specs.OrderedPresentations.{OrderedPresentation, written, IsWellFormed}
 use Rattle.operad_answers.specs.Parts.{line}
 use Rattle.operad_answers.specs.Texts.{Sum, EachWith, IsNarrow, queries, IsForm, IsAnswer, IsFormsText}
-use Rattle.operad_answers.specs.Verdicts.{Sides, difference, comparisons, numbered_from, IsVerdict, IsProveText, verdict_block, verdict_blocks, AreElements}
+use Rattle.operad_answers.specs.Verdicts.{Sides, difference, comparisons, numbered_from, IsVerdict, IsProveText, verdict_block, verdict_blocks, AreQuestionsOver}
 use Rattle.operad_answers.specs.Laws.{QueryLinesDecide, ProveTextsAreRead}
 use Rattle.operad_answers.proofs.Forms.{form_at, form_printable, decide}
-use Rattle.operad_answers.proofs.Ready.{writable_ready}
+use Rattle.operad_answers.proofs.WellFormed.{writable_well_formed}
 
 -- ---- lines that end
 
@@ -64,12 +64,12 @@ all_lines (c ∷ l) h = line_first c (flat_map line l) (h c (inl refl)) ∙ ap (
 
 -- ---- the lines of answers
 
-module _ (o : OrderedPresentation) (ready : IsReady o) where
+module _ (o : OrderedPresentation) (well_formed : IsWellFormed o) where
   no_feed-form : (n : ℕ) (e f : Sum) → n ≤ 9 → IsForm o n e f → HasNoFeed (sum_text o.field o.generators f)
-  no_feed-form n e f few h = no_feed-sum o.field o.generators ready.words (small_prime o.field ready.prime) f (form_printable o ready n e f few h)
+  no_feed-form n e f few h = no_feed-sum o.field o.generators well_formed.words (small_prime o.field well_formed.prime) f (form_printable o well_formed n e f few h)
 
   no_feed-answer : (n : ℕ) (e : Sum) (answer : List ℕ) → IsNarrow o.generators n e → IsAnswer o e answer → HasNoFeed answer
-  no_feed-answer n e answer narrow h = subst HasNoFeed (sym h.answer_is) (no_feed-form n e h.form narrow.0 (form_at o ready h.arity n e h.form h.labelled narrow.1 h.is_form))
+  no_feed-answer n e answer narrow h = subst HasNoFeed (sym h.answer_is) (no_feed-form n e h.form narrow.0 (form_at o well_formed h.arity n e h.form h.labelled narrow.1 h.is_form))
 
   no_feeds : (es : List Sum) (answers : List (List ℕ)) → EachWith (IsAnswer o) es answers → ((e : Sum) → Mem e es → (n : ℕ) × IsNarrow o.generators n e) → (c : List ℕ) → Mem c answers → HasNoFeed c
   no_feeds [] [] each h c m = absurd m
@@ -78,8 +78,8 @@ module _ (o : OrderedPresentation) (ready : IsReady o) where
   no_feeds (e ∷ es) (a ∷ answers) each h c (inl k) = let n = h e (inl refl) in subst HasNoFeed (sym k) (no_feed-answer n.0 e a n.1 each.0)
   no_feeds (e ∷ es) (a ∷ answers) each h c (inr k) = no_feeds es answers each.1 (λ f i. h f (inr i)) c k
 
-  pub answer_lines : (asks : List Asked) → AreElements o.generators asks → (text : List ℕ) (told : IsFormsText o asks text) → lines text ≡ told.answers
-  answer_lines asks elements text told = ap lines told.text_is ∙ all_lines told.answers (no_feeds (queries asks) told.answers told.are_answers elements.queried)
+  pub answer_lines : (asks : List Asked) → AreQuestionsOver o.generators asks → (text : List ℕ) (printed : IsFormsText o asks text) → lines text ≡ printed.answers
+  answer_lines asks elements text printed = ap lines printed.text_is ∙ all_lines printed.answers (no_feeds (queries asks) printed.answers printed.are_answers elements.queried)
 
   pub answer_at : (i : ℕ) (es : List Sum) (answers : List (List ℕ)) → EachWith (IsAnswer o) es answers → (e : Sum) (answer : List ℕ) → Nth i es e → Nth i answers answer → IsAnswer o e answer
   answer_at i [] answers each e answer h g = absurd h
@@ -89,10 +89,10 @@ module _ (o : OrderedPresentation) (ready : IsReady o) where
   answer_at (suc (suc i)) (x ∷ es) (a ∷ answers) each e answer h g = answer_at (suc i) es answers each.1 e answer h g
 
 pub query_lines_decide : QueryLinesDecide
-query_lines_decide o ready asks others elements their text other a b i j d e hd he n nd ne one two h g =
-    decide o ready n nd.0 d e nd.1 ne.1 one two
-    (answer_at o ready i (queries asks) a.answers a.are_answers d one hd (subst (λ l. Nth i l one) (answer_lines o ready asks elements text a) h))
-    (answer_at o ready j (queries others) b.answers b.are_answers e two he (subst (λ l. Nth j l two) (answer_lines o ready others their other b) g))
+query_lines_decide o well_formed asks others elements their text other a b i j d e hd he n nd ne one two h g =
+    decide o well_formed n nd.0 d e nd.1 ne.1 one two
+    (answer_at o well_formed i (queries asks) a.answers a.are_answers d one hd (subst (λ l. Nth i l one) (answer_lines o well_formed asks elements text a) h))
+    (answer_at o well_formed j (queries others) b.answers b.are_answers e two he (subst (λ l. Nth j l two) (answer_lines o well_formed others their other b) g))
 
 -- ---- lines that count, of texts one behind the other
 
@@ -141,8 +141,8 @@ block_ends p d block =
 -- ---- the lines of verdicts
 
 module _ (d : Document) (formed : IsWritable d) where
-  ready : IsReady (written d)
-  ready = writable_ready d formed
+  well_formed : IsWellFormed (written d)
+  well_formed = writable_well_formed d formed
 
   abbrev texts_of : List Block → List ℕ
   texts_of blocks = flat_map (block_text d.field d.gens) (map plain_block blocks)
@@ -176,10 +176,10 @@ module _ (d : Document) (formed : IsWritable d) where
       let f = sum_text d.field d.gens h.form in
       let labelled : AllTerms (difference d.field sides) (IsLabelled d.gens both.0)
       = AllTerms-append sides.left (scale (d.field - 1) sides.right) (IsLabelled d.gens both.0) (both.1).1 (AllTerms-scale (d.field - 1) sides.right (IsLabelled d.gens both.0) (both.2).1) in
-      let form = form_at (written d) ready h.arity both.0 (difference d.field sides) h.form h.labelled labelled h.is_form in
+      let form = form_at (written d) well_formed h.arity both.0 (difference d.field sides) h.form h.labelled labelled h.is_form in
       ap (λ t. counted_tokens (lines (t ++ rest))) h.text_is
       ∙ comment_passed (32 ∷ (decimal k ++ (codes " no " ++ f))) rest
-      (no_feed-number k small (codes " no " ++ f) (no_feed-append (codes " no ") f no_feed-no (no_feed-form (written d) ready both.0 (difference d.field sides) h.form (both.1).0 form)))
+      (no_feed-number k small (codes " no " ++ f) (no_feed-append (codes " no ") f no_feed-no (no_feed-form (written d) well_formed both.0 (difference d.field sides) h.form (both.1).0 form)))
 
   texts-append : (k l : List Block) → texts_of (k ++ l) ≡ texts_of k ++ texts_of l
   texts-append [] l = refl
@@ -237,27 +237,27 @@ module _ (d : Document) (formed : IsWritable d) where
   accepted : BlocksAreAccepted
   accepted = blocks_accepted trees_are_accepted elements_are_accepted
 
-  module _ (asks : List Asked) (elements : AreElements d.gens asks) (few : length (comparisons asks) < 2 ^ 63) (text : List ℕ) (told : IsProveText d asks text) where
+  module _ (asks : List Asked) (elements : AreQuestionsOver d.gens asks) (few : length (comparisons asks) < 2 ^ 63) (text : List ℕ) (printed : IsProveText d asks text) where
     abbrev blocks : List Block
-    blocks = verdict_blocks d (numbered_from 1 (comparisons asks)) told.verdicts told.are_verdicts
+    blocks = verdict_blocks d (numbered_from 1 (comparisons asks)) printed.verdicts printed.are_verdicts
 
-    each_good : (block : Block) → Mem block (verdict_blocks d (numbered_from 1 (comparisons asks)) told.verdicts told.are_verdicts) → Good block
-    each_good = good_all 1 (comparisons asks) told.verdicts told.are_verdicts
+    each_good : (block : Block) → Mem block (verdict_blocks d (numbered_from 1 (comparisons asks)) printed.verdicts printed.are_verdicts) → Good block
+    each_good = good_all 1 (comparisons asks) printed.verdicts printed.are_verdicts
 
     same_tokens : counted_tokens (lines text) ≡ counted_tokens (lines (texts_of blocks))
-    same_tokens = ap (λ t. counted_tokens (lines t)) told.text_is ∙ all_verdicts 1 (comparisons asks) (omega (arith, few)) elements.compared told.verdicts told.are_verdicts
+    same_tokens = ap (λ t. counted_tokens (lines t)) printed.text_is ∙ all_verdicts 1 (comparisons asks) (omega (arith, few)) elements.compared printed.verdicts printed.are_verdicts
 
     pub prove_read : (number : ℕ) → blocks_from (base_of d) (between, []) number (lines text) ≡ Ok (map plain_block blocks)
     prove_read number =
         let back = blocks_read_back accepted (base_of d) formed.field formed.table formed.words number (map plain_block blocks) (writable_all blocks each_good) in
-        let said = (accepted (base_of d) formed.table number (lines (texts_of blocks)) (map plain_block blocks)).0 back in
-        (accepted (base_of d) formed.table number (lines text) (map plain_block blocks)).1 (subst (λ l. AreBlockLines d.field d.gens l (map plain_block blocks)) (sym same_tokens) said)
+        let block_lines = (accepted (base_of d) formed.table number (lines (texts_of blocks)) (map plain_block blocks)).0 back in
+        (accepted (base_of d) formed.table number (lines text) (map plain_block blocks)).1 (subst (λ l. AreBlockLines d.field d.gens l (map plain_block blocks)) (sym same_tokens) block_lines)
 
 -- each block holds
-pub blocks_hold : (d : Document) → IsWritable d → (asks : List Asked) (text : List ℕ) (told : IsProveText d asks text) → (block : Block)
-    → Mem block (verdict_blocks d (numbered_from 1 (comparisons asks)) told.verdicts told.are_verdicts) → BlockHolds d.field d.gens d.rels block.want block.steps
-blocks_hold d formed asks text told block m = (good_all d formed 1 (comparisons asks) told.verdicts told.are_verdicts block m).0
+pub blocks_hold : (d : Document) → IsWritable d → (asks : List Asked) (text : List ℕ) (printed : IsProveText d asks text) → (block : Block)
+    → Mem block (verdict_blocks d (numbered_from 1 (comparisons asks)) printed.verdicts printed.are_verdicts) → BlockHolds d.field d.gens d.rels block.want block.steps
+blocks_hold d formed asks text printed block m = (good_all d formed 1 (comparisons asks) printed.verdicts printed.are_verdicts block m).0
 
 pub prove_texts_are_read : ProveTextsAreRead
-prove_texts_are_read d formed asks elements few text told number =
-    (prove_read d formed asks elements few text told number, λ block m. (each_good d formed asks elements few text told block m).0)
+prove_texts_are_read d formed asks elements few text printed number =
+    (prove_read d formed asks elements few text printed number, λ block m. (each_good d formed asks elements few text printed block m).0)

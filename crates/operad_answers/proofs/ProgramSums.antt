@@ -34,13 +34,13 @@ multiple-same p c e positive t =
     ∙ ap (λ k. coef tree_discrete (products k c e) t % suc (p - 1)) (sym q)
     ∙ products-same (p - 1) c e t
 
--- a multiple of an element of small arity may be said
-pub multiple_said : (p c : ℕ) (generators : List Generator) (n : ℕ) (e : Sum) → 0 < p → n ≤ 9 → AllTerms e (IsLabelled generators n) → AllByRecursion (IsSaidTerm p generators n) (without_zeros (products p c e))
-multiple_said p c generators n [] positive few h = tt
-multiple_said p c generators n (x ∷ e) positive few h = go (ℕ_discrete ((c * x.0) % p) 0) (multiple_said p c generators n e positive few h.1)
+-- a multiple of an element of small arity is writable
+pub multiple_writable : (p c : ℕ) (generators : List Generator) (n : ℕ) (e : Sum) → 0 < p → n ≤ 9 → AllTerms e (IsLabelled generators n) → AllByRecursion (IsSaidTerm p generators n) (without_zeros (products p c e))
+multiple_writable p c generators n [] positive few h = tt
+multiple_writable p c generators n (x ∷ e) positive few h = go (ℕ_discrete ((c * x.0) % p) 0) (multiple_writable p c generators n e positive few h.1)
   where
-    is_said : ((c * x.0) % p ≡ 0 → ⊥) → IsSaidTerm p generators n ((c * x.0) % p, x.1)
-    is_said z =
+    is_writable : ((c * x.0) % p ≡ 0 → ⊥) → IsSaidTerm p generators n ((c * x.0) % p, x.1)
+    is_writable z =
         let deep = nested_less (arity (parts_at generators)) x.1 h.0.fits in
         let size = leaf_count-labelled (arity (parts_at generators)) n x.1 h.0 in
         let small = mod_below (c * x.0) p positive in
@@ -48,4 +48,4 @@ multiple_said p c generators n (x ∷ e) positive few h = go (ℕ_discrete ((c *
 
     go : Dec ((c * x.0) % p ≡ 0) → AllByRecursion (IsSaidTerm p generators n) (without_zeros (products p c e)) → AllByRecursion (IsSaidTerm p generators n) (without_zeros (products p c (x ∷ e)))
     go (yes z) rest = subst (AllByRecursion (IsSaidTerm p generators n)) (sym (without_zeros-zero ((c * x.0) % p, x.1) (products p c e) z)) rest
-    go (no z) rest = subst (AllByRecursion (IsSaidTerm p generators n)) (sym (without_zeros-some ((c * x.0) % p, x.1) (products p c e) z)) (is_said z, rest)
+    go (no z) rest = subst (AllByRecursion (IsSaidTerm p generators n)) (sym (without_zeros-some ((c * x.0) % p, x.1) (products p c e) z)) (is_writable z, rest)

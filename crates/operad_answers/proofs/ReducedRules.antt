@@ -18,11 +18,11 @@ use Rattle.shuffle_completion.proofs.Passing.{sorted_back}
 use Rattle.shuffle_completion.proofs.Existence.{complete_through}
 use Rattle.symmetric_trees.specs.SpellingOrder.{order}
 use Rattle.symmetric_sums.specs.Collecting.{Pairs}
-use Rattle.operad_answers.specs.OrderedPresentations.{OrderedPresentation, presentation, comparison, IsReady}
+use Rattle.operad_answers.specs.OrderedPresentations.{OrderedPresentation, presentation, comparison, IsWellFormed}
 use Rattle.operad_answers.specs.Parts.{AreParts}
 use Rattle.operad_answers.specs.Texts.{Sum, IsForm, IsBasisPart, IsBasisText, IsRuleOf, IsRulePart, IsTextOfReducedBasis}
 use Rattle.operad_answers.proofs.Ordered.{Ascending, each_member}
-use Rattle.operad_answers.proofs.Ready.{ready_over_field, order_in}
+use Rattle.operad_answers.proofs.WellFormed.{well_formed_over_field, order_in}
 
 abbrev Rule : Type 0
 Rule = Tree ℕ × Sum
@@ -41,7 +41,7 @@ parts_within IsPart IsOther first most f zero le text h = h
 parts_within IsPart IsOther first most f (suc k) le text h =
     (h.0, h.1, parts_within IsPart IsOther first most f k (omega (arith, le)) h.0 h.2, f (first + k) h.1 (omega arith) (omega (arith, le)) h.3, h.4)
 
-module _ (o : OrderedPresentation) (ready : IsReady o) (N : ℕ) (elements : List Element) (basis : IsReducedBasis (presentation o) (comparison o) elements N) where
+module _ (o : OrderedPresentation) (well_formed : IsWellFormed o) (N : ℕ) (elements : List Element) (basis : IsReducedBasis (presentation o) (comparison o) elements N) where
   abbrev S : Tree ℕ → Tree ℕ
   S = symmetric_tree (presentation o)
 
@@ -57,7 +57,7 @@ module _ (o : OrderedPresentation) (ready : IsReady o) (N : ℕ) (elements : Lis
       (subst (λ k. IsNormalFormOf (presentation o) (comparison o) k ((1, S g.lead) ∷ []) (scale q (moved S g.tail))) arity e.normal_form) in
       record {
         tree_is = tree;
-        tail_is = (normal_forms_decide (presentation o) ready.sound (comparison o) (order_in o) n ((1, r.0) ∷ []) ((1, r.0) ∷ []) r.1 (scale q (moved S g.tail)) form.normal_form own).0
+        tail_is = (normal_forms_decide (presentation o) well_formed.sound (comparison o) (order_in o) n ((1, r.0) ∷ []) ((1, r.0) ∷ []) r.1 (scale q (moved S g.tail)) form.normal_form own).0
             (ideal-same (presentation o) n (((1, r.0) ∷ []) ++ scale q ((1, r.0) ∷ [])) [] (same_gone tree_discrete q ((1, r.0) ∷ [])) (ideal_zero (presentation o) n));
         reduced = form.reduced;
       }
@@ -93,12 +93,12 @@ module _ (o : OrderedPresentation) (ready : IsReady o) (N : ℕ) (elements : Lis
           (parts_within (IsBasisPart o) (IsRulePart o elements) 2 (2 + m) (λ n part two below. rule_part n part two (omega (arith, below, e))) m (omega arith) text
           (subst (λ j. AreParts (IsBasisPart o) 2 j text) last k))
 
-pub reduced_rules : (o : OrderedPresentation) → IsReady o → (N : ℕ) (text : List ℕ) → IsBasisText o N text → IsTextOfReducedBasis o N text
-reduced_rules o ready N text h =
-    let field = ready_over_field o ready in
+pub reduced_rules : (o : OrderedPresentation) → IsWellFormed o → (N : ℕ) (text : List ℕ) → IsBasisText o N text → IsTextOfReducedBasis o N text
+reduced_rules o well_formed N text h =
+    let field = well_formed_over_field o well_formed in
     let c = complete_through (presentation o) field (comparison o) (order_in o) N in
     record {
       basis = c.0;
       is_basis = complete_is_reduced (presentation o) field.sound field.wide field.not_zero (comparison o) (order_in o) c.0 N c.1;
-      printed = λ elements basis. rule_parts o ready N elements basis text h;
+      printed = λ elements basis. rule_parts o well_formed N elements basis text h;
     }

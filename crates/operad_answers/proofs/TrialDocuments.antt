@@ -1,36 +1,33 @@
 -- The document of a trial exists, and writes the presentation of each trial.
 use Rattle.std.proofs.Common.{◌≡◌, ℕ, suc, List, [], ◌∷◌, map, None, refl, ◌∙◌, ap}
 use mathlib.Core.Path.{ap₂}
-use Rattle.labelled_trees.specs.Trees.{Tree, Row, leaf, node, none, more, row}
-use Rattle.labelled_trees.specs.Meaning.{tree_of}
-use Rattle.labelled_trees.specs.declared.Tree.{Tree as ProgramTree}
-use Rattle.labelled_trees.specs.declared.Tree.TheVariants.{Leaf, Node}
-use Rattle.labelled_trees.proofs.ProgramTrees.{tree_of-leaf, tree_of-node}
 use Rattle.operad_ideals.specs.Presentations.{Relation}
-use Rattle.symmetric_trees.specs.Generators.{generators_of}
-use Rattle.symmetric_sums.specs.Instances.{element_arity}
-use Rattle.symmetric_sums.specs.Membership.{relation_of, presentation_of}
-use Rattle.symmetric_sums.specs.Terms.{terms_of}
-use Rattle.symmetric_sums.specs.declared.term.Term.{Term}
+use Rattle.shuffle_transfer.specs.NormalTrees.{OneOrder}
+use Rattle.symmetric_trees.specs.declared.generators.Generator.{Generator}
+use Rattle.symmetric_sums.specs.Membership.{relation_of}
 use Rattle.presentation_text.specs.DraftForms.{asked}
-use Rattle.presentation_text.specs.LineForms.{same}
+use Rattle.presentation_text.specs.LineForms.{Asked, same}
 use Rattle.presentation_text.specs.declared.document.Ask.{Ask}
 use Rattle.presentation_text.specs.declared.document.AskKind.TheVariants.{Same}
 use Rattle.presentation_text.specs.declared.document.Document.{Document}
 use Rattle.presentation_text.specs.declared.document.OrderName.TheVariants.{Path}
 use Rattle.trial_elements.specs.PreLie.{pre_lie_terms}
-use Rattle.trial_elements.specs.Elements.{minus_one, trial_elements}
+use Rattle.trial_elements.specs.Elements.{minus_one, trial_presentation, trial_elements}
 use Rattle.symmetric_sums.proofs.MadeSums.{program_terms, made_terms}
-use Rattle.operad_answers.specs.TrialDocuments.{trial_generator, lines_from}
+use Rattle.operad_answers.specs.OrderedPresentations.{OrderedPresentation, order_named, written}
+use Rattle.operad_answers.specs.Texts.{Sum}
+use Rattle.operad_answers.specs.Verdicts.{numbered_from}
+use Rattle.operad_answers.specs.TrialDocuments.{trial_generator, trial_written, trial_questions, IsTrialDocument}
+use Rattle.operad_answers.proofs.OneText.{relations_of, relations_are, asks_are}
 use Rattle.operad_answers.specs.TrialLaws.{TrialDocumentsExist, TrialDocumentsWrite}
 
 -- ---- the document
 
-asks_from : ℕ → List (List (ℕ × Tree ℕ)) → List Ask
+asks_from : ℕ → List Sum → List Ask
 asks_from number [] = []
 asks_from number (e ∷ l) = record { line = number; kind = Same (program_terms e) [] } ∷ asks_from (suc number) l
 
-asks_back : (number : ℕ) (l : List (List (ℕ × Tree ℕ))) → map asked (asks_from number l) ≡ lines_from number l
+asks_back : (number : ℕ) (l : List Sum) → map asked (asks_from number l) ≡ numbered_from number (map (λ e. same e []) l)
 unfolding asks_from
 asks_back number [] = refl
 asks_back number (e ∷ l) = ap₂ (λ f m. (number, same f []) ∷ m) (made_terms e) (asks_back (suc number) l)
@@ -65,15 +62,26 @@ documents_exist seed = (
 
 -- ---- what it writes
 
-abbrev of_terms : List (ℕ × Tree ℕ) → Relation
-of_terms e = record { arity = element_arity e; terms = e }
+abbrev made : ℕ → List Generator → List Relation → OneOrder → OrderedPresentation
+made p generators relations order = record { field = p; generators = generators; relations = relations; order = order }
 
-relations_by_terms : (rels : List (List Term)) → map relation_of rels ≡ map of_terms (map terms_of rels)
-relations_by_terms [] = refl
-relations_by_terms (rel ∷ rels) = ap (λ l. relation_of rel ∷ l) (relations_by_terms rels)
+written_is : (seed : ℕ) (d : Document) → IsTrialDocument seed d → written d ≡ trial_written
+unfolding relations_of
+written_is seed d h =
+    let relations : map relation_of d.rels ≡ trial_presentation.relations = relations_are d.rels ∙ ap relations_of h.relations_are in
+    ap (λ p. made p d.gens (map relation_of d.rels) (order_named d.order d.weights)) h.field_is
+    ∙ ap (λ g. made 32003 g (map relation_of d.rels) (order_named d.order d.weights)) h.generators_are
+    ∙ ap (λ l. made 32003 (trial_generator ∷ []) l (order_named d.order d.weights)) relations
+    ∙ ap (λ order. made 32003 (trial_generator ∷ []) trial_presentation.relations (order_named order d.weights)) h.order_is
+
+-- ---- what it asks
+
+without_numbers : (k : ℕ) (l : List Asked) → map (λ (x : ℕ × Asked). x.1) (numbered_from k l) ≡ l
+without_numbers k [] = refl
+without_numbers k (x ∷ l) = ap (λ m. x ∷ m) (without_numbers (suc k) l)
 
 pub documents_write : TrialDocumentsWrite
-documents_write seed d h =
-    ap (λ p. presentation_of p d.gens d.rels) h.field_is
-    ∙ ap (λ g. presentation_of 32003 g d.rels) h.generators_are
-    ∙ ap (λ l. record { q = 32002; generators = generators_of (trial_generator ∷ []); relations = l }) (relations_by_terms d.rels ∙ ap (map of_terms) h.relations_are)
+documents_write = (
+  refl,
+  λ seed d h. (written_is seed d h, asks_are d.asks ∙ ap (map (λ (x : ℕ × Asked). x.1)) h.asks_are ∙ without_numbers 6 (trial_questions seed)),
+)

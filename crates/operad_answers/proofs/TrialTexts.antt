@@ -1,23 +1,24 @@
 -- The text of a trial is one, and its first lines are the same for each seed.
-use Rattle.std.proofs.Common.{◌≡◌, ℕ, suc, ◌+◌, List, [], ◌∷◌, length, refl, sym, ◌∙◌, ap, ap₂, arith, subst, inl, inr}
+use Rattle.std.proofs.Common.{◌≡◌, ℕ, zero, suc, ◌+◌, ◌≤◌, ◌⊎◌, codes, List, [], ◌∷◌, length, refl, sym, ◌∙◌, ap, ap₂, arith, subst, inl, inr}
 use mathlib.Core.List.{◌++◌}
-use Rattle.modular_sums.specs.Sums.{scale}
-use Rattle.modular_sums.proofs.Differences.{same_gone}
-use Rattle.labelled_trees.specs.Trees.{Tree}
-use Rattle.labelled_trees.specs.Equality.{tree_discrete}
-use Rattle.operad_ideals.specs.Presentations.{parts}
+use Rattle.modular_sums.specs.Lists.{Mem}
+use Rattle.modular_sums.specs.Sums.{scale, AllTerms}
+use Rattle.operad_ideals.specs.Presentations.{IsProper}
 use Rattle.operad_ideals.specs.Ideals.{InIdeal}
-use Rattle.operad_ideals.proofs.Ideals.{ideal_zero, ideal-same}
-use Rattle.shuffle_transfer.specs.NormalTrees.{by_path}
-use Rattle.shuffle_transfer.proofs.NormalTrees.{order_of}
-use Rattle.shuffle_completion.proofs.Laws.{normal_forms_decide}
-use Rattle.symmetric_sums.proofs.Forms.{one_reduced}
-use Rattle.trial_elements.specs.Elements.{minus_one, trial_presentation, trial_elements, line}
+use Rattle.symmetric_trees.specs.Trees.{IsLabelled}
+use Rattle.symmetric_trees.specs.declared.generators.PartKind.TheVariants.{Free}
+use Rattle.presentation_text.specs.TreeText.{HasWords}
+use Rattle.trial_elements.specs.Elements.{minus_one, trial_presentation, trial_elements, element_of_line}
 use Rattle.trial_elements.specs.Laws.{InTrialIdeal, Exactly}
 use Rattle.trial_elements.proofs.Combs.{sound}
 use Rattle.trial_elements.proofs.Trials.{labelled, not_members, count, one_count}
-use Rattle.operad_answers.specs.TrialTexts.{trial_comparison, IsTrialForm, six_lines, IsTrialText}
-use Rattle.operad_answers.specs.TrialLaws.{TrialTextsCount, OneTrialText}
+use Rattle.operad_answers.specs.OrderedPresentations.{presentation, IsWellFormed}
+use Rattle.operad_answers.specs.Texts.{Sum}
+use Rattle.operad_answers.specs.TrialDocuments.{trial_generator, trial_written}
+use Rattle.operad_answers.specs.TrialTexts.{IsTrialForm, six_lines, IsTrialText}
+use Rattle.operad_answers.specs.TrialLaws.{TrialTextsCount, TrialTextsExist, OneTrialText}
+use Rattle.operad_answers.proofs.Forms.{one_form, has_form}
+use Rattle.operad_answers.proofs.OneGenerator.{binary_table}
 
 -- ---- the counts
 
@@ -49,14 +50,16 @@ others_are seed n h =
 
 -- ---- the forms
 
-abbrev Sum : Type 0
-Sum = List (ℕ × Tree ℕ)
+words : HasWords (trial_generator ∷ [])
+words zero w = (refl, refl)
+words (suc g) w = absurd (omega (arith, w))
 
-one_form : (e f g : Sum) → IsTrialForm e f → IsTrialForm e g → f ≡ g
-one_form e f g a b =
-    let law = normal_forms_decide trial_presentation (sound minus_one) trial_comparison (order_of trial_presentation by_path) 5 e e f g a.normal_form b.normal_form in
-    one_reduced 32003 (parts trial_presentation) f g a.reduced b.reduced
-    (law.0 (ideal-same trial_presentation 5 (e ++ scale minus_one e) [] (same_gone tree_discrete minus_one e) (ideal_zero trial_presentation 5)))
+proper : IsProper (presentation trial_written)
+proper r (inl e) = subst (λ x. (x.terms ≡ []) ⊎ (2 ≤ x.arity)) (sym e) (inr (omega arith))
+proper r (inr m) = absurd m
+
+trial_well_formed : IsWellFormed trial_written
+trial_well_formed = record { prime = inr (inr (inr (inr (inl refl)))); table = binary_table (codes "p") Free; words = words; sound = sound minus_one; proper = proper }
 
 append_none : (e : Sum) → e ++ scale minus_one [] ≡ e
 unfolding scale
@@ -79,16 +82,46 @@ pub trial_lines : TrialTextsCount
 trial_lines seed text h = record {
   twentieth = h.twentieth;
   is_twentieth = h.is_twentieth;
-  some_twentieth = some_form (line (trial_elements seed) 20) h.twentieth (not_members seed).0 h.is_twentieth;
+  some_twentieth = some_form (element_of_line (trial_elements seed) 20) h.twentieth (not_members seed).0 h.is_twentieth;
   fortieth = h.fortieth;
   is_fortieth = h.is_fortieth;
-  some_fortieth = some_form (line (trial_elements seed) 40) h.fortieth (not_members seed).1 h.is_fortieth;
+  some_fortieth = some_form (element_of_line (trial_elements seed) 40) h.fortieth (not_members seed).1 h.is_fortieth;
   text_is = counted seed text h;
 }
+
+-- what holds of the things of a list and of no terms holds of the element of each line
+at_line : (P : Sum → Type 0) → P [] → (l : List Sum) → ((e : Sum) → Mem e l → P e) → (i : ℕ) → P (element_of_line l i)
+at_line P none [] h i = none
+at_line P none (e ∷ l) h zero = none
+at_line P none (e ∷ l) h (suc zero) = h e (inl refl)
+at_line P none (e ∷ l) h (suc (suc i)) = at_line P none l (λ f m. h f (inr m)) (suc i)
+
+pub texts_exist : TrialTextsExist
+texts_exist seed =
+    let k = the_others InTrialIdeal (trial_elements seed) 38 (count seed).0 in
+    let f = form_of 20 in
+    let g = form_of 40 in (
+      six_lines 38 k.number 38 f.0 g.0,
+      record {
+        members = 38;
+        are_members = (count seed).0;
+        others = k.number;
+        are_others = k.have_not;
+        twentieth = f.0;
+        is_twentieth = f.1;
+        fortieth = g.0;
+        is_fortieth = g.1;
+        text_is = refl;
+      },
+    )
+  where
+    form_of : (i : ℕ) → (f : Sum) × IsTrialForm (element_of_line (trial_elements seed) i) f
+    form_of i = has_form trial_written trial_well_formed 5 (element_of_line (trial_elements seed) i)
+        (at_line (λ e. AllTerms e (IsLabelled (trial_generator ∷ []) 5)) tt (trial_elements seed) (labelled seed).labelled i)
 
 pub one_text : OneTrialText
 one_text seed text other h k =
     counted seed text h
-    ∙ ap₂ (six_lines 38 2 38) (one_form (line (trial_elements seed) 20) h.twentieth k.twentieth h.is_twentieth k.is_twentieth)
-    (one_form (line (trial_elements seed) 40) h.fortieth k.fortieth h.is_fortieth k.is_fortieth)
+    ∙ ap₂ (six_lines 38 2 38) (one_form trial_written trial_well_formed 5 (element_of_line (trial_elements seed) 20) h.twentieth k.twentieth h.is_twentieth k.is_twentieth)
+    (one_form trial_written trial_well_formed 5 (element_of_line (trial_elements seed) 40) h.fortieth k.fortieth h.is_fortieth k.is_fortieth)
     ∙ sym (counted seed other k)

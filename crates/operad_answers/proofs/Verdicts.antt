@@ -28,27 +28,26 @@ use Rattle.certificate_text.specs.Writable.{IsSaidSum, IsWritableUse, IsWritable
 use Rattle.certificate_text.specs.declared.block.Step.{Step}
 use Rattle.certificate_text.proofs.ReadyBlocks.{prime_positive}
 use Rattle.symmetric_sums.specs.Uses.{IsGoodUse, sum_of}
-use Rattle.operad_answers.specs.OrderedPresentations.{presentation, written, IsReady}
+use Rattle.operad_answers.specs.OrderedPresentations.{presentation, written, IsWellFormed, asks_of}
 use Rattle.operad_answers.specs.Parts.{line}
 use Rattle.operad_answers.specs.Texts.{Sum, EachWith, IsNarrow, IsForm}
 use Rattle.operad_answers.specs.Verdicts.{Sides, difference, comparisons, numbered_from, yes_line, WantingBlock, IsVerdict, IsProveText}
-use Rattle.operad_answers.specs.Budgets.{asks_of}
 use Rattle.operad_answers.specs.Laws.{MembersHaveBlocks, VerdictsExist}
 use Rattle.operad_answers.proofs.CollectedForms.{one_form_of}
 use Rattle.operad_answers.proofs.Forms.{has_form}
 use Rattle.operad_answers.proofs.Members.{parted, uses_labelled, same_beside}
 use Rattle.symmetric_sums.proofs.MadeSums.{program_terms, made_terms}
-use Rattle.operad_answers.proofs.ProgramSums.{multiple-same, multiple_said}
+use Rattle.operad_answers.proofs.ProgramSums.{multiple-same, multiple_writable}
 use Rattle.operad_answers.proofs.Questions.{questions_are_elements}
-use Rattle.operad_answers.proofs.Ready.{said_labelled, writable_ready}
+use Rattle.operad_answers.proofs.WellFormed.{writable_labelled, writable_well_formed}
 
 writable_uses : (d : Document) (uses : List Use) → AllByRecursion (λ i. IsWritableUse d.field d.gens (plain_use i)) uses → AllByRecursion (IsWritableUse d.field d.gens) (map plain_use uses)
 writable_uses d [] h = tt
 writable_uses d (x ∷ uses) h = (h.0, writable_uses d uses h.1)
 
 module _ (d : Document) (formed : IsWritable d) (n : ℕ) (e : Sum) (narrow : IsNarrow d.gens n e) where
-  ready : IsReady (written d)
-  ready = writable_ready d formed
+  well_formed : IsWellFormed (written d)
+  well_formed = writable_well_formed d formed
 
   abbrev q : ℕ
   q = d.field - 1
@@ -62,11 +61,11 @@ module _ (d : Document) (formed : IsWritable d) (n : ℕ) (e : Sum) (narrow : Is
       multiple-same d.field 1 e (prime_positive d.field formed.field) t
       ∙ ap (λ k. k % suc q) (coef-scale tree_discrete 1 e t ∙ omega arith)
 
-  wanted_said : IsSaidOver d.field d.gens n wanted
-  wanted_said = All-from_recursion (IsSaidTerm d.field d.gens n) wanted (multiple_said d.field 1 d.gens n e (prime_positive d.field formed.field) narrow.0 narrow.1)
+  wanted_writable : IsSaidOver d.field d.gens n wanted
+  wanted_writable = All-from_recursion (IsSaidTerm d.field d.gens n) wanted (multiple_writable d.field 1 d.gens n e (prime_positive d.field formed.field) narrow.0 narrow.1)
 
   wanted_labelled : AllTerms wanted (IsLabelled d.gens n)
-  wanted_labelled = said_labelled d.field d.gens n wanted wanted_said
+  wanted_labelled = writable_labelled d.field d.gens n wanted wanted_writable
 
   pub wanting_block : InIdeal (presentation (written d)) n e → WantingBlock d e
   wanting_block h =
@@ -75,16 +74,16 @@ module _ (d : Document) (formed : IsWritable d) (n : ℕ) (e : Sum) (narrow : Is
       let apart : InIdeal (without_relations (presentation (written d))) n (wanted ++ scale q sum)
       = ideal-same (without_relations (presentation (written d))) n (wanted ++ scale q sum) k.symmetric
       (same_beside q wanted k.symmetric sum (λ t. wanted_same t ∙ h.adds_up t ∙ k.same t)) k.in_ideal in
-      let one : HaveOneForm d.field (parts_at d.gens) wanted sum = one_form_of (written d) ready n wanted sum wanted_labelled (uses_labelled d formed n narrow.0 k.uses k.good) apart in
+      let one : HaveOneForm d.field (parts_at d.gens) wanted sum = one_form_of (written d) well_formed n wanted sum wanted_labelled (uses_labelled d formed n narrow.0 k.uses k.good) apart in
       let back = sym (made_terms wanted) in
       let form : IsCollected d.field (parts_at d.gens) (terms_of (program_terms wanted)) one.0 = subst (λ w. IsCollected d.field (parts_at d.gens) w one.0) back one.1 in
-      let said : IsSaidSum d.field d.gens (terms_of (program_terms wanted)) = subst (IsSaidSum d.field d.gens) back (n, wanted_said) in
+      let writable : IsSaidSum d.field d.gens (terms_of (program_terms wanted)) = subst (IsSaidSum d.field d.gens) back (n, wanted_writable) in
       let step : Step = record { element = program_terms wanted; uses = k.uses } in
       record {
         block = record { want = program_terms wanted; steps = step ∷ [] };
         writable = record {
-          want = said;
-          steps = All-from_recursion (IsWritableStep d.field d.gens) (plain_step step ∷ []) (record { element = said; uses = All-from_recursion (IsWritableUse d.field d.gens) (map plain_use k.uses) (writable_uses d k.uses k.writable) }, tt);
+          want = writable;
+          steps = All-from_recursion (IsWritableStep d.field d.gens) (plain_step step ∷ []) (record { element = writable; uses = All-from_recursion (IsWritableUse d.field d.gens) (map plain_use k.uses) (writable_uses d k.uses k.writable) }, tt);
         };
         wanted = subst (λ w. Same tree_discrete q w e) back wanted_same;
         holds = record {
@@ -97,8 +96,8 @@ pub members_have_blocks : MembersHaveBlocks
 members_have_blocks d formed n e narrow h = wanting_block d formed n e narrow h
 
 module _ (d : Document) (formed : IsWritable d) where
-  open_ready : IsReady (written d)
-  open_ready = writable_ready d formed
+  open_well_formed : IsWellFormed (written d)
+  open_well_formed = writable_well_formed d formed
 
   -- a yes or a no, as the normal form is 0 or not
   pub verdict_of : (k n : ℕ) (sides : Sides) → IsNarrow d.gens n sides.left → IsNarrow d.gens n sides.right → (text : List ℕ) × IsVerdict d (k, sides) text
@@ -109,7 +108,7 @@ module _ (d : Document) (formed : IsWritable d) where
       labelled = AllTerms-append sides.left (scale (d.field - 1) sides.right) (IsLabelled d.gens n) left.1 (AllTerms-scale (d.field - 1) sides.right (IsLabelled d.gens n) right.1)
 
       f : (f : Sum) × IsForm (written d) n (difference d.field sides) f
-      f = has_form (written d) open_ready n (difference d.field sides) labelled
+      f = has_form (written d) open_well_formed n (difference d.field sides) labelled
 
       member : f.0 ≡ [] → InIdeal (presentation (written d)) n (difference d.field sides)
       member z =

@@ -9,16 +9,11 @@ use Rattle.modular_sums.specs.Lists.{Nth}
 use Rattle.counted_runs.specs.Runs.{EntryOf, IsStoppedRun, run_length}
 use Rattle.counted_runs.specs.FullRuns.{IsFullRun, HasItem}
 use Rattle.symmetric_sums.specs.Instances.{element_arity}
-use Rattle.presentation_text.specs.DraftForms.{asked_kind}
 use Rattle.presentation_text.specs.LineForms.{Asked, query, same}
 use Rattle.presentation_text.specs.declared.document.Document.{Document}
-use Rattle.operad_answers.specs.OrderedPresentations.{presentation, comparison, written}
+use Rattle.operad_answers.specs.OrderedPresentations.{presentation, comparison, written, asks_of}
 use Rattle.operad_answers.specs.Texts.{Sum}
 use Rattle.operad_answers.specs.Verdicts.{difference}
-
--- what the document asks
-abbrev pub asks_of : Document → List Asked
-asks_of d = map (λ ask. asked_kind ask.kind) d.asks
 
 -- the element that a question asks of: that of a query, or left minus right
 abbrev pub asked_element : ℕ → Asked → Sum

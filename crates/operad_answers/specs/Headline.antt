@@ -11,11 +11,10 @@ use Rattle.presentation_text.specs.declared.document.Document.{Document}
 use Rattle.certificate_text.specs.BlockForms.{between, blocks_from, base_of}
 use Rattle.certificate_text.specs.Plain.{plain_block}
 use Rattle.certificate_check.specs.Blocks.{BlockHolds}
-use Rattle.operad_answers.specs.OrderedPresentations.{presentation, written}
+use Rattle.operad_answers.specs.OrderedPresentations.{presentation, written, asks_of}
 use Rattle.operad_answers.specs.Parts.{line, AreParts}
 use Rattle.operad_answers.specs.Texts.{Sum, EachWith, queries, IsAnswer, IsBasisOfQuotient, IsTextOfReducedBasis}
-use Rattle.operad_answers.specs.Verdicts.{Sides, difference, comparisons, numbered_from, says_yes, yes_number, IsYes, IsNo, IsVerdict, verdict_blocks}
-use Rattle.operad_answers.specs.Budgets.{asks_of}
+use Rattle.operad_answers.specs.Verdicts.{Sides, difference, comparisons, numbered_from, is_yes, yes_number, IsYes, IsNo, IsVerdict, verdict_blocks}
 use Rattle.operad_answers.specs.Commands.{Command, normal, basis, forms, prove, IsTextOf}
 
 module _ (d : Document) where
@@ -42,7 +41,7 @@ module _ (d : Document) where
   -- the ideal it is the one line `# k no F` with F the nonzero normal form.
   pub record IsRightVerdict (k n : ℕ) (sides : Sides) (verdict : List ℕ) : Type 0 where
     pub yes : IsYes d k sides verdict ↔ IsInIdeal n (difference d.field sides)
-    pub begins : (says_yes k verdict ≡ true) ↔ IsInIdeal n (difference d.field sides)
+    pub begins : (is_yes k verdict ≡ true) ↔ IsInIdeal n (difference d.field sides)
     pub no : IsNo d k sides verdict ↔ (IsInIdeal n (difference d.field sides) → ⊥)
 
   -- The text is one verdict after the other, one for each comparison, whose sides have one arity, and each is right. Read as the tail of a

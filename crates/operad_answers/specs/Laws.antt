@@ -42,20 +42,20 @@ use Rattle.certificate_text.specs.Plain.{plain_block}
 use Rattle.certificate_text.specs.Tails.{AreReadAs}
 use Rattle.certificate_text.specs.declared.block.Block.{Block}
 use Rattle.certificate_check.specs.Blocks.{BlockHolds}
-use Rattle.operad_answers.specs.OrderedPresentations.{OrderedPresentation, presentation, comparison, written, IsReady}
+use Rattle.operad_answers.specs.OrderedPresentations.{OrderedPresentation, presentation, comparison, written, IsWellFormed, asks_of}
 use Rattle.operad_answers.specs.Parts.{line, part_text, AreParts, AreInOrder}
 use Rattle.operad_answers.specs.Texts.{Sum, IsNarrow, queries, IsNormalText, IsBasisText, IsFormsText, IsBasisOfQuotient, IsForm, IsAnswer, IsRuleOf}
-use Rattle.operad_answers.specs.Verdicts.{Sides, difference, comparisons, numbered_from, yes_number, WantingBlock, IsYes, IsNo, IsVerdict, IsProveText, verdict_blocks, AreElements}
-use Rattle.operad_answers.specs.Limits.{IsUncrowded, IsWithinLimits}
-use Rattle.operad_answers.specs.Budgets.{asks_of, question_of, counted, IsSpent, IsPaid}
-use Rattle.operad_answers.specs.Commands.{Command, prove, IsTextOf, IsAnsweredBy, IsDone, IsTooCrowded, IsTooWide}
+use Rattle.operad_answers.specs.Verdicts.{Sides, difference, comparisons, numbered_from, yes_number, WantingBlock, IsYes, IsNo, IsVerdict, IsProveText, verdict_blocks, AreQuestionsOver}
+use Rattle.operad_answers.specs.Limits.{HasFewTrees, IsWithinLimits}
+use Rattle.operad_answers.specs.Budgets.{question_of, counted, IsSpent, IsPaid}
+use Rattle.operad_answers.specs.Commands.{Command, prove, IsTextOf, IsAnsweredBy, IsDone, HasTooManyTrees, AsksGreaterArity}
 
 -- ---- documents
 
--- What a document that is read writes is ready, and a ready presentation is one over a field with an order of trees.
-abbrev pub DocumentsAreReady : Type 0
-DocumentsAreReady = ((d : Document) → IsWritable d → IsReady (written d)) × ((bytes : List ℕ) (d : Document) → IsReadAs bytes d → IsReady (written d))
-    × ((o : OrderedPresentation) → IsReady o → IsOverField (presentation o) × IsTreeOrder (inputs_of (presentation o)) (comparison o))
+-- What a document that is read writes is well-formed, and a well-formed presentation is one over a field with an order of trees.
+abbrev pub DocumentsAreWellFormed : Type 0
+DocumentsAreWellFormed = ((d : Document) → IsWritable d → IsWellFormed (written d)) × ((bytes : List ℕ) (d : Document) → IsReadAs bytes d → IsWellFormed (written d))
+    × ((o : OrderedPresentation) → IsWellFormed o → IsOverField (presentation o) × IsTreeOrder (inputs_of (presentation o)) (comparison o))
 
 -- ---- one text
 
@@ -67,7 +67,7 @@ pub record TextLaw (o : OrderedPresentation) : Type 0 where
   pub one_forms : (asks : List Asked) (text other : List ℕ) → IsFormsText o asks text → IsFormsText o asks other → text ≡ other
 
 abbrev pub TextsAreDetermined : Type 0
-TextsAreDetermined = (o : OrderedPresentation) → IsReady o → TextLaw o
+TextsAreDetermined = (o : OrderedPresentation) → IsWellFormed o → TextLaw o
 
 -- So what a command other than `prove` prints of a text that is read is a function of the text and the greatest arity.
 abbrev pub AnswersAreDetermined : Type 0
@@ -76,29 +76,29 @@ AnswersAreDetermined = (bytes : List ℕ) (d other : Document) → IsReadAs byte
 
 -- The text of a part tells its trees.
 abbrev pub ListingsTellTrees : Type 0
-ListingsTellTrees = (o : OrderedPresentation) → IsReady o → (n : ℕ) → n ≤ 9 → (k l : List (Tree ℕ)) → AllByRecursion (IsLabelled o.generators n) k → AllByRecursion (IsLabelled o.generators n) l
+ListingsTellTrees = (o : OrderedPresentation) → IsWellFormed o → (n : ℕ) → n ≤ 9 → (k l : List (Tree ℕ)) → AllByRecursion (IsLabelled o.generators n) k → AllByRecursion (IsLabelled o.generators n) l
     → length k < 2 ^ 63 → length l < 2 ^ 63 → part_text n (tree_text o.generators) k ≡ part_text n (tree_text o.generators) l → k ≡ l
 
 -- So a part that prints a basis of the quotient tells the basis.
 abbrev pub PartsTellBases : Type 0
-PartsTellBases = (o : OrderedPresentation) → IsReady o → (n : ℕ) → n ≤ 9 → (text : List ℕ) (one other : IsBasisOfQuotient o n text)
+PartsTellBases = (o : OrderedPresentation) → IsWellFormed o → (n : ℕ) → n ≤ 9 → (text : List ℕ) (one other : IsBasisOfQuotient o n text)
     → length one.trees < 2 ^ 63 → length other.trees < 2 ^ 63 → one.trees ≡ other.trees
 
 -- ---- the headline
 
 -- Each normal listing has, in each arity, sorted labelled trees in the spelling order that are independent and spanning modulo the ideal.
 abbrev pub NormalTextsAreBases : Type 0
-NormalTextsAreBases = (o : OrderedPresentation) → IsReady o → (N : ℕ) (text : List ℕ) → IsNormalText o N text → AreParts (IsBasisOfQuotient o) 1 N text
+NormalTextsAreBases = (o : OrderedPresentation) → IsWellFormed o → (N : ℕ) (text : List ℕ) → IsNormalText o N text → AreParts (IsBasisOfQuotient o) 1 N text
 
 -- Two elements of one arity have equal answers, byte for byte, exactly where their difference is in the ideal.
 abbrev pub AnswersDecide : Type 0
-AnswersDecide = (o : OrderedPresentation) → IsReady o → (n : ℕ) → n ≤ 9 → (d e : Sum) → AllTerms d (IsLabelled o.generators n) → AllTerms e (IsLabelled o.generators n)
+AnswersDecide = (o : OrderedPresentation) → IsWellFormed o → (n : ℕ) → n ≤ 9 → (d e : Sum) → AllTerms d (IsLabelled o.generators n) → AllTerms e (IsLabelled o.generators n)
     → (answer other : List ℕ) → IsAnswer o d answer → IsAnswer o e other → (answer ≡ other) ↔ InIdeal (presentation o) n (d ++ scale (presentation o).q e)
 
 -- So two lines that `forms` prints, for queries of one arity, are equal exactly where the difference of their elements is in the ideal. The
 -- lines may stand in two texts, for different questions to one presentation with one order.
 abbrev pub QueryLinesDecide : Type 0
-QueryLinesDecide = (o : OrderedPresentation) → IsReady o → (asks others : List Asked) → AreElements o.generators asks → AreElements o.generators others
+QueryLinesDecide = (o : OrderedPresentation) → IsWellFormed o → (asks others : List Asked) → AreQuestionsOver o.generators asks → AreQuestionsOver o.generators others
     → (text other : List ℕ) → IsFormsText o asks text → IsFormsText o others other
     → (i j : ℕ) (d e : Sum) → Nth i (queries asks) d → Nth j (queries others) e → (n : ℕ) → IsNarrow o.generators n d → IsNarrow o.generators n e
     → (one two : List ℕ) → Nth i (lines text) one → Nth j (lines other) two → (one ≡ two) ↔ InIdeal (presentation o) n (d ++ scale (presentation o).q e)
@@ -117,10 +117,10 @@ VerdictsDecide = (d : Document) → IsWritable d → (k n : ℕ) (sides : Sides)
 
 -- What `prove` prints is read as blocks, namely those of the yes verdicts, each of which holds; the lines of the verdicts are passed over.
 abbrev pub ProveTextsAreRead : Type 0
-ProveTextsAreRead = (d : Document) → IsWritable d → (asks : List Asked) → AreElements d.gens asks → length (comparisons asks) < 2 ^ 63
-    → (text : List ℕ) (told : IsProveText d asks text) → (number : ℕ)
-    → (blocks_from (base_of d) (between, []) number (lines text) ≡ Ok (map plain_block (verdict_blocks d (numbered_from 1 (comparisons asks)) told.verdicts told.are_verdicts)))
-    × ((block : Block) → Mem block (verdict_blocks d (numbered_from 1 (comparisons asks)) told.verdicts told.are_verdicts) → BlockHolds d.field d.gens d.rels block.want block.steps)
+ProveTextsAreRead = (d : Document) → IsWritable d → (asks : List Asked) → AreQuestionsOver d.gens asks → length (comparisons asks) < 2 ^ 63
+    → (text : List ℕ) (printed : IsProveText d asks text) → (number : ℕ)
+    → (blocks_from (base_of d) (between, []) number (lines text) ≡ Ok (map plain_block (verdict_blocks d (numbered_from 1 (comparisons asks)) printed.verdicts printed.are_verdicts)))
+    × ((block : Block) → Mem block (verdict_blocks d (numbered_from 1 (comparisons asks)) printed.verdicts printed.are_verdicts) → BlockHolds d.field d.gens d.rels block.want block.steps)
 
 -- ---- a document and what `prove` prints, together
 
@@ -140,8 +140,8 @@ pub record HasHeldBlocks (d : Document) (K : ℕ) (bytes : List ℕ) : Type 0 wh
 -- Where bytes are read as a document without a tail, they, ended with a line feed, and what `prove` prints behind them are read as that
 -- document with blocks, as many as there are verdicts that say yes, each of which holds.
 abbrev pub JoinedTextsHold : Type 0
-JoinedTextsHold = (bytes : List ℕ) (d : Document) → IsReadAs bytes d → d.tail ≡ None → length bytes < 2 ^ 63 → (text : List ℕ) (told : IsProveText d (asks_of d) text)
-    → (ended : List ℕ) → IsEnded bytes ended → HasHeldBlocks d (yes_number 1 told.verdicts) (ended ++ text)
+JoinedTextsHold = (bytes : List ℕ) (d : Document) → IsReadAs bytes d → d.tail ≡ None → length bytes < 2 ^ 63 → (text : List ℕ) (printed : IsProveText d (asks_of d) text)
+    → (ended : List ℕ) → IsEnded bytes ended → HasHeldBlocks d (yes_number 1 printed.verdicts) (ended ++ text)
 
 -- ---- the texts exist
 
@@ -152,11 +152,11 @@ pub record ExistenceLaw (o : OrderedPresentation) : Type 0 where
   pub forms : (asks : List Asked) → ((e : Sum) → Mem e (queries asks) → (n : ℕ) × AllTerms e (IsLabelled o.generators n)) → (text : List ℕ) × IsFormsText o asks text
 
 abbrev pub TextsExist : Type 0
-TextsExist = (o : OrderedPresentation) → IsReady o → ExistenceLaw o
+TextsExist = (o : OrderedPresentation) → IsWellFormed o → ExistenceLaw o
 
 -- The questions of a document that is read are elements, so it has a text for `forms`.
 abbrev pub QuestionsAreElements : Type 0
-QuestionsAreElements = (d : Document) → IsWritable d → AreElements d.gens (asks_of d)
+QuestionsAreElements = (d : Document) → IsWritable d → AreQuestionsOver d.gens (asks_of d)
 
 -- Each element of the ideal, of an arity that may be read, is wanted by a block that holds and may be written.
 abbrev pub MembersHaveBlocks : Type 0
@@ -187,7 +187,7 @@ pub record ListingLaw (o : OrderedPresentation) (elements : List Element) (n : �
       → (h : Sum) → IsReduced o.field (parts_at o.generators) h → sums.Same tree_discrete (presentation o).q h (moved (symmetric_tree (presentation o)) f) → IsForm o n e h
 
 abbrev pub CompleteElementsAnswer : Type 0
-CompleteElementsAnswer = (o : OrderedPresentation) → IsReady o → (elements : List Element) (N : ℕ) → IsCompletedThrough (presentation o) (comparison o) elements N
+CompleteElementsAnswer = (o : OrderedPresentation) → IsWellFormed o → (elements : List Element) (N : ℕ) → IsCompletedThrough (presentation o) (comparison o) elements N
     → (n : ℕ) → n ≤ N → ListingLaw o elements n
 
 -- ---- texts grow
@@ -214,7 +214,7 @@ HasNoRelations o = (r : Relation) → Mem r o.relations → r.terms ≡ []
 
 -- Without relations the normal form of an element is its collected form.
 abbrev pub CollectedFormsAreNormal : Type 0
-CollectedFormsAreNormal = (o : OrderedPresentation) → IsReady o → HasNoRelations o → (n : ℕ) (e f : Sum) → AllTerms e (IsLabelled o.generators n)
+CollectedFormsAreNormal = (o : OrderedPresentation) → IsWellFormed o → HasNoRelations o → (n : ℕ) (e f : Sum) → AllTerms e (IsLabelled o.generators n)
     → IsCollected o.field (parts_at o.generators) e f → IsForm o n e f
 
 -- ---- budgets
@@ -244,14 +244,14 @@ DoneExists = (d : Document) → IsWritable d → (N : ℕ) → IsWithinLimits d 
 
 -- At most one of the three holds: no limit is met, some arity has too many trees, some question is too wide. Each limit has one line.
 pub record LimitLaw (d : Document) (N : ℕ) : Type 0 where
-  pub one_crowded : (text other : List ℕ) → IsTooCrowded d N text → IsTooCrowded d N other → text ≡ other
-  pub one_wide : (text other : List ℕ) → IsTooWide d N text → IsTooWide d N other → text ≡ other
-  pub not_crowded : (text : List ℕ) → IsTooCrowded d N text → IsUncrowded d N → ⊥
-  pub not_wide : (text : List ℕ) → IsTooWide d N text → IsWithinLimits d N → ⊥
+  pub one_too_many : (text other : List ℕ) → HasTooManyTrees d N text → HasTooManyTrees d N other → text ≡ other
+  pub one_greater : (text other : List ℕ) → AsksGreaterArity d N text → AsksGreaterArity d N other → text ≡ other
+  pub not_too_many : (text : List ℕ) → HasTooManyTrees d N text → HasFewTrees d N → ⊥
+  pub not_greater : (text : List ℕ) → AsksGreaterArity d N text → IsWithinLimits d N → ⊥
 
 abbrev pub LimitsExclude : Type 0
 LimitsExclude = (d : Document) (N : ℕ) → LimitLaw d N
 
 -- One of the three holds of a document that is read.
 abbrev pub LimitsDecide : Type 0
-LimitsDecide = (d : Document) → IsWritable d → (N : ℕ) → IsWithinLimits d N ⊎ ((text : List ℕ) × IsTooCrowded d N text) ⊎ ((text : List ℕ) × IsTooWide d N text)
+LimitsDecide = (d : Document) → IsWritable d → (N : ℕ) → IsWithinLimits d N ⊎ ((text : List ℕ) × HasTooManyTrees d N text) ⊎ ((text : List ℕ) × AsksGreaterArity d N text)

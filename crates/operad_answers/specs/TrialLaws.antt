@@ -1,34 +1,39 @@
 -- What holds of the document and of the text of each trial.
 use Rattle.std.specs.Prelude.{ℕ, ◌≡◌, List, []}
-use Rattle.labelled_trees.specs.Trees.{Tree}
-use Rattle.symmetric_sums.specs.Membership.{presentation_of}
 use Rattle.presentation_text.specs.declared.document.Document.{Document}
-use Rattle.trial_elements.specs.Elements.{trial_presentation, trial_elements, line}
-use Rattle.operad_answers.specs.TrialDocuments.{IsTrialDocument}
+use Rattle.trial_elements.specs.Elements.{trial_presentation, trial_elements, element_of_line}
+use Rattle.operad_answers.specs.OrderedPresentations.{presentation, written, asks_of}
+use Rattle.operad_answers.specs.Texts.{Sum}
+use Rattle.operad_answers.specs.TrialDocuments.{trial_written, trial_questions, IsTrialDocument}
 use Rattle.operad_answers.specs.TrialTexts.{IsTrialForm, six_lines, IsTrialText}
 
 -- Each seed has a document.
 abbrev pub TrialDocumentsExist : Type 0
 TrialDocumentsExist = (seed : ℕ) → (d : Document) × IsTrialDocument seed d
 
--- The prime, the generators and the relations of the document of a seed are the presentation of each trial.
+-- The document of a seed writes the pre-Lie presentation modulo 32003, with the order by path, and compares each of the forty elements
+-- with 0.
 abbrev pub TrialDocumentsWrite : Type 0
-TrialDocumentsWrite = (seed : ℕ) (d : Document) → IsTrialDocument seed d → presentation_of d.field d.gens d.rels ≡ trial_presentation
+TrialDocumentsWrite = (presentation trial_written ≡ trial_presentation)
+    × ((seed : ℕ) (d : Document) → IsTrialDocument seed d → (written d ≡ trial_written) × (asks_of d ≡ trial_questions seed))
 
 -- For every seed 38 lines are counted as in the ideal and 2 as not, 38 blocks are accepted, and the two forms, which aren't 0, are the
 -- normal forms of the 20th and 40th element.
 pub record HasTrialLines (seed : ℕ) (text : List ℕ) : Type 0 where
-  pub twentieth : List (ℕ × Tree ℕ)
-  pub is_twentieth : IsTrialForm (line (trial_elements seed) 20) twentieth
+  pub twentieth : Sum
+  pub is_twentieth : IsTrialForm (element_of_line (trial_elements seed) 20) twentieth
   pub some_twentieth : twentieth ≡ [] → ⊥
-  pub fortieth : List (ℕ × Tree ℕ)
-  pub is_fortieth : IsTrialForm (line (trial_elements seed) 40) fortieth
+  pub fortieth : Sum
+  pub is_fortieth : IsTrialForm (element_of_line (trial_elements seed) 40) fortieth
   pub some_fortieth : fortieth ≡ [] → ⊥
   pub text_is : text ≡ six_lines 38 2 38 twentieth fortieth
 
 abbrev pub TrialTextsCount : Type 0
 TrialTextsCount = (seed : ℕ) (text : List ℕ) → IsTrialText seed text → HasTrialLines seed text
 
--- Each seed has at most one text.
+-- Each seed has a text, and no other.
+abbrev pub TrialTextsExist : Type 0
+TrialTextsExist = (seed : ℕ) → (text : List ℕ) × IsTrialText seed text
+
 abbrev pub OneTrialText : Type 0
 OneTrialText = (seed : ℕ) (text other : List ℕ) → IsTrialText seed text → IsTrialText seed other → text ≡ other

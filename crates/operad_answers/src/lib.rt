@@ -2,9 +2,9 @@
 #![tactic(auto)]
 
 ghost use Rattle.operad_answers.specs.Headline.{Headline};
-ghost use Rattle.operad_answers.specs.Laws.{AnswersAreDetermined, AnswersDecide, BudgetsExist, CollectedFormsAreNormal, CompleteElementsAnswer, CountedRunsPay, DocumentsAreReady, DoneExists, EnoughIsNotSpent, JoinedTextsHold, LimitsDecide, LimitsExclude, ListingsTellTrees, MembersHaveBlocks, NormalTextsAreBases, PartsTellBases, QueryLinesDecide, QuestionsAreElements, ProveTextsAreRead, TextsAreDetermined, TextsExist, TextsGrow, VerdictsDecide, VerdictsExist};
+ghost use Rattle.operad_answers.specs.Laws.{AnswersAreDetermined, AnswersDecide, BudgetsExist, CollectedFormsAreNormal, CompleteElementsAnswer, CountedRunsPay, DocumentsAreWellFormed, DoneExists, EnoughIsNotSpent, JoinedTextsHold, LimitsDecide, LimitsExclude, ListingsTellTrees, MembersHaveBlocks, NormalTextsAreBases, PartsTellBases, QueryLinesDecide, QuestionsAreElements, ProveTextsAreRead, TextsAreDetermined, TextsExist, TextsGrow, VerdictsDecide, VerdictsExist};
 ghost use Rattle.operad_answers.specs.CertificateLaws.{HeldCertificatesListNormalTrees, OneFaultOverDocuments, WrittenCertificatesHoldOver};
-ghost use Rattle.operad_answers.specs.TrialLaws.{OneTrialText, TrialDocumentsExist, TrialDocumentsWrite, TrialTextsCount};
+ghost use Rattle.operad_answers.specs.TrialLaws.{OneTrialText, TrialDocumentsExist, TrialDocumentsWrite, TrialTextsCount, TrialTextsExist};
 
 /// Law: the headline. What a command prints of a document that is read means what it should, in the terms of the ideal.
 pub fn headline()
@@ -12,8 +12,8 @@ pub fn headline()
 {}
 
 /// Law: what a document that is read writes is a presentation over a field, with an order of trees.
-pub fn documents_are_ready()
-    ensures law { DocumentsAreReady }
+pub fn documents_are_well_formed()
+    ensures law { DocumentsAreWellFormed }
 {}
 
 /// Law: there is one text for `normal`, one for `basis`, one for `forms` and one answer to each element.
@@ -152,7 +152,8 @@ pub fn trial_documents_exist()
     ensures law { TrialDocumentsExist }
 {}
 
-/// Law: the document of a seed writes the pre-Lie presentation modulo 32003, and compares each of forty elements with 0.
+/// Law: the document of a seed writes the pre-Lie presentation modulo 32003, with the order by path, and compares each of forty elements
+/// with 0.
 pub fn trial_documents_write()
     ensures law { TrialDocumentsWrite }
 {}
@@ -160,6 +161,11 @@ pub fn trial_documents_write()
 /// Law: the first four lines are `lines 40`, `yes 38`, `no 2` and `accepted 38`, and neither form is 0.
 pub fn trial_texts_count()
     ensures law { TrialTextsCount }
+{}
+
+/// Law: each seed has a text.
+pub fn trial_texts_exist()
+    ensures law { TrialTextsExist }
 {}
 
 /// Law: the seed determines the text.

@@ -5,7 +5,7 @@ use Rattle.operad_run.specs.Runs.{Outside, Came, Told, Ends}
 use Rattle.operad_run.specs.CheckRuns.{IsMemberWord, Says, IsComplete, IsRun}
 use Rattle.operad_run.specs.declared.status.Status.{Status}
 use Rattle.operad_run.specs.declared.status.Status.TheVariants.{Done, Refused, Usage, Document, Limit, Budget, ReadFault, WriteFault, NoMemory}
-use Rattle.operad_run.proofs.OneTelling.{in_the_middle}
+use Rattle.operad_answers.proofs.Bounds.{in_the_middle}
 use Rattle.operad_run.proofs.OneVerdict.{never_faulty, all_hold_over}
 use Rattle.operad_run.proofs.Runs.{told_ends, same_bytes, not_too_many}
 

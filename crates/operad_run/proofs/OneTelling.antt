@@ -1,5 +1,5 @@
 -- What a run tells is determined by the bytes.
-use Rattle.std.proofs.Common.{◌≡◌, ℕ, suc, ◌<◌, ◌++◌, ◌∷◌, List, [], ap, sym, ◌∙◌, refl, subst, arith, codes}
+use Rattle.std.proofs.Common.{◌≡◌, ℕ, ◌<◌, ◌++◌, List, [], ap, sym, ◌∙◌, refl, subst, codes}
 use Rattle.std.specs.List.{All}
 use Rattle.std.specs.Fmt.{decimal}
 use Rattle.presentation_text.specs.DocumentForms.{LineFault}
@@ -8,8 +8,13 @@ use Rattle.presentation_text.specs.ReadBack.{ReadDocumentsAreWritable}
 use Rattle.presentation_text.specs.declared.document.Ask.{Ask}
 use Rattle.presentation_text.specs.declared.document.Document as document_of
 use Rattle.presentation_text.specs.declared.kinds.DocKind.TheVariants.{Block}
-use Rattle.operad_run.specs.Answers.{AreAnswered, line}
-use Rattle.operad_run.specs.Forms.{IsAskWithin, IsFirstWide, IsFree, IsRefused, by_line, by_tail, by_relation, IsTooWide, IsAnswered, Tells, queries}
+use Rattle.operad_answers.specs.OrderedPresentations.{asked_by, asks_of}
+use Rattle.operad_answers.specs.Parts.{line}
+use Rattle.operad_answers.specs.Texts.{queries}
+use Rattle.operad_answers.specs.Limits.{IsAskWithin, IsFirstOfGreaterArity}
+use Rattle.operad_answers.proofs.Bounds.{one_number, none_greater}
+use Rattle.operad_run.specs.Answers.{AreAnswered}
+use Rattle.operad_run.specs.Forms.{IsFree, IsRefused, by_line, by_tail, by_relation, IsTooWide, IsAnswered, Tells}
 use Rattle.operad_run.specs.Runs.{fault_text}
 use Rattle.operad_run.specs.Laws.{AnswersAreDetermined}
 use Rattle.operad_run.specs.declared.status.Status.{Status}
@@ -41,34 +46,10 @@ one_refusal bytes _ _ (by_relation d r f some) (by_relation e s g more) = refl
 abbrev AskWithin : ℕ → Ask → Type 0
 AskWithin n ask = IsAskWithin n ask.kind
 
-all_tail : {X : Type 0} (P : X → Type 0) (x : X) (xs : List X) → All P (x ∷ xs) → All P xs
-all_tail P x xs h k d l = h (suc k) d (omega (arith, l))
-
-pub in_the_middle : {X : Type 0} (P : X → Type 0) (front others : List X) (x : X) → All P (front ++ x ∷ others) → P x
-in_the_middle P [] others x h = h 0 x (omega arith)
-in_the_middle P (y ∷ front) others x h = in_the_middle P front others x (all_tail P y (front ++ x ∷ others) h)
-
--- one list is cut at one place only before the first thing that isn't so
-pub one_first : {X : Type 0} (P : X → Type 0) (front others before behind : List X) (x y : X) → front ++ x ∷ others ≡ before ++ y ∷ behind
-    → All P front → All P before → (P x → ⊥) → (P y → ⊥) → x ≡ y
-one_first P [] others [] behind x y e h g p q = cc
-one_first P [] others (z ∷ before) behind x y e h g p q = let same : x ≡ z = cc in absurd (p (subst P (sym same) (g 0 z (omega arith))))
-one_first P (z ∷ front) others [] behind x y e h g p q = let same : z ≡ y = cc in absurd (q (subst P same (h 0 z (omega arith))))
-one_first P (z ∷ front) others (w ∷ before) behind x y e h g p q =
-    let further : front ++ x ∷ others ≡ before ++ y ∷ behind = cc in
-    one_first P front others before behind x y further (all_tail P z front h) (all_tail P w before g) p q
-
-one_wide : (n : ℕ) (asks : List Ask) (number other : ℕ) → IsFirstWide n asks number → IsFirstWide n asks other → number ≡ other
-one_wide n asks number other h g =
-    h.number_is ∙ ap (λ ask. ask.line) (one_first (AskWithin n) h.front h.others g.front g.others h.ask g.ask (sym h.asks_are ∙ g.asks_are) h.within g.within h.wide g.wide) ∙ sym g.number_is
-
-never_wide : (n : ℕ) (asks : List Ask) (number : ℕ) → IsFirstWide n asks number → All (AskWithin n) asks → ⊥
-never_wide n asks number h all = h.wide (in_the_middle (AskWithin n) h.front h.others h.ask (subst (All (AskWithin n)) h.asks_are all))
-
 -- nor has it a question of a greater arity where none is
 pub free_or_wide : (bytes : List ℕ) (n : ℕ) (document : document_of.Document) (text : List ℕ) → IsFree bytes document → All (AskWithin n) document.asks → IsTooWide bytes n text → ⊥
 free_or_wide bytes n document text free within h =
-    never_wide n document.asks h.number (subst (λ asks. IsFirstWide n asks h.number) (sym (same_documents bytes document h.document free.read h.free.read).asks) h.wide) within
+    none_greater n document.asks h.number within (subst (λ asks. IsFirstOfGreaterArity n asks h.number) (sym (same_documents bytes document h.document free.read h.free.read).asks) h.wide)
 
 module _ (writable : ReadDocumentsAreWritable) (bytes : List ℕ) (n : ℕ) where
   same_asks : (document other : document_of.Document) → IsFree bytes document → IsFree bytes other → document.asks ≡ other.asks
@@ -76,13 +57,13 @@ module _ (writable : ReadDocumentsAreWritable) (bytes : List ℕ) (n : ℕ) wher
 
   wide_or_answered : (text other : List ℕ) → IsTooWide bytes n text → IsAnswered bytes n other → ⊥
   wide_or_answered text other h g =
-      never_wide n g.document.asks h.number (subst (λ asks. IsFirstWide n asks h.number) (same_asks h.document g.document h.free g.free) h.wide) g.within
+      none_greater n g.document.asks h.number g.within (subst (λ asks. IsFirstOfGreaterArity n asks h.number) (same_asks h.document g.document h.free g.free) h.wide)
 
   one_limit : (text other : List ℕ) → IsTooWide bytes n text → IsTooWide bytes n other → text ≡ other
   one_limit text other h g =
       let asks = same_asks h.document g.document h.free g.free in
       h.text_is
-      ∙ ap (λ m. line (codes "fault limit query " ++ decimal m)) (one_wide n g.document.asks h.number g.number (subst (λ xs. IsFirstWide n xs h.number) asks h.wide) g.wide)
+      ∙ ap (λ m. line (codes "fault limit query " ++ decimal m)) (one_number n g.document.asks h.number g.number (subst (λ xs. IsFirstOfGreaterArity n xs h.number) asks h.wide) g.wide)
       ∙ sym g.text_is
 
   positive : (document : document_of.Document) → IsReadAs bytes document → 0 < document.field
@@ -94,9 +75,9 @@ module _ (writable : ReadDocumentsAreWritable) (bytes : List ℕ) (n : ℕ) wher
       let d = h.document in
       let e = g.document in
       let here =
-      subst (λ p. AreAnswered p e.gens (queries e.asks) text) same.field
-      (subst (λ gens. AreAnswered d.field gens (queries e.asks) text) same.generators (subst (λ asks. AreAnswered d.field d.gens (queries asks) text) same.asks h.answered)) in
-      same_answered e.field e.gens (queries e.asks) text other (positive e g.free.read) here g.answered
+      subst (λ p. AreAnswered p e.gens (queries (asks_of e)) text) same.field
+      (subst (λ gens. AreAnswered d.field gens (queries (asks_of e)) text) same.generators (subst (λ asks. AreAnswered d.field d.gens (queries (asked_by asks)) text) same.asks h.answered)) in
+      same_answered e.field e.gens (queries (asks_of e)) text other (positive e g.free.read) here g.answered
 
   pub one_telling : (status other : Status) (text others : List ℕ) → Tells bytes n status text → Tells bytes n other others → (status ≡ other) × (text ≡ others)
   one_telling Document Document text others h g = (refl, one_refusal bytes text others h g)

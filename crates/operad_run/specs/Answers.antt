@@ -1,5 +1,5 @@
 -- The lines of the answers to queries.
-use Rattle.std.specs.Prelude.{ℕ, ◌≡◌, ◌≤◌, ◌↔◌, ◌-◌, List, [], ◌∷◌, ◌++◌}
+use Rattle.std.specs.Prelude.{ℕ, ◌≡◌, ◌≤◌, ◌↔◌, ◌-◌, List, [], ◌++◌}
 use Rattle.std.specs.List.{flat_map}
 use Rattle.modular_sums.specs.Sums.{scale, AllTerms}
 use Rattle.labelled_trees.specs.Trees.{Tree}
@@ -10,22 +10,14 @@ use Rattle.symmetric_trees.specs.Trees.{IsLabelled}
 use Rattle.symmetric_trees.specs.declared.generators.Generator.{Generator}
 use Rattle.symmetric_sums.specs.Collected.{IsCollected}
 use Rattle.presentation_text.specs.SumText.{sum_text}
+use Rattle.operad_answers.specs.Parts.{line}
+use Rattle.operad_answers.specs.Texts.{EachWith}
 
 -- the answer to an element modulo p: the text of its collected form
 pub record IsAnswer (p : ℕ) (generators : List Generator) (element : List (ℕ × Tree ℕ)) (answer : List ℕ) : Type 0 where
   pub form : List (ℕ × Tree ℕ)
   pub is_collected : IsCollected p (parts_at generators) element form
   pub answer_is : answer ≡ sum_text p generators form
-
--- the answers to the elements, in their order
-pub data AreAnswers (p : ℕ) (generators : List Generator) : List (List (ℕ × Tree ℕ)) → List (List ℕ) → Type 0 where
-  no_answers : AreAnswers p generators [] []
-  one_answer : (element : List (ℕ × Tree ℕ)) (answer : List ℕ) (elements : List (List (ℕ × Tree ℕ))) (answers : List (List ℕ))
-      → IsAnswer p generators element answer → AreAnswers p generators elements answers → AreAnswers p generators (element ∷ elements) (answer ∷ answers)
-
--- a line ends with a line feed
-abbrev pub line : List ℕ → List ℕ
-line text = text ++ 10 ∷ []
 
 -- the line of the answer to an element joins a text
 pub record AddsAnswer (p : ℕ) (generators : List Generator) (element : List (ℕ × Tree ℕ)) (old new : List ℕ) : Type 0 where
@@ -36,7 +28,7 @@ pub record AddsAnswer (p : ℕ) (generators : List Generator) (element : List (�
 -- the text is the lines of the answers to these elements
 pub record AreAnswered (p : ℕ) (generators : List Generator) (elements : List (List (ℕ × Tree ℕ))) (text : List ℕ) : Type 0 where
   pub answers : List (List ℕ)
-  pub are_answers : AreAnswers p generators elements answers
+  pub are_answers : EachWith (IsAnswer p generators) elements answers
   pub text_is : text ≡ flat_map line answers
 
 -- the presentation of the generators modulo p, without relations

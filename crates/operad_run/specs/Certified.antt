@@ -18,7 +18,7 @@ use Rattle.certificate_check.specs.Answers.{IsAnswer}
 use Rattle.certificate_check.specs.declared.answer.CheckAnswer.TheVariants.{Refused}
 use Rattle.certificate_check.specs.declared.answer.CheckCause.{CheckCause}
 use Rattle.certificate_check.specs.declared.answer.CheckCause.TheVariants.{Ahead, UseUnfit, Differs, NotWanted}
-use Rattle.operad_run.specs.Answers.{line}
+use Rattle.operad_answers.specs.Parts.{line}
 use Rattle.operad_run.specs.Runs.{fault_text}
 use Rattle.operad_run.specs.declared.checks.Refusal.{Refusal}
 use Rattle.operad_run.specs.declared.status.Status.{Status}

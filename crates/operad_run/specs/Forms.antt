@@ -1,62 +1,32 @@
 -- What `forms` tells of a text: its answers, or why there are none.
-use Rattle.std.specs.Prelude.{ℕ, ◌≡◌, ◌≤◌, List, [], ◌∷◌, ◌++◌, codes, Option, Some, None, Err, filter_map}
+use Rattle.std.specs.Prelude.{ℕ, ◌≡◌, List, [], ◌++◌, codes, Some, None, Err}
 use Rattle.std.specs.List.{All}
 use Rattle.std.specs.Fmt.{decimal}
-use Rattle.labelled_trees.specs.Trees.{Tree}
 use Rattle.symmetric_trees.specs.declared.generators.Generator.{Generator}
-use Rattle.symmetric_sums.specs.Terms.{HaveArity, terms_of}
-use Rattle.symmetric_sums.specs.declared.term.Term.{Term}
+use Rattle.symmetric_sums.specs.Terms.{terms_of}
 use Rattle.presentation_text.specs.DocumentForms.{read_text}
 use Rattle.presentation_text.specs.Presentations.{IsReadAs}
-use Rattle.presentation_text.specs.declared.document.Ask.{Ask}
 use Rattle.presentation_text.specs.declared.document.AskKind.{AskKind}
 use Rattle.presentation_text.specs.declared.document.AskKind.TheVariants.{Query, Same}
 use Rattle.presentation_text.specs.declared.document.Document as document_of
 use Rattle.presentation_text.specs.declared.document.Tail.{Tail}
 use Rattle.presentation_text.specs.declared.kinds.DocKind.{DocKind}
 use Rattle.presentation_text.specs.declared.kinds.DocKind.TheVariants.{Block, NotBuilt}
-use Rattle.operad_run.specs.Answers.{AddsAnswer, AreAnswered, AnswersDecide, line}
+use Rattle.operad_answers.specs.OrderedPresentations.{asks_of}
+use Rattle.operad_answers.specs.Parts.{line}
+use Rattle.operad_answers.specs.Texts.{queries}
+use Rattle.operad_answers.specs.Limits.{IsAskWithin, IsFirstOfGreaterArity}
+use Rattle.operad_run.specs.Answers.{AddsAnswer, AreAnswered, AnswersDecide}
 use Rattle.operad_run.specs.Runs.{fault_text}
 use Rattle.operad_run.specs.declared.status.Status.{Status}
 use Rattle.operad_run.specs.declared.status.Status.TheVariants.{Done, Document, Limit}
 
 -- ---- questions
 
-abbrev pub queried_kind : AskKind → Option (List (ℕ × Tree ℕ))
-queried_kind (Query sum) = Some (terms_of sum)
-queried_kind (Same left right) = None
-
--- the element of a query; none of a comparison
-abbrev pub queried : Ask → Option (List (ℕ × Tree ℕ))
-queried ask = queried_kind ask.kind
-
--- the elements of the queries, in their order
-abbrev pub queries : List Ask → List (List (ℕ × Tree ℕ))
-queries = filter_map queried
-
 -- the line of the answer joins a text where the question is a query
 abbrev pub AnswersAsk : ℕ → List Generator → AskKind → List ℕ → List ℕ → Type 0
 AnswersAsk p generators (Query sum) old new = AddsAnswer p generators (terms_of sum) old new
 AnswersAsk p generators (Same left right) old new = new ≡ old
-
--- each of the sum's trees has at most n leaves
-abbrev pub IsWithin : ℕ → List Term → Type 0
-IsWithin n sum = (m : ℕ) × (m ≤ n) × HaveArity m sum
-
--- the elements of a question, as far as they have terms, have an arity of at most n
-abbrev pub IsAskWithin : ℕ → AskKind → Type 0
-IsAskWithin n (Query sum) = IsWithin n sum
-IsAskWithin n (Same left right) = IsWithin n left × IsWithin n right
-
--- The first question whose elements have a greater arity stands in the line of this number.
-pub record IsFirstWide (n : ℕ) (asks : List Ask) (number : ℕ) : Type 0 where
-  pub front : List Ask
-  pub ask : Ask
-  pub others : List Ask
-  pub asks_are : asks ≡ front ++ ask ∷ others
-  pub within : All (λ ask. IsAskWithin n ask.kind) front
-  pub wide : IsAskWithin n ask.kind → ⊥
-  pub number_is : number ≡ ask.line
 
 -- ---- documents
 
@@ -82,7 +52,7 @@ pub record IsTooWide (bytes : List ℕ) (n : ℕ) (text : List ℕ) : Type 0 whe
   pub document : document_of.Document
   pub free : IsFree bytes document
   pub number : ℕ
-  pub wide : IsFirstWide n document.asks number
+  pub wide : IsFirstOfGreaterArity n document.asks number
   pub text_is : text ≡ line (codes "fault limit query " ++ decimal number)
 
 -- The text is the lines of the answers to the queries, which tell these apart modulo symmetry.
@@ -90,7 +60,7 @@ pub record IsAnswered (bytes : List ℕ) (n : ℕ) (text : List ℕ) : Type 0 wh
   pub document : document_of.Document
   pub free : IsFree bytes document
   pub within : All (λ ask. IsAskWithin n ask.kind) document.asks
-  pub answered : AreAnswered document.field document.gens (queries document.asks) text
+  pub answered : AreAnswered document.field document.gens (queries (asks_of document)) text
   pub decide : AnswersDecide document.field document.gens
 
 -- the status and the text that go with bytes and a greatest arity; other statuses go with none

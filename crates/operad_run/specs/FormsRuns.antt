@@ -4,7 +4,8 @@ use Rattle.std.specs.List.{All}
 use Rattle.outside_io.specs.Causes.{Rose}
 use Rattle.presentation_text.specs.declared.document.Document as document_of
 use Rattle.operad_run.specs.Commands.{IsForms, IsCommand}
-use Rattle.operad_run.specs.Forms.{IsAskWithin, IsFree, Tells}
+use Rattle.operad_answers.specs.Limits.{IsAskWithin}
+use Rattle.operad_run.specs.Forms.{IsFree, Tells}
 use Rattle.operad_run.specs.Runs.{Outside, Came, most_bytes, IsMisused, IsUnreadable, IsTooLong, Ends}
 use Rattle.operad_run.specs.declared.status.Status.{Status}
 use Rattle.operad_run.specs.declared.status.Status.TheVariants.{Done, Usage, Document, Limit, ReadFault, NoMemory}

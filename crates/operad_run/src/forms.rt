@@ -3,7 +3,11 @@ ghost use Rattle.std.specs.Fmt.{decimal};
 ghost use Rattle.std.specs.List.{All};
 ghost use Rattle.symmetric_sums.specs.Terms.{FitsOver, terms_of};
 ghost use Rattle.presentation_text.specs.DraftForms.{AskFits};
-ghost use Rattle.operad_run.specs.Answers.{AddsAnswer, AreAnswered, line as line_of};
+ghost use Rattle.operad_answers.specs.OrderedPresentations.{asks_of};
+ghost use Rattle.operad_answers.specs.Parts.{line as line_of};
+ghost use Rattle.operad_answers.specs.Texts.{queries};
+ghost use Rattle.operad_answers.specs.Limits as limits;
+ghost use Rattle.operad_run.specs.Answers.{AddsAnswer, AreAnswered};
 ghost use Rattle.operad_run.specs.Forms as spec;
 ghost use Rattle.operad_run.specs.Laws.{AnswersAreDetermined};
 
@@ -19,7 +23,7 @@ use symmetric_trees::GenTable;
 
 // Whether all trees of a sum have at most so many leaves.
 fn is_within(sum: &Sum, most: u8) -> bool
-    ensures { IsTrue result ↔ spec.IsWithin most sum.now }
+    ensures { IsTrue result ↔ limits.IsWithin most sum.now }
 {
     match sum.arity() {
         Some(arity) => arity <= most,
@@ -28,7 +32,7 @@ fn is_within(sum: &Sum, most: u8) -> bool
 }
 
 fn is_ask_within(kind: &AskKind, most: u8) -> bool
-    ensures { IsTrue result ↔ spec.IsAskWithin most kind.now }
+    ensures { IsTrue result ↔ limits.IsAskWithin most kind.now }
 {
     match kind {
         AskKind::Query(sum) => is_within(sum, most),
@@ -38,7 +42,7 @@ fn is_ask_within(kind: &AskKind, most: u8) -> bool
 
 // The line of the first question whose elements have a greater arity.
 fn first_wide(asks: &[Ask], most: u8) -> Option<u32>
-    ensures { MatchOption result (All (λ ask. spec.IsAskWithin most ask.kind) asks.now) (spec.IsFirstWide most asks.now) }
+    ensures { MatchOption result (All (λ ask. limits.IsAskWithin most ask.kind) asks.now) (limits.IsFirstOfGreaterArity most asks.now) }
 {
     for ask in asks {
         if !is_ask_within(&ask.kind, most) {
@@ -98,7 +102,7 @@ fn write_ask_answer(
 // The lines of the answers to the queries of a document.
 fn answers(alloc: Global, document: &Document) -> Result<Vec<u8>, AllocError>
     requires asks { All (λ ask. AskFits document.now.field document.now.gens ask.kind) document.now.asks }
-    ensures { IfOk result (λ out. AreAnswered document.now.field document.now.gens (spec.queries document.now.asks) out.items) }
+    ensures { IfOk result (λ out. AreAnswered document.now.field document.now.gens (queries (asks_of document.now)) out.items) }
 {
     let mut out = Vec::new(alloc);
     for ask in document.asks.as_slice() {

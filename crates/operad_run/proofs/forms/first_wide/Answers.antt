@@ -1,10 +1,10 @@
 use Rattle.std.proofs.Common.{◌≡◌, true, false, arith, refl}
-use Rattle.operad_run.proofs.AnswerSteps.{within_more, all_within, first_wide}
+use Rattle.operad_run.proofs.AnswerSteps.{within_more, all_within, first_greater}
 use Rattle.operad_run.proofs.forms.first_wide.Goals as goal
 
 pub returns-then-not-is_ask_within : goal.returns-then-not-is_ask_within
 returns-then-not-is_ask_within c =
-    first_wide c.args.most c.args.asks.now c.loop-ask.ask-index c.ask-item.result c.loop-ask-test.true c.ask-item.is c.loop-ask.invariant
+    first_greater c.args.most c.args.asks.now c.loop-ask.ask-index c.ask-item.result c.loop-ask-test.true c.ask-item.is c.loop-ask.invariant
     (λ within. let both : false ≡ true = c.if-not-is_ask_within.ensures.1 within in absurd cc)
 
 pub loop-ask-preserved : goal.loop-ask-preserved

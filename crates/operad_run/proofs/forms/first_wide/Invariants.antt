@@ -1,6 +1,6 @@
 use Rattle.std.proofs.Common.{take}
 use Rattle.std.specs.List.{All}
-use Rattle.operad_run.specs.Forms.{IsAskWithin}
+use Rattle.operad_answers.specs.Limits.{IsAskWithin}
 use Rattle.operad_run.proofs.forms.first_wide.Given as goal
 
 abbrev pub invariant-loop-ask : goal.invariant-loop-ask

@@ -2,7 +2,8 @@ use Rattle.std.proofs.Common.{◌≡◌, false, true, refl, subst, sym}
 use Rattle.std.specs.List.{All}
 use Rattle.std.specs.Option.{MatchOption}
 use Rattle.presentation_text.specs.Presentations as documents
-use Rattle.operad_run.specs.Forms.{IsAskWithin, IsFirstWide, IsRefused, by_line, by_tail, by_relation}
+use Rattle.operad_answers.specs.Limits.{IsAskWithin, IsFirstOfGreaterArity}
+use Rattle.operad_run.specs.Forms.{IsRefused, by_line, by_tail, by_relation}
 use Rattle.operad_run.proofs.AnswerSteps.{none_if}
 use Rattle.operad_run.proofs.Decides.{answers_decide}
 use Rattle.operad_run.proofs.forms.forms_text.Goals as goal
@@ -25,13 +26,13 @@ returns-then-not-has_no_relations c = record {
 pub returns-in-Some-first_wide : goal.returns-in-Some-first_wide
 returns-in-Some-first_wide c =
     let d = c.in-Ok.document in
-    let wide = subst (λ found. MatchOption found (All (λ ask. IsAskWithin c.args.most ask.kind) c.as_slice.result.now) (IsFirstWide c.args.most c.as_slice.result.now)) c.in-Some-first_wide.is c.first_wide.ensures in
+    let wide = subst (λ found. MatchOption found (All (λ ask. IsAskWithin c.args.most ask.kind) c.as_slice.result.now) (IsFirstOfGreaterArity c.args.most c.as_slice.result.now)) c.in-Some-first_wide.is c.first_wide.ensures in
     record {
       told = record {
         document = d;
         free = record { read = c.in-Ok.ensures.document; no_tail = none_if d.tail c.in_default.not-Some; no_relations = c.if-not-has_no_relations.ensures.0 refl };
         number = c.in-Some-first_wide.line;
-        wide = subst (λ asks. IsFirstWide c.args.most asks c.in-Some-first_wide.line) c.as_slice.ensures wide;
+        wide = subst (λ asks. IsFirstOfGreaterArity c.args.most asks c.in-Some-first_wide.line) c.as_slice.ensures wide;
         text_is = c.in_ok-wide_text-in-Some-first_wide.ensures;
       };
     }
@@ -40,7 +41,7 @@ pub returns : goal.returns
 returns c =
     let d = c.in-Ok.document in
     let formed = c.in-Ok.ensures.formed in
-    let within = subst (λ found. MatchOption found (All (λ ask. IsAskWithin c.args.most ask.kind) c.as_slice.result.now) (IsFirstWide c.args.most c.as_slice.result.now)) c.in-None.is c.first_wide.ensures in
+    let within = subst (λ found. MatchOption found (All (λ ask. IsAskWithin c.args.most ask.kind) c.as_slice.result.now) (IsFirstOfGreaterArity c.args.most c.as_slice.result.now)) c.in-None.is c.first_wide.ensures in
     record {
       told = record {
         document = d;

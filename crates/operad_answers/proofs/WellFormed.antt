@@ -31,15 +31,15 @@ use Rattle.presentation_text.specs.declared.document.Document.{Document}
 use Rattle.presentation_text.proofs.ElementsAccepted.{elements_accepted}
 use Rattle.presentation_text.proofs.TreesAccepted.{all_accepted}
 use Rattle.presentation_text.proofs.WritableDocuments.{read_writable}
-use Rattle.operad_answers.specs.OrderedPresentations.{OrderedPresentation, presentation, comparison, written, IsReady}
+use Rattle.operad_answers.specs.OrderedPresentations.{OrderedPresentation, presentation, comparison, written, IsWellFormed}
 use Rattle.operad_answers.specs.Texts.{Sum}
-use Rattle.operad_answers.specs.Laws.{DocumentsAreReady}
+use Rattle.operad_answers.specs.Laws.{DocumentsAreWellFormed}
 
 -- ---- elements that are read
 
-pub said_labelled : (p : ℕ) (generators : List Generator) (n : ℕ) (e : Sum) → IsSaidOver p generators n e → AllTerms e (IsLabelled generators n)
-said_labelled p generators n [] h = tt
-said_labelled p generators n (x ∷ e) h = ((h 0 x (omega arith)).tree.labelled, said_labelled p generators n e (λ k d l. h (suc k) d (omega (arith, l))))
+pub writable_labelled : (p : ℕ) (generators : List Generator) (n : ℕ) (e : Sum) → IsSaidOver p generators n e → AllTerms e (IsLabelled generators n)
+writable_labelled p generators n [] h = tt
+writable_labelled p generators n (x ∷ e) h = ((h 0 x (omega arith)).tree.labelled, writable_labelled p generators n e (λ k d l. h (suc k) d (omega (arith, l))))
 
 -- the arity of an element that has terms is that of its trees
 pub arity_of_labelled : (generators : List Generator) (n : ℕ) (x : ℕ × Tree ℕ) (e : Sum) → AllTerms (x ∷ e) (IsLabelled generators n) → element_arity (x ∷ e) ≡ n
@@ -55,8 +55,8 @@ module _ (p : ℕ) (generators : List Generator) where
   relation_sound : (rels : List (List Term)) → All (λ sum. IsSaidRelation p generators (terms_of sum)) rels → (r : Relation) → Mem r (map relation_of rels) → AllTerms r.terms (IsLabelled generators r.arity)
   relation_sound [] h r m = absurd m
   relation_sound (x ∷ rels) h r (inl e) =
-      let said = h 0 x (omega arith) in
-      subst (λ z. AllTerms z.terms (IsLabelled generators z.arity)) (sym e) (labelled_element generators said.0 (terms_of x) (said_labelled p generators said.0 (terms_of x) said.2))
+      let writable = h 0 x (omega arith) in
+      subst (λ z. AllTerms z.terms (IsLabelled generators z.arity)) (sym e) (labelled_element generators writable.0 (terms_of x) (writable_labelled p generators writable.0 (terms_of x) writable.2))
   relation_sound (x ∷ rels) h r (inr m) = relation_sound rels (λ k d l. h (suc k) d (omega (arith, l))) r m
 
   two_or_none : (n : ℕ) (e : Sum) → 2 ≤ n → AllTerms e (IsLabelled generators n) → (e ≡ []) ⊎ (2 ≤ element_arity e)
@@ -66,12 +66,12 @@ module _ (p : ℕ) (generators : List Generator) where
   relation_proper : (rels : List (List Term)) → All (λ sum. IsSaidRelation p generators (terms_of sum)) rels → (r : Relation) → Mem r (map relation_of rels) → (r.terms ≡ []) ⊎ (2 ≤ r.arity)
   relation_proper [] h r m = absurd m
   relation_proper (x ∷ rels) h r (inl e) =
-      let said = h 0 x (omega arith) in
-      subst (λ z. (z.terms ≡ []) ⊎ (2 ≤ z.arity)) (sym e) (two_or_none said.0 (terms_of x) said.1 (said_labelled p generators said.0 (terms_of x) said.2))
+      let writable = h 0 x (omega arith) in
+      subst (λ z. (z.terms ≡ []) ⊎ (2 ≤ z.arity)) (sym e) (two_or_none writable.0 (terms_of x) writable.1 (writable_labelled p generators writable.0 (terms_of x) writable.2))
   relation_proper (x ∷ rels) h r (inr m) = relation_proper rels (λ k d l. h (suc k) d (omega (arith, l))) r m
 
-pub writable_ready : (d : Document) → IsWritable d → IsReady (written d)
-writable_ready d h = record {
+pub writable_well_formed : (d : Document) → IsWritable d → IsWellFormed (written d)
+writable_well_formed d h = record {
   prime = h.field;
   table = h.table;
   words = h.words;
@@ -123,17 +123,17 @@ arities_wide generators table g l = go generators table.arities table.sizes g l
         omega (arith, fit, two, e)
     go (x ∷ gs) a s (suc g) l = go gs (λ k d i. a (suc k) d (omega (arith, i))) (λ k d i. s (suc k) d (omega (arith, i))) g (omega (arith, l))
 
-pub ready_over_field : (o : OrderedPresentation) → IsReady o → IsOverField (presentation o)
-ready_over_field o ready = record {
-  not_zero = let above = prime_above o.field ready.prime in omega (arith, above);
-  inverses = inverses o.field ready.prime;
-  wide = arities_wide o.generators ready.table;
-  sound = ready.sound;
-  proper = ready.proper;
+pub well_formed_over_field : (o : OrderedPresentation) → IsWellFormed o → IsOverField (presentation o)
+well_formed_over_field o well_formed = record {
+  not_zero = let above = prime_above o.field well_formed.prime in omega (arith, above);
+  inverses = inverses o.field well_formed.prime;
+  wide = arities_wide o.generators well_formed.table;
+  sound = well_formed.sound;
+  proper = well_formed.proper;
 }
 
 pub order_in : (o : OrderedPresentation) → IsTreeOrder (inputs_of (presentation o)) (comparison o)
 order_in o = order_of (presentation o) o.order
 
-pub documents_ready : DocumentsAreReady
-documents_ready = (writable_ready, λ bytes d h. writable_ready d (documents_writable bytes d h), λ o ready. (ready_over_field o ready, order_in o))
+pub documents_well_formed : DocumentsAreWellFormed
+documents_well_formed = (writable_well_formed, λ bytes d h. writable_well_formed d (documents_writable bytes d h), λ o well_formed. (well_formed_over_field o well_formed, order_in o))
