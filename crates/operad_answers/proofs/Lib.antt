@@ -18,6 +18,7 @@ pub mod LieCertificate
 pub mod LieDocument
 pub mod LieDone
 pub mod LieJoined
+pub mod LieLaws
 pub mod LieProof
 pub mod LieTexts
 pub mod Limits

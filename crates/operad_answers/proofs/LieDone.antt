@@ -29,6 +29,7 @@ use Rattle.presentation_text.specs.LineForms.{Asked, query, word_fault, field_li
 use Rattle.presentation_text.specs.TreeForms.{row_in, tree_in, whole_tree_in}
 use Rattle.presentation_text.specs.Presentations.{IsReadAs}
 use Rattle.presentation_text.specs.declared.document.Ask.{Ask}
+use Rattle.presentation_text.specs.declared.document.AskKind.{AskKind}
 use Rattle.presentation_text.specs.declared.document.AskKind.TheVariants.{Query}
 use Rattle.presentation_text.specs.declared.document.Document.{Document}
 use Rattle.operad_answers.specs.OrderedPresentations.{OrderedPresentation, presentation, comparison, written, asks_of}
@@ -42,16 +43,22 @@ use Rattle.operad_answers.proofs.LieTexts.{lie_written, lie_answer}
 use Rattle.operad_answers.proofs.LieDocument.{lie_with, lie_content, read_with, lie_is_written, comb, comb_is}
 use Rattle.operad_answers.proofs.LieProof.{label_one}
 
-abbrev bytes : List ℕ
+abbrev pub bytes : List ℕ
 bytes = codes "operad 1\nfield 101\norder path\ngen l 2 alt\nrel l(l(1,2),3) + l(l(2,3),1) + l(l(3,1),2)\nquery l(l(1,2),3)\n"
 
-abbrev one_term : List Term
-one_term = record { coef = 1; tree = comb 1 2 3 } ∷ []
+abbrev pub first_term : Term
+first_term = record { coef = 1; tree = comb 1 2 3 }
 
-abbrev asks : List Ask
-asks = record { line = 6; kind = Query one_term } ∷ []
+abbrev pub one_term : List Term
+one_term = first_term ∷ []
 
-abbrev document : Document
+abbrev pub query_kind : AskKind
+query_kind = Query one_term
+
+abbrev pub asks : List Ask
+asks = record { line = 6; kind = query_kind } ∷ []
+
+abbrev pub document : Document
 document = lie_with asks
 
 term_is : terms_of one_term ≡ (1, t1) ∷ []
@@ -61,7 +68,7 @@ reading : read_text bytes ≡ Ok (record { told = lie_content ((6, query ((1, t1
 unfolding word_line lines_from document_from term_in further_in element_in word_fault field_line order_line symmetry_in named_arity_in generator_in gen_line rel_line query_in same_in query_line same_line row_in tree_in whole_tree_in lie_content ℕ_discrete
 reading = refl
 
-is_read : IsReadAs bytes document
+pub is_read : IsReadAs bytes document
 is_read = read_with bytes asks ((6, query ((1, t1) ∷ [])) ∷ []) reading (ap (λ e. (6, query e) ∷ []) term_is)
 
 -- ---- the counted runs' document is that of the example in the crate of counted runs
@@ -100,7 +107,7 @@ paid = counted_runs_pay document (documents_writable bytes document is_read) 4 s
 
 -- ---- no limit is met
 
-few_trees : HasFewTrees document 4
+pub few_trees : HasFewTrees document 4
 unfolding word_discrete same_cons letter_discrete same_letter ℕ_discrete
 few_trees zero one_le le = absurd (omega (arith, one_le))
 few_trees (suc zero) one_le le = omega arith
@@ -109,10 +116,10 @@ few_trees (suc (suc (suc zero))) one_le le = omega arith
 few_trees (suc (suc (suc (suc zero)))) one_le le = omega arith
 few_trees (suc (suc (suc (suc (suc n))))) one_le le = absurd (omega (arith, le))
 
-three_leaves : IsNumbered 3 (tree_of (comb 1 2 3))
+pub three_leaves : IsNumbered 3 (tree_of (comb 1 2 3))
 three_leaves = subst (IsNumbered 3) (sym (comb_is 1 2 3)) (numbered_of_labelled label_one)
 
-within : IsWithinLimits document 4
+pub within : IsWithinLimits document 4
 within = record {
   few_trees = few_trees;
   asks = All-from_recursion (λ ask. IsAskWithin 4 ask.kind) document.asks ((3, omega arith, All-from_recursion (λ term. IsNumbered 3 (tree_of term.tree)) one_term (three_leaves, tt)), tt);
@@ -123,7 +130,7 @@ within = record {
 plain_forms : IsFormsText lie_written (query ((1, t1) ∷ []) ∷ []) (codes "l(1,l(2,3)) + l(l(1,3),2)\n")
 plain_forms = record { answers = codes "l(1,l(2,3)) + l(l(1,3),2)" ∷ []; are_answers = (lie_answer, tt); text_is = refl }
 
-forms_text : IsTextOf forms document 4 (codes "l(1,l(2,3)) + l(l(1,3),2)\n")
+pub forms_text : IsTextOf forms document 4 (codes "l(1,l(2,3)) + l(l(1,3),2)\n")
 forms_text = subst (λ o. IsFormsText o (asks_of document) (codes "l(1,l(2,3)) + l(l(1,3),2)\n")) (sym (lie_is_written asks))
     (subst (λ e. IsFormsText lie_written (query e ∷ []) (codes "l(1,l(2,3)) + l(l(1,3),2)\n")) (sym term_is) plain_forms)
 
