@@ -35,4 +35,6 @@ pub mod WellFormed
 pub mod ReducedRules
 mod TrialDocuments
 mod TrialTexts
+mod TrialWritable
+mod TrialBudgets
 pub mod Verdicts

@@ -1,5 +1,5 @@
 -- An example: over the Lie presentation `forms 4` is done with one query, within a budget that a full counted run keeps.
-use Rattle.std.proofs.Common.{false, ◌≡◌, ℕ, zero, suc, ◌+◌, List, [], ◌∷◌, codes, length, None, Ok, refl, sym, ◌∙◌, ap, subst, arith}
+use Rattle.std.proofs.Common.{◌≡◌, ℕ, zero, suc, ◌+◌, List, [], ◌∷◌, codes, length, None, Ok, refl, sym, ◌∙◌, ap, subst, arith}
 use mathlib.Core.List.{◌++◌}
 use Rattle.std.proofs.lemmas.List.Elements.{All-from_recursion}
 use native.Mathlib.Decide.{ℕ_discrete}
@@ -20,7 +20,6 @@ use Rattle.counted_runs.specs.Counters.{HasCountedFull}
 use Rattle.counted_runs.proofs.LieFullRun.{one, the_run, the_pair}
 use Rattle.counted_runs.proofs.LieRuns.{BracketEntry}
 use Rattle.counted_runs.proofs.LieAnswers.{the_chain, answered_run}
-use Rattle.symmetric_sums.specs.Instances.{element_arity}
 use Rattle.symmetric_sums.specs.Terms.{terms_of}
 use Rattle.symmetric_sums.specs.declared.term.Term.{Term}
 use Rattle.presentation_text.specs.DocumentForms.{read_text, word_line, lines_from, document_from}
@@ -32,10 +31,10 @@ use Rattle.presentation_text.specs.declared.document.Ask.{Ask}
 use Rattle.presentation_text.specs.declared.document.AskKind.{AskKind}
 use Rattle.presentation_text.specs.declared.document.AskKind.TheVariants.{Query}
 use Rattle.presentation_text.specs.declared.document.Document.{Document}
-use Rattle.operad_answers.specs.OrderedPresentations.{OrderedPresentation, presentation, comparison, written, asks_of}
-use Rattle.operad_answers.specs.Texts.{Sum, IsFormsText}
+use Rattle.operad_answers.specs.OrderedPresentations.{presentation, comparison, written, asks_of}
+use Rattle.operad_answers.specs.Texts.{IsFormsText}
 use Rattle.operad_answers.specs.Limits.{IsAskWithin, HasFewTrees, IsWithinLimits}
-use Rattle.operad_answers.specs.Budgets.{counted, IsPaid}
+use Rattle.operad_answers.specs.Budgets.{counted_of, counted, IsPaid}
 use Rattle.operad_answers.specs.Commands.{forms, IsTextOf, IsAnsweredBy, IsDone}
 use Rattle.operad_answers.proofs.Bounds.{counted_runs_pay}
 use Rattle.operad_answers.proofs.WellFormed.{documents_writable}
@@ -61,7 +60,7 @@ asks = record { line = 6; kind = query_kind } ∷ []
 abbrev pub document : Document
 document = lie_with asks
 
-term_is : terms_of one_term ≡ (1, t1) ∷ []
+pub term_is : terms_of one_term ≡ (1, t1) ∷ []
 term_is = ap (λ t. (1, t) ∷ []) (comb_is 1 2 3)
 
 reading : read_text bytes ≡ Ok (record { told = lie_content ((6, query ((1, t1) ∷ [])) ∷ []); tail = None })
@@ -73,11 +72,8 @@ is_read = read_with bytes asks ((6, query ((1, t1) ∷ [])) ∷ []) reading (ap 
 
 -- ---- the counted runs' document is that of the example in the crate of counted runs
 
-abbrev counts : OrderedPresentation → Sum → items.Document
-counts o f = record { presentation = presentation o; compare = comparison o; questions = record { arity = element_arity f; terms = f } ∷ []; traces = false }
-
-counted_is : counted document ≡ counts lie_written ((1, t1) ∷ [])
-counted_is = ap (λ o. counts o (terms_of one_term)) (lie_is_written asks) ∙ ap (counts lie_written) term_is
+counted_is : counted document ≡ counted_of lie_written (query ((1, t1) ∷ []) ∷ [])
+counted_is = ap (λ o. counted_of o (asks_of document)) (lie_is_written asks) ∙ ap (λ e. counted_of lie_written (query e ∷ [])) term_is
 
 abbrev calls : List Call
 calls = answering 1 ∷ (completing ∷ [])

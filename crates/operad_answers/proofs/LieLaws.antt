@@ -1,6 +1,6 @@
 -- An example: what the laws say of documents of the Lie presentation.
-use Rattle.std.proofs.Common.{◌≡◌, ◌<◌, ◌^◌, ℕ, List, [], ◌∷◌, length, arith, codes, refl, sym, inl, inr, ⊎_elim, ◌∙◌, subst, false}
-use Rattle.std.specs.Prelude.{◌++◌}
+use Rattle.std.proofs.Common.{◌≡◌, ◌<◌, ◌≤◌, ◌^◌, ℕ, zero, suc, None, List, [], ◌∷◌, length, arith, codes, refl, sym, inl, inr, ⊎_elim, ◌∙◌, subst}
+use Rattle.std.specs.Prelude.{◌++◌, ◌↔◌}
 use Rattle.std.specs.List.{AllByRecursion}
 use Rattle.std.specs.Fmt.{decimal, digits}
 use Rattle.labelled_trees.specs.Trees.{Tree}
@@ -16,24 +16,32 @@ use Rattle.counted_runs.specs.Runs.{EntryOf, IsStoppedRun, run_length}
 use Rattle.counted_runs.proofs.LieFullRun.{d, begin, stop, stopped_run}
 use Rattle.counted_runs.proofs.LieRuns.{BracketEntry}
 use Rattle.symmetric_trees.specs.Trees.{IsLabelled}
+use Rattle.symmetric_trees.specs.declared.generators.PartKind.TheVariants.{Free}
+use Rattle.symmetric_sums.specs.Terms.{terms_of}
+use Rattle.shuffle_transfer.specs.Labels.{word_discrete, same_cons, letter_discrete, same_letter}
+use native.Mathlib.Decide.{ℕ_discrete}
 use Rattle.presentation_text.specs.Presentations.{IsReadAs}
 use Rattle.presentation_text.specs.ReadBack.{IsWritable}
 use Rattle.presentation_text.specs.TreeText.{tree_text}
+use Rattle.presentation_text.specs.declared.document.OrderName.TheVariants.{Path}
 use Rattle.presentation_text.specs.declared.document.Document.{Document}
-use Rattle.operad_answers.specs.OrderedPresentations.{OrderedPresentation, presentation, comparison, written, IsWellFormed}
+use Rattle.operad_answers.specs.OrderedPresentations.{OrderedPresentation, presentation, written, IsWellFormed, asks_of}
 use Rattle.operad_answers.specs.Parts.{line, part_text, AreParts}
-use Rattle.operad_answers.specs.Texts.{IsNormalText, IsBasisOfQuotient, IsForm, IsAnswer}
+use Rattle.operad_answers.specs.Texts.{IsNormalText, IsBasisOfQuotient, IsForm, IsAnswer, Sum, IsNarrow}
 use Rattle.operad_answers.specs.Verdicts.{difference, WantingBlock}
-use Rattle.operad_answers.specs.Limits.{IsAskWithin, IsWithinLimits}
-use Rattle.operad_answers.specs.Budgets.{counted, IsSpent}
-use Rattle.operad_answers.specs.Commands.{basis, forms, IsTextOf, IsDone, AsksGreaterArity, IsOverBudget}
+use Rattle.operad_answers.specs.Limits.{tree_number, most_trees, IsAskWithin, IsWithinLimits}
+use Rattle.operad_answers.specs.Budgets.{counted_of, counted, IsSpent}
+use Rattle.operad_answers.specs.Commands.{basis, forms, IsTextOf, IsDone, HasTooManyTrees, AsksGreaterArity, IsOverBudget}
 use Rattle.operad_answers.proofs.Bounds.{limits_exclude}
 use Rattle.operad_answers.proofs.Deciding.{verdicts_decide, enough_is_not_spent}
 use Rattle.operad_answers.proofs.Doing.{done_exists}
 use Rattle.operad_answers.proofs.Existing.{basis_of, normal_texts_are_bases}
 use Rattle.operad_answers.proofs.Forms.{decide}
 use Rattle.operad_answers.proofs.FreePresentations.{collected_forms_are_normal}
+use Rattle.operad_answers.proofs.OneGenerator.{binary}
 use Rattle.operad_answers.proofs.OneText.{texts_determined, answers_determined}
+use Rattle.operad_answers.proofs.PrintedLines.{query_lines_decide}
+use Rattle.operad_answers.proofs.Questions.{questions_are_elements}
 use Rattle.operad_answers.proofs.PrintedTrees.{listings_tell_trees, parts_tell_bases}
 use Rattle.operad_answers.proofs.Verdicts.{members_have_blocks}
 use Rattle.operad_answers.proofs.WellFormed.{documents_writable, documents_well_formed}
@@ -104,6 +112,24 @@ has_block = members_have_blocks lie_document writable 3 (difference 101 sides) (
     labelled : AllTerms (difference 101 sides) (IsLabelled generators 3)
     labelled = (label_one, (label_three, (label_two, tt)))
 
+-- ---- lines of two texts decide
+
+abbrev query_sum : Sum
+query_sum = terms_of one.one_term
+
+one_writable : IsWritable one.document
+one_writable = documents_writable one.bytes one.document one.is_read
+
+query_narrow : IsNarrow generators 3 query_sum
+query_narrow = (omega arith, subst (λ e. AllTerms e (IsLabelled generators 3)) (sym one.term_is) (label_one, tt))
+
+abbrev answer_line : List ℕ
+answer_line = codes "l(1,l(2,3)) + l(l(1,3),2)"
+
+pub lines_agree : (answer_line ≡ answer_line) ↔ InIdeal (presentation (written lie_document)) 3 (query_sum ++ scale 100 query_sum)
+lines_agree = query_lines_decide (written lie_document) formed (asks_of lie_document) (asks_of one.document) (questions_are_elements lie_document writable) (questions_are_elements one.document one_writable)
+    (codes "l(1,l(2,3)) + l(l(1,3),2)\n") (codes "l(1,l(2,3)) + l(l(1,3),2)\n") forms_three one.forms_text 1 1 query_sum query_sum refl refl 3 query_narrow query_narrow answer_line answer_line refl refl
+
 -- ---- without relations the normal form is the collected form
 
 abbrev skew : OrderedPresentation
@@ -132,14 +158,11 @@ open_writable = record {
   asks = λ k x l. absurd (omega (arith, l));
 }
 
-abbrev counts : OrderedPresentation → items.Document
-counts o = record { presentation = presentation o; compare = comparison o; questions = []; traces = false }
-
 abbrev stopped : List BracketEntry
 stopped = (begin ∷ []) ++ (stop ∷ [])
 
 spent : IsSpent (lie_with []) 4 (run_length stopped)
-spent = subst (λ o. (run : List (EntryOf (counts o))) × IsStoppedRun (counts o) 4 run × (run_length run ≡ run_length stopped)) (sym (lie_is_written [])) (stopped, stopped_run, refl)
+spent = subst (λ o. (run : List (EntryOf (counted_of o []))) × IsStoppedRun (counted_of o []) 4 run × (run_length run ≡ run_length stopped)) (sym (lie_is_written [])) (stopped, stopped_run, refl)
 
 pub over_budget : IsOverBudget (lie_with []) 4 (run_length stopped) (line (codes "fault budget " ++ decimal (run_length stopped)))
 over_budget = record { within = record { few_trees = one.few_trees; asks = λ k x l. absurd (omega (arith, l)) }; spent = spent; text_is = refl }
@@ -166,3 +189,27 @@ greater = record {
 
 pub not_within : IsWithinLimits one.document 2 → ⊥
 not_within = (limits_exclude one.document 2).not_greater (codes "fault limit query 6\n") greater
+
+-- ---- too many trees: two generators of two inputs without symmetry have 42577920 in arity 7
+
+abbrev many : Document
+many = record { version = 1; field = 101; order = Path; weights = 0 ∷ (0 ∷ []); gens = binary (codes "a") Free ∷ (binary (codes "b") Free ∷ []); rels = []; asks = []; tail = None }
+
+few_up_to_six : (n : ℕ) → 1 ≤ n → n < 7 → tree_number many n ≤ most_trees
+unfolding word_discrete same_cons letter_discrete same_letter ℕ_discrete
+few_up_to_six zero from less = absurd (omega (arith, from))
+few_up_to_six (suc zero) from less = omega arith
+few_up_to_six (suc (suc zero)) from less = omega arith
+few_up_to_six (suc (suc (suc zero))) from less = omega arith
+few_up_to_six (suc (suc (suc (suc zero)))) from less = omega arith
+few_up_to_six (suc (suc (suc (suc (suc zero))))) from less = omega arith
+few_up_to_six (suc (suc (suc (suc (suc (suc zero)))))) from less = omega arith
+few_up_to_six (suc (suc (suc (suc (suc (suc (suc n))))))) from less = absurd (omega (arith, less))
+
+many_in_seven : tree_number many 7 ≡ 42577920
+unfolding word_discrete same_cons letter_discrete same_letter ℕ_discrete
+many_in_seven = refl
+
+pub too_many : HasTooManyTrees many 7 (codes "fault limit trees 7\n")
+unfolding digits
+too_many = record { arity = 7; first = record { from_one = omega arith; to_most = omega arith; too_many = omega (arith, many_in_seven); before = few_up_to_six }; text_is = refl }
