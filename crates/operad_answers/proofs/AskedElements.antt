@@ -17,15 +17,15 @@ use Rattle.presentation_text.specs.declared.document.AskKind.TheVariants.{Query,
 use Rattle.presentation_text.specs.declared.document.Document.{Document}
 use Rattle.operad_answers.specs.Budgets.{asked_element, question_of, counted}
 use Rattle.operad_answers.specs.Verdicts.{difference}
-use Rattle.operad_answers.proofs.Ready.{said_labelled, labelled_element}
+use Rattle.operad_answers.proofs.WellFormed.{writable_labelled, labelled_element}
 
 module _ (p : ℕ) (generators : List Generator) where
   one_element : (kind : AskKind) → IsSaidAsk p generators kind
       → AllTerms (asked_element p (asked_kind kind)) (IsLabelled generators (element_arity (asked_element p (asked_kind kind))))
-  one_element (Query sum) s = labelled_element generators s.0 (terms_of sum) (said_labelled p generators s.0 (terms_of sum) s.1)
+  one_element (Query sum) s = labelled_element generators s.0 (terms_of sum) (writable_labelled p generators s.0 (terms_of sum) s.1)
   one_element (Same left right) s = labelled_element generators s.0 (difference p (record { left = terms_of left; right = terms_of right }))
-      (AllTerms-append (terms_of left) (scale (p - 1) (terms_of right)) (IsLabelled generators s.0) (said_labelled p generators s.0 (terms_of left) s.1)
-      (AllTerms-scale (p - 1) (terms_of right) (IsLabelled generators s.0) (said_labelled p generators s.0 (terms_of right) s.2)))
+      (AllTerms-append (terms_of left) (scale (p - 1) (terms_of right)) (IsLabelled generators s.0) (writable_labelled p generators s.0 (terms_of left) s.1)
+      (AllTerms-scale (p - 1) (terms_of right) (IsLabelled generators s.0) (writable_labelled p generators s.0 (terms_of right) s.2)))
 
   each_element : (asks : List Ask) → All (λ ask. IsSaidAsk p generators ask.kind) asks → (e : Question) → Mem e (map (question_of p) (map (λ ask. asked_kind ask.kind) asks))
       → AllTerms e.terms (IsLabelled generators e.arity)

@@ -38,7 +38,7 @@ parts_are IsPart IsOther f first zero text h = h
 parts_are IsPart IsOther f first (suc k) text h = (h.0, h.1, parts_are IsPart IsOther f first k h.0 h.2, f (first + k) h.1 h.3, h.4)
 
 module _ (o : OrderedPresentation) (well_formed : IsWellFormed o) where
-  field : IsOverField (presentation o)
+  pub field : IsOverField (presentation o)
   field = well_formed_over_field o well_formed
 
   -- ---- normal trees
@@ -48,7 +48,7 @@ module _ (o : OrderedPresentation) (well_formed : IsWellFormed o) where
       let l = normal_trees (presentation o) field (comparison o) (order_in o) n in
       (part_text n (tree_text o.generators) (sorted l.0), record { trees = sorted l.0; are_normal = in_order (IsNormalTree (presentation o) (comparison o) n) l.0 l.1; text_is = refl })
 
-  basis_of : (n : ℕ) (text : List ℕ) → IsNormalPart o n text → IsBasisOfQuotient o n text
+  unfoldable pub basis_of : (n : ℕ) (text : List ℕ) → IsNormalPart o n text → IsBasisOfQuotient o n text
   basis_of n text h =
       let those = those_of_order (IsNormalTree (presentation o) (comparison o) n) h.trees h.are_normal in
       record {

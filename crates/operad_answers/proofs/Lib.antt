@@ -20,6 +20,7 @@ pub mod LieCertificate
 pub mod LieDocument
 pub mod LieDone
 pub mod LieJoined
+pub mod LieLaws
 pub mod LieProof
 pub mod LieTexts
 pub mod Limits
@@ -36,4 +37,6 @@ pub mod WellFormed
 pub mod ReducedRules
 mod TrialDocuments
 mod TrialTexts
+mod TrialWritable
+mod TrialBudgets
 pub mod Verdicts

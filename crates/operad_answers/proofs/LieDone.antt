@@ -1,5 +1,5 @@
 -- An example: over the Lie presentation `forms 4` is done with one query, within a budget that a full counted run keeps.
-use Rattle.std.proofs.Common.{false, ◌≡◌, ℕ, zero, suc, ◌+◌, List, [], ◌∷◌, codes, length, None, Ok, refl, sym, ◌∙◌, ap, subst, arith}
+use Rattle.std.proofs.Common.{◌≡◌, ℕ, zero, suc, ◌+◌, List, [], ◌∷◌, codes, length, None, Ok, refl, sym, ◌∙◌, ap, subst, arith}
 use mathlib.Core.List.{◌++◌}
 use Rattle.std.proofs.lemmas.List.Elements.{All-from_recursion}
 use native.Mathlib.Decide.{ℕ_discrete}
@@ -20,7 +20,6 @@ use Rattle.counted_runs.specs.Counters.{HasCountedFull}
 use Rattle.counted_runs.proofs.LieFullRun.{one, the_run, the_pair}
 use Rattle.counted_runs.proofs.LieRuns.{BracketEntry}
 use Rattle.counted_runs.proofs.LieAnswers.{the_chain, answered_run}
-use Rattle.symmetric_sums.specs.Instances.{element_arity}
 use Rattle.symmetric_sums.specs.Terms.{terms_of}
 use Rattle.symmetric_sums.specs.declared.term.Term.{Term}
 use Rattle.presentation_text.specs.DocumentForms.{read_text, word_line, lines_from, document_from}
@@ -29,12 +28,13 @@ use Rattle.presentation_text.specs.LineForms.{Asked, query, word_fault, field_li
 use Rattle.presentation_text.specs.TreeForms.{row_in, tree_in, whole_tree_in}
 use Rattle.presentation_text.specs.Presentations.{IsReadAs}
 use Rattle.presentation_text.specs.declared.document.Ask.{Ask}
+use Rattle.presentation_text.specs.declared.document.AskKind.{AskKind}
 use Rattle.presentation_text.specs.declared.document.AskKind.TheVariants.{Query}
 use Rattle.presentation_text.specs.declared.document.Document.{Document}
-use Rattle.operad_answers.specs.OrderedPresentations.{OrderedPresentation, presentation, comparison, written, asks_of}
-use Rattle.operad_answers.specs.Texts.{Sum, IsFormsText}
+use Rattle.operad_answers.specs.OrderedPresentations.{presentation, comparison, written, asks_of}
+use Rattle.operad_answers.specs.Texts.{IsFormsText}
 use Rattle.operad_answers.specs.Limits.{IsAskWithin, HasFewTrees, IsWithinLimits}
-use Rattle.operad_answers.specs.Budgets.{counted, IsPaid}
+use Rattle.operad_answers.specs.Budgets.{counted_of, counted, IsPaid}
 use Rattle.operad_answers.specs.Commands.{forms, IsTextOf, IsAnsweredBy, IsDone}
 use Rattle.operad_answers.proofs.Bounds.{counted_runs_pay}
 use Rattle.operad_answers.proofs.WellFormed.{documents_writable}
@@ -42,35 +42,38 @@ use Rattle.operad_answers.proofs.LieTexts.{lie_written, lie_answer}
 use Rattle.operad_answers.proofs.LieDocument.{lie_with, lie_content, read_with, lie_is_written, comb, comb_is}
 use Rattle.operad_answers.proofs.LieProof.{label_one}
 
-abbrev bytes : List ℕ
+abbrev pub bytes : List ℕ
 bytes = codes "operad 1\nfield 101\norder path\ngen l 2 alt\nrel l(l(1,2),3) + l(l(2,3),1) + l(l(3,1),2)\nquery l(l(1,2),3)\n"
 
-abbrev one_term : List Term
-one_term = record { coef = 1; tree = comb 1 2 3 } ∷ []
+abbrev pub first_term : Term
+first_term = record { coef = 1; tree = comb 1 2 3 }
 
-abbrev asks : List Ask
-asks = record { line = 6; kind = Query one_term } ∷ []
+abbrev pub one_term : List Term
+one_term = first_term ∷ []
 
-abbrev document : Document
+abbrev pub query_kind : AskKind
+query_kind = Query one_term
+
+abbrev pub asks : List Ask
+asks = record { line = 6; kind = query_kind } ∷ []
+
+abbrev pub document : Document
 document = lie_with asks
 
-term_is : terms_of one_term ≡ (1, t1) ∷ []
+pub term_is : terms_of one_term ≡ (1, t1) ∷ []
 term_is = ap (λ t. (1, t) ∷ []) (comb_is 1 2 3)
 
 reading : read_text bytes ≡ Ok (record { told = lie_content ((6, query ((1, t1) ∷ [])) ∷ []); tail = None })
 unfolding word_line lines_from document_from term_in further_in element_in word_fault field_line order_line symmetry_in named_arity_in generator_in gen_line rel_line query_in same_in query_line same_line row_in tree_in whole_tree_in lie_content ℕ_discrete
 reading = refl
 
-is_read : IsReadAs bytes document
+pub is_read : IsReadAs bytes document
 is_read = read_with bytes asks ((6, query ((1, t1) ∷ [])) ∷ []) reading (ap (λ e. (6, query e) ∷ []) term_is)
 
 -- ---- the counted runs' document is that of the example in the crate of counted runs
 
-abbrev counts : OrderedPresentation → Sum → items.Problem
-counts o f = record { presentation = presentation o; compare = comparison o; questions = record { arity = element_arity f; terms = f } ∷ []; traces = false }
-
-counted_is : counted document ≡ counts lie_written ((1, t1) ∷ [])
-counted_is = ap (λ o. counts o (terms_of one_term)) (lie_is_written asks) ∙ ap (counts lie_written) term_is
+counted_is : counted document ≡ counted_of lie_written (query ((1, t1) ∷ []) ∷ [])
+counted_is = ap (λ o. counted_of o (asks_of document)) (lie_is_written asks) ∙ ap (λ e. counted_of lie_written (query e ∷ [])) term_is
 
 abbrev calls : List Call
 calls = answering 1 ∷ (completing ∷ [])
@@ -100,7 +103,7 @@ paid = counted_runs_pay document (documents_writable bytes document is_read) 4 s
 
 -- ---- no limit is met
 
-few_trees : HasFewTrees document 4
+pub few_trees : HasFewTrees document 4
 unfolding word_discrete same_cons letter_discrete same_letter ℕ_discrete
 few_trees zero one_le le = absurd (omega (arith, one_le))
 few_trees (suc zero) one_le le = omega arith
@@ -109,10 +112,10 @@ few_trees (suc (suc (suc zero))) one_le le = omega arith
 few_trees (suc (suc (suc (suc zero)))) one_le le = omega arith
 few_trees (suc (suc (suc (suc (suc n))))) one_le le = absurd (omega (arith, le))
 
-three_leaves : IsNumbered 3 (tree_of (comb 1 2 3))
+pub three_leaves : IsNumbered 3 (tree_of (comb 1 2 3))
 three_leaves = subst (IsNumbered 3) (sym (comb_is 1 2 3)) (numbered_of_labelled label_one)
 
-within : IsWithinLimits document 4
+pub within : IsWithinLimits document 4
 within = record {
   few_trees = few_trees;
   asks = All-from_recursion (λ ask. IsAskWithin 4 ask.kind) document.asks ((3, omega arith, All-from_recursion (λ term. IsNumbered 3 (tree_of term.tree)) one_term (three_leaves, tt)), tt);
@@ -123,7 +126,7 @@ within = record {
 plain_forms : IsFormsText lie_written (query ((1, t1) ∷ []) ∷ []) (codes "l(1,l(2,3)) + l(l(1,3),2)\n")
 plain_forms = record { answers = codes "l(1,l(2,3)) + l(l(1,3),2)" ∷ []; are_answers = (lie_answer, tt); text_is = refl }
 
-forms_text : IsTextOf forms document 4 (codes "l(1,l(2,3)) + l(l(1,3),2)\n")
+pub forms_text : IsTextOf forms document 4 (codes "l(1,l(2,3)) + l(l(1,3),2)\n")
 forms_text = subst (λ o. IsFormsText o (asks_of document) (codes "l(1,l(2,3)) + l(l(1,3),2)\n")) (sym (lie_is_written asks))
     (subst (λ e. IsFormsText lie_written (query e ∷ []) (codes "l(1,l(2,3)) + l(l(1,3),2)\n")) (sym term_is) plain_forms)
 

@@ -119,10 +119,10 @@ plain_is = ap (λ w. made w (terms_of element) (tree_of (Leaf 0)) (map tree_of (
 pub label_one : IsLabelled generators 3 t1
 label_one = (((rules_three.0).all t1).0 (inl refl)).labelled
 
-label_two : IsLabelled generators 3 t2
+pub label_two : IsLabelled generators 3 t2
 label_two = ((three_are.all t2).0 (inr (inl refl))).labelled
 
-label_three : IsLabelled generators 3 t3
+pub label_three : IsLabelled generators 3 t3
 label_three = ((three_are.all t3).0 (inl refl)).labelled
 
 writable_one : (c : ℕ) → 0 < c → c < 101 → IsSaidTerm 101 generators 3 (c, t1)

@@ -8,7 +8,6 @@ use Rattle.modular_sums.specs.Lists.{Mem, Nth}
 use Rattle.modular_sums.specs.Sums.{scale, AllTerms}
 use Rattle.modular_sums.proofs.Lists.{mem_either}
 use Rattle.modular_sums.proofs.Sums.{AllTerms-append, AllTerms-scale}
-use Rattle.prime_field.specs.Primes.{IsFieldPrime}
 use Rattle.symmetric_trees.specs.Trees.{IsLabelled}
 use Rattle.presentation_text.specs.Grammar.{counted_tokens}
 use Rattle.presentation_text.specs.LineForms.{Asked}
@@ -32,6 +31,7 @@ use Rattle.certificate_text.proofs.BlocksRead.{blocks_accepted}
 use Rattle.certificate_text.proofs.PresentationLaws.{trees_are_accepted, elements_are_accepted}
 use Rattle.certificate_text.proofs.PrintedLines.{blocks_read_back}
 use Rattle.certificate_check.specs.Blocks.{BlockHolds}
+use Rattle.presentation_text.proofs.PrintedDocuments.{field_small}
 use Rattle.operad_answers.specs.OrderedPresentations.{OrderedPresentation, written, IsWellFormed}
 use Rattle.operad_answers.specs.Parts.{line}
 use Rattle.operad_answers.specs.Texts.{Sum, EachWith, IsNarrow, queries, IsForm, IsAnswer, IsFormsText}
@@ -41,15 +41,6 @@ use Rattle.operad_answers.proofs.Forms.{form_at, form_printable, decide}
 use Rattle.operad_answers.proofs.WellFormed.{writable_well_formed}
 
 -- ---- lines that end
-
-small_prime : (p : ℕ) → IsFieldPrime p → p < 2 ^ 64
-small_prime p (inl e) = omega (arith, e)
-small_prime p (inr (inl e)) = omega (arith, e)
-small_prime p (inr (inr (inl e))) = omega (arith, e)
-small_prime p (inr (inr (inr (inl e)))) = omega (arith, e)
-small_prime p (inr (inr (inr (inr (inl e))))) = omega (arith, e)
-small_prime p (inr (inr (inr (inr (inr (inl e)))))) = omega (arith, e)
-small_prime p (inr (inr (inr (inr (inr (inr none)))))) = absurd none
 
 -- the text ends with a line feed
 abbrev Ends : List ℕ → Type 0
@@ -66,7 +57,7 @@ all_lines (c ∷ l) h = line_first c (flat_map line l) (h c (inl refl)) ∙ ap (
 
 module _ (o : OrderedPresentation) (well_formed : IsWellFormed o) where
   no_feed-form : (n : ℕ) (e f : Sum) → n ≤ 9 → IsForm o n e f → HasNoFeed (sum_text o.field o.generators f)
-  no_feed-form n e f few h = no_feed-sum o.field o.generators well_formed.words (small_prime o.field well_formed.prime) f (form_printable o well_formed n e f few h)
+  no_feed-form n e f few h = no_feed-sum o.field o.generators well_formed.words (field_small o.field well_formed.prime) f (form_printable o well_formed n e f few h)
 
   no_feed-answer : (n : ℕ) (e : Sum) (answer : List ℕ) → IsNarrow o.generators n e → IsAnswer o e answer → HasNoFeed answer
   no_feed-answer n e answer narrow h = subst HasNoFeed (sym h.answer_is) (no_feed-form n e h.form narrow.0 (form_at o well_formed h.arity n e h.form h.labelled narrow.1 h.is_form))

@@ -50,7 +50,7 @@ others_are seed n h =
 
 -- ---- the forms
 
-words : HasWords (trial_generator ∷ [])
+pub words : HasWords (trial_generator ∷ [])
 words zero w = (refl, refl)
 words (suc g) w = absurd (omega (arith, w))
 
@@ -58,7 +58,7 @@ proper : IsProper (presentation trial_written)
 proper r (inl e) = subst (λ x. (x.terms ≡ []) ⊎ (2 ≤ x.arity)) (sym e) (inr (omega arith))
 proper r (inr m) = absurd m
 
-trial_well_formed : IsWellFormed trial_written
+pub trial_well_formed : IsWellFormed trial_written
 trial_well_formed = record { prime = inr (inr (inr (inr (inl refl)))); table = binary_table (codes "p") Free; words = words; sound = sound minus_one; proper = proper }
 
 append_none : (e : Sum) → e ++ scale minus_one [] ≡ e

@@ -11,7 +11,7 @@ use Rattle.counted_runs.specs.FullRuns.{IsFullRun, HasItem}
 use Rattle.symmetric_sums.specs.Instances.{element_arity}
 use Rattle.presentation_text.specs.LineForms.{Asked, query, same}
 use Rattle.presentation_text.specs.declared.document.Document.{Document}
-use Rattle.operad_answers.specs.OrderedPresentations.{presentation, comparison, written, asks_of}
+use Rattle.operad_answers.specs.OrderedPresentations.{OrderedPresentation, presentation, comparison, written, asks_of}
 use Rattle.operad_answers.specs.Texts.{Sum}
 use Rattle.operad_answers.specs.Verdicts.{difference}
 
@@ -24,14 +24,13 @@ asked_element p (same left right) = difference p (record { left = left; right = 
 abbrev pub question_of : ℕ → Asked → Question
 question_of p ask = record { arity = element_arity (asked_element p ask); terms = asked_element p ask }
 
--- The document of which counted runs speak: the presentation, the comparison and the questions of the text; nothing is traced.
+-- What counted runs speak of: a presentation, its comparison and questions; nothing is traced.
+abbrev pub counted_of : OrderedPresentation → List Asked → items.Problem
+counted_of o asks = record { presentation = presentation o; compare = comparison o; questions = map (question_of o.field) asks; traces = false }
+
+-- that of a document
 abbrev pub counted : Document → items.Problem
-counted d = record {
-  presentation = presentation (written d);
-  compare = comparison (written d);
-  questions = map (question_of d.field) (asks_of d);
-  traces = false;
-}
+counted d = counted_of (written d) (asks_of d)
 
 -- A stopped counted run through N has exactly B steps.
 abbrev pub IsSpent : Document → ℕ → ℕ → Type 0

@@ -242,7 +242,7 @@ DoneExists = (d : Document) → IsWritable d → (N : ℕ) → IsWithinLimits d 
 
 -- ---- limits
 
--- At most one of the three holds: no limit is met, some arity has too many trees, some question is too wide. Each limit has one line.
+-- At most one of the three holds: no limit is met, some arity has too many trees, some question has a greater arity. Each limit has one line.
 pub record LimitLaw (d : Document) (N : ℕ) : Type 0 where
   pub one_too_many : (text other : List ℕ) → HasTooManyTrees d N text → HasTooManyTrees d N other → text ≡ other
   pub one_greater : (text other : List ℕ) → AsksGreaterArity d N text → AsksGreaterArity d N other → text ≡ other

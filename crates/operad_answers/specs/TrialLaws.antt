@@ -1,5 +1,8 @@
 -- What holds of the document and of the text of each trial.
-use Rattle.std.specs.Prelude.{ℕ, ◌≡◌, List, []}
+use Rattle.std.specs.Prelude.{ℕ, ◌≡◌, ◌<◌, List, []}
+use Rattle.counted_runs.specs.Enough.{enough}
+use Rattle.presentation_text.specs.ReadBack.{IsWritable}
+use Rattle.operad_answers.specs.Budgets.{counted, IsSpent}
 use Rattle.presentation_text.specs.declared.document.Document.{Document}
 use Rattle.trial_elements.specs.Elements.{trial_presentation, trial_elements, element_of_line}
 use Rattle.operad_answers.specs.OrderedPresentations.{presentation, written, asks_of}
@@ -16,6 +19,14 @@ TrialDocumentsExist = (seed : ℕ) → (d : Document) × IsTrialDocument seed d
 abbrev pub TrialDocumentsWrite : Type 0
 TrialDocumentsWrite = (presentation trial_written ≡ trial_presentation)
     × ((seed : ℕ) (d : Document) → IsTrialDocument seed d → (written d ≡ trial_written) × (asks_of d ≡ trial_questions seed))
+
+-- It may be written and read back.
+abbrev pub TrialDocumentsAreWritable : Type 0
+TrialDocumentsAreWritable = (seed : ℕ) (d : Document) → IsTrialDocument seed d → IsWritable d
+
+-- 2893900624 steps are enough through arity 5, and fewer are spent.
+abbrev pub TrialBudgets : Type 0
+TrialBudgets = (seed : ℕ) (d : Document) → IsTrialDocument seed d → (enough (counted d) 5 ≡ 2893900624) × ((B : ℕ) → IsSpent d 5 B → B < 2893900624)
 
 -- For every seed 38 lines are counted as in the ideal and 2 as not, 38 blocks are accepted, and the two forms, which aren't 0, are the
 -- normal forms of the 20th and 40th element.

@@ -4,7 +4,7 @@
 ghost use Rattle.operad_answers.specs.Headline.{Headline};
 ghost use Rattle.operad_answers.specs.Laws.{AnswersAreDetermined, AnswersDecide, BudgetsExist, CollectedFormsAreNormal, CompleteElementsAnswer, CountedRunsPay, DocumentsAreWellFormed, DoneExists, EnoughIsNotSpent, JoinedTextsHold, LimitsDecide, LimitsExclude, ListingsTellTrees, MembersHaveBlocks, NormalTextsAreBases, PartsTellBases, QueryLinesDecide, QuestionsAreElements, ProveTextsAreRead, TextsAreDetermined, TextsExist, TextsGrow, VerdictsDecide, VerdictsExist};
 ghost use Rattle.operad_answers.specs.CertificateLaws.{HeldCertificatesListNormalTrees, OneFaultOverDocuments, WrittenCertificatesHoldOver};
-ghost use Rattle.operad_answers.specs.TrialLaws.{OneTrialText, TrialDocumentsExist, TrialDocumentsWrite, TrialTextsCount, TrialTextsExist};
+ghost use Rattle.operad_answers.specs.TrialLaws.{OneTrialText, TrialBudgets, TrialDocumentsAreWritable, TrialDocumentsExist, TrialDocumentsWrite, TrialTextsCount, TrialTextsExist};
 
 /// Law: the headline. What a command prints of a document that is read means what it should, in the terms of the ideal.
 pub fn headline()
@@ -156,6 +156,16 @@ pub fn trial_documents_exist()
 /// with 0.
 pub fn trial_documents_write()
     ensures law { TrialDocumentsWrite }
+{}
+
+/// Law: the document of a seed may be written and read back.
+pub fn trial_documents_are_writable()
+    ensures law { TrialDocumentsAreWritable }
+{}
+
+/// Law: for each seed 2893900624 steps are enough, and fewer are spent.
+pub fn trial_budgets()
+    ensures law { TrialBudgets }
 {}
 
 /// Law: the first four lines are `lines 40`, `yes 38`, `no 2` and `accepted 38`, and neither form is 0.
