@@ -45,7 +45,7 @@ use Rattle.counted_runs.proofs.RowTrees.{relabelled_trees}
 use Rattle.counted_runs.proofs.LastLeads.{last_leads_are_one}
 use Rattle.counted_runs.proofs.RunsSoFar.{serves_all, follows_same, runs_so_far}
 use Rattle.counted_runs.proofs.Lie.{bracket, wide, ordered, valid_t1, three_trees, none_above}
-use Rattle.counted_runs.proofs.LieRuns.{BracketEntry, divided_t1, second_order, lie_elements, jacobi_relation, first_order, coefs}
+use Rattle.counted_runs.proofs.LieRuns.{BracketEntry, insertion_t1, second_order, lie_elements, jacobi_relation, first_order, coefs}
 
 abbrev pub d : Problem
 d = bracket [] false
@@ -159,7 +159,7 @@ stop_entry = (entries_come_about d 4 3 stop record { from_two = omega arith; to_
 
 stop_stopped : HasStopped stop
 unfolding stop
-stop_stopped = record { at = t1; there = stands; divided = divided_t1 }
+stop_stopped = (insertion_t1, stands)
   where
     stands : Alike 100 (coef tree_discrete (form_by second_order) t1) 0 → ⊥
     stands z = let k = (coefs jacobi_relation refl).1 in absurd (omega (arith, k, z))

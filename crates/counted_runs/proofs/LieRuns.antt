@@ -12,10 +12,10 @@ use Rattle.shuffle_insertions.specs.ShuffleTrees.{IsShuffleTree}
 use Rattle.shuffle_insertions.proofs.Examples.{l, t1}
 use Rattle.shuffle_places.specs.Places.{IsPlace}
 use Rattle.shuffle_places.proofs.Examples.{top_two}
-use Rattle.shuffle_bases.specs.Elements.{Element}
+use Rattle.shuffle_bases.specs.Elements.{Element, Insertion}
 use Rattle.shuffle_bases.proofs.Examples.{jacobi}
-use Rattle.shuffle_reductions.specs.Divided.{IsDivided}
 use Rattle.shuffle_reductions.specs.Chains.{IsChain, IsStopped}
+use Rattle.shuffle_reductions.proofs.Steps.{divides_tree}
 use Rattle.operad_ideals.specs.Presentations.{Relation, arity_of}
 use Rattle.shuffle_transfer.specs.Orderings.{IsOrdering}
 use Rattle.shuffle_transfer.specs.Labels.{inputs_of, word_discrete, same_cons, letter_discrete, same_letter}
@@ -26,10 +26,10 @@ use Rattle.shuffle_transfer.proofs.Orderings.{all_orderings}
 use Rattle.shuffle_transfer.proofs.Jacobi.{lie, sound, certified}
 use Rattle.counted_runs.specs.Items.{Question, Problem, AsksElements, Purpose, relabelling, question, IsItem}
 use Rattle.counted_runs.specs.Rows.{SameSum, AreIdealElements, IsRow}
-use Rattle.counted_runs.specs.Runs.{Entry, HasFinished, IsEntry, IsStoppedRun, run_length}
+use Rattle.counted_runs.specs.Runs.{Entry, HasFinished, HasStopped, IsEntry, IsStoppedRun, run_length}
 use Rattle.counted_runs.specs.Enough.{enough}
 use Rattle.counted_runs.specs.FullRuns.{InSequence, IsRelationOrPair, HasLeadingTree, IsLastLead, KeepsLead, IsFullRun}
-use Rattle.counted_runs.proofs.StoppedRuns.{stopped_runs_short}
+use Rattle.counted_runs.proofs.StoppedRuns.{stopped_runs_short, stopped_chains_stop}
 use Rattle.counted_runs.proofs.Lie.{bracket, one_question, wide, ordered, valid_t1, none_above, place_t1}
 
 abbrev pub BracketEntry : Type 0
@@ -44,15 +44,15 @@ unfoldable pub unreduced : BracketEntry
 unreduced = record { arity = 3; item = question 1; elements = jacobi ∷ []; row = (1, t1) ∷ []; steps = []; last = (1, t1) ∷ [] }
 
 -- l(l(1,2),3) is the leading tree of the Jacobi element
-pub divided_t1 : IsDivided (setting lie (compare lie by_path) (jacobi ∷ [])) t1
-divided_t1 = record { by = jacobi; member = inl refl; set = top_two; place = place_t1 }
+abbrev pub insertion_t1 : Insertion (setting lie (compare lie by_path) (jacobi ∷ [])) 3
+insertion_t1 = record { of = jacobi; member = inl refl; tree = t1; set = top_two; valid = valid_t1; place = place_t1 }
 
 one_isnt_zero : 1 % 101 ≡ 0 % 101 → ⊥
 one_isnt_zero e = absurd (omega (arith, e))
 
-pub unreduced_stops : IsStopped (setting lie (compare lie by_path) (jacobi ∷ [])) ((1, t1) ∷ [])
-unfolding coef ℕ_discrete tree_discrete tree_discrete_by row_discrete_by same_leaf same_node same_more
-unreduced_stops = record { at = t1; there = one_isnt_zero; divided = divided_t1 }
+pub unreduced_stops : HasStopped unreduced
+unfolding unreduced coef ℕ_discrete tree_discrete tree_discrete_by row_discrete_by same_leaf same_node same_more
+unreduced_stops = (insertion_t1, one_isnt_zero)
 
 unreduced_row : SameSum lie ((1, t1) ∷ []) (shuffled lie ((1, t1) ∷ []))
 unfolding word_discrete same_cons letter_discrete same_letter ℕ_discrete
@@ -95,7 +95,17 @@ asks_one e (inr m) = absurd m
 
 -- the law at this run
 pub unreduced_short : run_length (unreduced ∷ []) < enough (bracket one_question false) 3
-unreduced_short = (stopped_runs_short (bracket one_question false) sound wide asks_one ordered 3 (unreduced ∷ []) unreduced_run).0 refl
+unreduced_short = (stopped_runs_short (bracket one_question false) wide ordered 3 (unreduced ∷ []) unreduced_run).0 refl
+
+-- its chain is stopped
+chain_stops : IsStopped (setting lie (compare lie by_path) (jacobi ∷ [])) ((1, t1) ∷ [])
+unfolding coef ℕ_discrete tree_discrete tree_discrete_by row_discrete_by same_leaf same_node same_more
+chain_stops = record { at = t1; there = one_isnt_zero; divided = divides_tree (setting lie (compare lie by_path) (jacobi ∷ [])) 3 insertion_t1 }
+
+-- so the entry has stopped
+so_stopped : HasStopped unreduced
+unfolding unreduced
+so_stopped = stopped_chains_stop (bracket one_question false) sound asks_one ordered 3 unreduced unreduced_entry chain_stops
 
 -- ---- a full run has steps: of two permutations of the relation, the leading tree of the first row divides the second
 

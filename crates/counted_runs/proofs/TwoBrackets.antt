@@ -20,7 +20,6 @@ use Rattle.shuffle_places.proofs.Laws.{places_listed}
 use Rattle.shuffle_bases.specs.Elements.{Element, terms, IsMonic, Insertion, value_of}
 use Rattle.shuffle_normal_forms.specs.FreeTrees.{IsFree}
 use Rattle.shuffle_normal_forms.specs.NormalForms.{IsAtMost}
-use Rattle.shuffle_reductions.specs.Divided.{IsDivided}
 use Rattle.shuffle_reductions.specs.Chains.{StandsIn, IsFinished}
 use Rattle.shuffle_reductions.proofs.Standing.{has_all}
 use Rattle.operad_ideals.specs.Parts.{skew}
@@ -130,12 +129,6 @@ first_monic l = record { lead_valid = valid_b; lead_node = tt; tail_valid = ((va
 second_monic : (l : List Element) → IsMonic (setting two cmp l) second
 second_monic l = record { lead_valid = valid_a; lead_node = tt; tail_valid = tt }
 
-by_first : IsDivided (setting two cmp (first ∷ [])) b
-by_first = record { by = first; member = inl refl; set = 1 ∷ []; place = place_b }
-
-by_second : IsDivided (setting two cmp (first ∷ (second ∷ []))) a
-by_second = record { by = second; member = inr (inl refl); set = 1 ∷ []; place = place_a }
-
 whole_b : Insertion (setting two cmp (first ∷ [])) 2
 whole_b = record { of = first; member = inl refl; tree = b; set = 1 ∷ []; valid = valid_b; place = place_b }
 
@@ -199,8 +192,9 @@ unfolding word_discrete same_cons letter_discrete same_letter ℕ_discrete tree_
 stands_b z = absurd (omega (arith, z))
 
 row_stopped : CountsStoppedCompletion d 2 0 0 (row difference back)
+unfolding whole_b
 row_stopped = row_stops d 2 1 [] (first ∷ []) (j1 ∷ []) j2 (j3 ∷ (j4 ∷ [])) 0 after_one (row difference back) 0
-    record { uses = []; chain = λ t. refl; stopped = record { at = b; there = stands_b; divided = by_first }; count_is = refl } 0
+    record { uses = []; chain = λ t. refl; stopped = (whole_b, stands_b); count_is = refl } 0
 
 -- it is less the first, so one step leads to 0
 nothing_stands : (t : Tree ℕ) → StandsIn 100 [] t → ⊥
@@ -284,8 +278,9 @@ stands_a z = absurd (omega (arith, z))
 
 -- with no steps left the tail of the first stops
 tail_stopped : CountsStoppedCompletion d 2 0 2 first.tail
+unfolding whole_a
 tail_stopped = tail_stops d 2 1 given (first ∷ (second ∷ [])) [] first (second ∷ []) (a ∷ []) 2 at_tails first.tail 0
-    record { uses = []; chain = λ t. refl; stopped = record { at = a; there = stands_a; divided = by_second }; count_is = refl } 0
+    record { uses = []; chain = λ t. refl; stopped = (whole_a, stands_a); count_is = refl } 0
 
 -- one step leads to 0
 tail_to_zero : ReducesTo (setting two cmp (first ∷ (second ∷ []))) 2 first.tail [] 1

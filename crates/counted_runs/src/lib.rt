@@ -3,13 +3,18 @@
 
 ghost use Rattle.counted_runs.specs.Counters.{CallsCount, CountersJoinRuns};
 ghost use Rattle.counted_runs.specs.Entries.{EntriesComeAbout};
-ghost use Rattle.counted_runs.specs.RunLaws.{CallsAreApart, FullRunsGrow, LastLeadsAreOne, QuestionsDontMatter, RunsJoin, StoppedRunsAreShort};
+ghost use Rattle.counted_runs.specs.RunLaws.{CallsAreApart, FullRunsGrow, LastLeadsAreOne, QuestionsDontMatter, RunsJoin, StoppedChainsStopEntries, StoppedRunsAreShort};
 ghost use Rattle.counted_runs.specs.RunsSoFar.{RunsSoFarGrow};
 ghost use Rattle.counted_runs.specs.LoopLaws.{ArityIsDone, LoopBegins, LoopEnds, RowEndsInElement, RowEndsInZero, RowStops, RowsBegin, TailIsReduced, TailStops, TailsBegin};
 
-/// Law: every stopped counted run is shorter than the number of steps that is enough, where what is reduced is on labelled trees.
+/// Law: every stopped counted run is shorter than the number of steps that is enough.
 pub fn stopped_runs_are_short()
     ensures law { StoppedRunsAreShort }
+{}
+
+/// Law: where what is reduced is on labelled trees, an entry has stopped where its chain is stopped.
+pub fn stopped_chains_stop_entries()
+    ensures law { StoppedChainsStopEntries }
 {}
 
 /// Law: a finished run followed by one that has no item in common with it is a run, as long as both.

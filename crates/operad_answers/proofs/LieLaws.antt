@@ -10,7 +10,6 @@ use Rattle.shuffle_insertions.proofs.Examples.{t2, t3}
 use Rattle.shuffle_transfer.specs.NormalTrees.{by_path}
 use Rattle.operad_ideals.specs.Ideals.{InIdeal}
 use Rattle.modular_sums.specs.Sums.{AllTerms, scale}
-use Rattle.counted_runs.specs.Items as items
 use Rattle.counted_runs.specs.Enough.{enough}
 use Rattle.counted_runs.specs.Runs.{EntryOf, IsStoppedRun, run_length}
 use Rattle.counted_runs.proofs.LieFullRun.{d, begin, stop, stopped_run}

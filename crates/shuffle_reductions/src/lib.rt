@@ -20,7 +20,7 @@ pub fn chains_fall()
     ensures law { ChainsFall }
 {}
 
-/// Law: a chain has at most as many steps as there are shuffle trees of the arity, and fewer where it is stopped.
+/// Law: a chain has at most as many steps as there are shuffle trees of the arity, and fewer where one more insertion stands next.
 pub fn chains_are_short()
     ensures law { ChainsAreShort }
 {}
