@@ -8,7 +8,6 @@ use Rattle.shuffle_completion.proofs.Laws.{complete_is_reduced}
 use Rattle.presentation_text.specs.declared.document.Ask.{Ask}
 use Rattle.presentation_text.specs.declared.document.Document.{Document}
 use Rattle.operad_answers.specs.OrderedPresentations.{presentation, comparison, written, asks_of}
-use Rattle.operad_answers.specs.Parts.{line}
 use Rattle.operad_answers.specs.Commands.{trees_fault, query_fault}
 use Rattle.operad_answers.specs.Limits.{IsAskWithin, IsFirstWithTooManyTrees, IsFirstOfGreaterArity}
 use Rattle.operad_answers.specs.Budgets.{question_of}

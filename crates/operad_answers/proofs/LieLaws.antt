@@ -10,7 +10,6 @@ use Rattle.shuffle_insertions.proofs.Examples.{t2, t3}
 use Rattle.shuffle_transfer.specs.NormalTrees.{by_path}
 use Rattle.operad_ideals.specs.Ideals.{InIdeal}
 use Rattle.modular_sums.specs.Sums.{AllTerms, scale}
-use Rattle.counted_runs.specs.Items as items
 use Rattle.counted_runs.specs.Enough.{enough}
 use Rattle.counted_runs.specs.Runs.{EntryOf, IsStoppedRun, run_length}
 use Rattle.counted_runs.proofs.LieFullRun.{d, begin, stop, stopped_run}
@@ -26,7 +25,7 @@ use Rattle.presentation_text.specs.TreeText.{tree_text}
 use Rattle.presentation_text.specs.declared.document.OrderName.TheVariants.{Path}
 use Rattle.presentation_text.specs.declared.document.Document.{Document}
 use Rattle.operad_answers.specs.OrderedPresentations.{OrderedPresentation, presentation, written, IsWellFormed, asks_of}
-use Rattle.operad_answers.specs.Parts.{line, part_text, AreParts}
+use Rattle.operad_answers.specs.Parts.{part_text, AreParts}
 use Rattle.operad_answers.specs.Texts.{IsNormalText, IsBasisOfQuotient, IsForm, IsAnswer, Sum, IsNarrow}
 use Rattle.operad_answers.specs.Verdicts.{difference, WantingBlock}
 use Rattle.operad_answers.specs.Limits.{tree_number, most_trees, IsAskWithin, IsWithinLimits}

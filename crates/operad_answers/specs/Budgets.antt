@@ -1,5 +1,5 @@
 -- How the counted runs of a document stand to a bound on steps.
-use Rattle.std.specs.Prelude.{ℕ, ◌≡◌, ◌≤◌, List, [], map}
+use Rattle.std.specs.Prelude.{ℕ, ◌≡◌, ◌≤◌, List, map}
 use Rattle.std.proofs.Common.{false}
 use Rattle.shuffle_bases.specs.Elements.{Element}
 use Rattle.shuffle_completion.specs.ReducedBases.{IsReducedBasis}
