@@ -1,15 +1,14 @@
 -- Budgets that are paid, and limits.
-use Rattle.std.proofs.Common.{◌≡◌, ℕ, zero, suc, ◌<◌, List, [], ◌∷◌, map, codes, sym, ◌∙◌, ap, arith, subst}
+use Rattle.std.proofs.Common.{◌≡◌, ℕ, zero, suc, ◌<◌, List, [], ◌∷◌, map, sym, ◌∙◌, ap, arith, subst}
 use Rattle.std.specs.Prelude.{◌++◌}
 use native.Mathlib.Decide.{dec_lt}
 use Rattle.std.specs.List.{All}
-use Rattle.std.specs.Fmt.{decimal}
 use Rattle.modular_sums.specs.Lists.{Nth}
 use Rattle.shuffle_completion.proofs.Laws.{complete_is_reduced}
 use Rattle.presentation_text.specs.declared.document.Ask.{Ask}
 use Rattle.presentation_text.specs.declared.document.Document.{Document}
 use Rattle.operad_answers.specs.OrderedPresentations.{presentation, comparison, written, asks_of}
-use Rattle.operad_answers.specs.Parts.{line}
+use Rattle.operad_answers.specs.Commands.{trees_fault, query_fault}
 use Rattle.operad_answers.specs.Limits.{IsAskWithin, IsFirstWithTooManyTrees, IsFirstOfGreaterArity}
 use Rattle.operad_answers.specs.Budgets.{question_of}
 use Rattle.operad_answers.specs.Laws.{CountedRunsPay, LimitLaw, LimitsExclude}
@@ -76,8 +75,8 @@ module _ (d : Document) (N : ℕ) where
 
   pub limit_law : LimitLaw d N
   limit_law = record {
-    one_too_many = λ text other a b. a.text_is ∙ ap (λ n. line (codes "fault limit trees " ++ decimal n)) (one_arity a.arity b.arity a.first b.first) ∙ sym b.text_is;
-    one_greater = λ text other a b. a.text_is ∙ ap (λ n. line (codes "fault limit query " ++ decimal n)) (one_number N d.asks a.number b.number a.first b.first) ∙ sym b.text_is;
+    one_too_many = λ text other a b. a.text_is ∙ ap trees_fault (one_arity a.arity b.arity a.first b.first) ∙ sym b.text_is;
+    one_greater = λ text other a b. a.text_is ∙ ap query_fault (one_number N d.asks a.number b.number a.first b.first) ∙ sym b.text_is;
     not_too_many = λ text a u. let low = u a.arity a.first.from_one a.first.to_most in let high = a.first.too_many in omega (arith, low, high);
     not_greater = λ text a w. none_greater N d.asks a.number w.asks a.first;
   }

@@ -17,11 +17,10 @@ use Rattle.presentation_text.specs.SumText.{sum_text}
 use Rattle.presentation_text.specs.declared.document.Document.{Document}
 use Rattle.certificate_text.specs.PrintedBlocks.{block_text}
 use Rattle.certificate_text.specs.Plain.{plain_block}
-use Rattle.certificate_check.specs.Blocks.{BlockHolds}
 use Rattle.operad_answers.specs.OrderedPresentations.{presentation, written, IsWellFormed, asks_of}
 use Rattle.operad_answers.specs.Parts.{line}
 use Rattle.operad_answers.specs.Texts.{Sum, EachWith, IsNarrow, queries, IsAnswer, IsFormsText}
-use Rattle.operad_answers.specs.Verdicts.{Sides, comparisons, numbered_from, yes_line, is_yes, yes_number, IsYes, IsNo, IsVerdict, IsProveText, verdict_block, verdict_blocks, AreQuestionsOver}
+use Rattle.operad_answers.specs.Verdicts.{Holds, Sides, comparisons, numbered_from, yes_line, is_yes, yes_number, IsYes, IsNo, IsVerdict, IsProveText, verdict_block, verdict_blocks, AreQuestionsOver}
 use Rattle.operad_answers.specs.Commands.{Command, normal, basis, forms, prove, IsTextOf}
 use Rattle.operad_answers.specs.Headline.{HasArity, IsInIdeal, LinesDecide, IsRightVerdict, VerdictsAreRight, Means, Headline}
 use Rattle.operad_answers.proofs.JoinedTexts.{comparisons_few}
@@ -166,7 +165,7 @@ module _ (d : Document) (formed : IsWritable d) where
     right = right;
     as_many = as_many_blocks 1 (comparisons (asks_of d)) printed.verdicts printed.are_verdicts;
     read = λ number. (prove_texts_are_read d formed (asks_of d) elements few text printed number).0;
-    hold = all_of (λ block. BlockHolds d.field d.gens d.rels block.want block.steps) (verdict_blocks d (numbered_from 1 (comparisons (asks_of d))) printed.verdicts printed.are_verdicts)
+    hold = all_of (Holds d) (verdict_blocks d (numbered_from 1 (comparisons (asks_of d))) printed.verdicts printed.are_verdicts)
         (blocks_hold d formed (asks_of d) text printed);
   }
     where

@@ -33,10 +33,10 @@ pub mod PrintedLines
 pub mod PrintedTrees
 pub mod ProgramSums
 pub mod Questions
-pub mod WellFormed
 pub mod ReducedRules
-mod TrialDocuments
-mod TrialTexts
-mod TrialWritable
-mod TrialBudgets
+pub mod TrialBudgets
+pub mod TrialDocuments
+pub mod TrialTexts
+pub mod TrialWritable
 pub mod Verdicts
+pub mod WellFormed

@@ -2,7 +2,7 @@
 use Rattle.std.proofs.Common.{◌≡◌, ◌<◌, ◌≤◌, ◌^◌, ℕ, zero, suc, None, List, [], ◌∷◌, length, arith, codes, refl, sym, inl, inr, ⊎_elim, ◌∙◌, subst}
 use Rattle.std.specs.Prelude.{◌++◌, ◌↔◌}
 use Rattle.std.specs.List.{AllByRecursion}
-use Rattle.std.specs.Fmt.{decimal, digits}
+use Rattle.std.specs.Fmt.{digits}
 use Rattle.labelled_trees.specs.Trees.{Tree}
 use Rattle.labelled_trees.specs.Meaning.{tree_of}
 use Rattle.labelled_trees.proofs.Numbered.{one_number}
@@ -25,12 +25,12 @@ use Rattle.presentation_text.specs.TreeText.{tree_text}
 use Rattle.presentation_text.specs.declared.document.OrderName.TheVariants.{Path}
 use Rattle.presentation_text.specs.declared.document.Document.{Document}
 use Rattle.operad_answers.specs.OrderedPresentations.{OrderedPresentation, presentation, written, IsWellFormed, asks_of}
-use Rattle.operad_answers.specs.Parts.{line, part_text, AreParts}
+use Rattle.operad_answers.specs.Parts.{part_text, AreParts}
 use Rattle.operad_answers.specs.Texts.{IsNormalText, IsBasisOfQuotient, IsForm, IsAnswer, Sum, IsNarrow}
 use Rattle.operad_answers.specs.Verdicts.{difference, WantingBlock}
 use Rattle.operad_answers.specs.Limits.{tree_number, most_trees, IsAskWithin, IsWithinLimits}
 use Rattle.operad_answers.specs.Budgets.{counted_of, counted, IsSpent}
-use Rattle.operad_answers.specs.Commands.{basis, forms, IsTextOf, IsDone, HasTooManyTrees, AsksGreaterArity, IsOverBudget}
+use Rattle.operad_answers.specs.Commands.{budget_fault, basis, forms, IsTextOf, IsDone, HasTooManyTrees, AsksGreaterArity, IsOverBudget}
 use Rattle.operad_answers.proofs.Bounds.{limits_exclude}
 use Rattle.operad_answers.proofs.Deciding.{verdicts_decide, enough_is_not_spent}
 use Rattle.operad_answers.proofs.Doing.{done_exists}
@@ -163,7 +163,7 @@ stopped = (begin ∷ []) ++ (stop ∷ [])
 spent : IsSpent (lie_with []) 4 (run_length stopped)
 spent = subst (λ o. (run : List (EntryOf (counted_of o []))) × IsStoppedRun (counted_of o []) 4 run × (run_length run ≡ run_length stopped)) (sym (lie_is_written [])) (stopped, stopped_run, refl)
 
-pub over_budget : IsOverBudget (lie_with []) 4 (run_length stopped) (line (codes "fault budget " ++ decimal (run_length stopped)))
+pub over_budget : IsOverBudget (lie_with []) 4 (run_length stopped) (budget_fault (run_length stopped))
 over_budget = record { within = record { few_trees = one.few_trees; asks = λ k x l. absurd (omega (arith, l)) }; spent = spent; text_is = refl }
 
 pub not_enough : run_length stopped < enough (counted (lie_with [])) 4

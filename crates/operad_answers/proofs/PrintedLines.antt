@@ -35,7 +35,7 @@ use Rattle.presentation_text.proofs.PrintedDocuments.{field_small}
 use Rattle.operad_answers.specs.OrderedPresentations.{OrderedPresentation, written, IsWellFormed}
 use Rattle.operad_answers.specs.Parts.{line}
 use Rattle.operad_answers.specs.Texts.{Sum, EachWith, IsNarrow, queries, IsForm, IsAnswer, IsFormsText}
-use Rattle.operad_answers.specs.Verdicts.{Sides, difference, comparisons, numbered_from, IsVerdict, IsProveText, verdict_block, verdict_blocks, AreQuestionsOver}
+use Rattle.operad_answers.specs.Verdicts.{Holds, Sides, difference, comparisons, numbered_from, IsVerdict, IsProveText, verdict_block, verdict_blocks, AreQuestionsOver}
 use Rattle.operad_answers.specs.Laws.{QueryLinesDecide, ProveTextsAreRead}
 use Rattle.operad_answers.proofs.Forms.{form_at, form_printable, decide}
 use Rattle.operad_answers.proofs.WellFormed.{writable_well_formed}
@@ -246,7 +246,7 @@ module _ (d : Document) (formed : IsWritable d) where
 
 -- each block holds
 pub blocks_hold : (d : Document) → IsWritable d → (asks : List Asked) (text : List ℕ) (printed : IsProveText d asks text) → (block : Block)
-    → Mem block (verdict_blocks d (numbered_from 1 (comparisons asks)) printed.verdicts printed.are_verdicts) → BlockHolds d.field d.gens d.rels block.want block.steps
+    → Mem block (verdict_blocks d (numbered_from 1 (comparisons asks)) printed.verdicts printed.are_verdicts) → Holds d block
 blocks_hold d formed asks text printed block m = (good_all d formed 1 (comparisons asks) printed.verdicts printed.are_verdicts block m).0
 
 pub prove_texts_are_read : ProveTextsAreRead

@@ -75,4 +75,7 @@ enough_is seed d h =
     ap₂ (λ o asks. enough (counted_of o asks) 5) w.0 w.1 ∙ enough_for_trial seed
 
 pub budgets : TrialBudgets
-budgets seed d h = (enough_is seed d h, λ B s. subst (λ b. B < b) (enough_is seed d h) (enough_is_not_spent d (documents_are_writable seed d h) 5 B s))
+budgets seed = (
+  enough_is seed,
+  λ B text h. subst (λ b. B < b) (enough_is seed h.document h.is_document) (enough_is_not_spent h.document (documents_are_writable seed h.document h.is_document) 5 B h.spent),
+)

@@ -10,11 +10,10 @@ use Rattle.presentation_text.specs.Presentations.{IsReadAs}
 use Rattle.presentation_text.specs.declared.document.Document.{Document}
 use Rattle.certificate_text.specs.BlockForms.{between, blocks_from, base_of}
 use Rattle.certificate_text.specs.Plain.{plain_block}
-use Rattle.certificate_check.specs.Blocks.{BlockHolds}
 use Rattle.operad_answers.specs.OrderedPresentations.{presentation, written, asks_of}
 use Rattle.operad_answers.specs.Parts.{line, AreParts}
 use Rattle.operad_answers.specs.Texts.{Sum, EachWith, queries, IsAnswer, IsBasisOfQuotient, IsTextOfReducedBasis}
-use Rattle.operad_answers.specs.Verdicts.{Sides, difference, comparisons, numbered_from, is_yes, yes_number, IsYes, IsNo, IsVerdict, verdict_blocks}
+use Rattle.operad_answers.specs.Verdicts.{Holds, Sides, difference, comparisons, numbered_from, is_yes, yes_number, IsYes, IsNo, IsVerdict, verdict_blocks}
 use Rattle.operad_answers.specs.Commands.{Command, normal, basis, forms, prove, IsTextOf}
 
 module _ (d : Document) where
@@ -56,7 +55,7 @@ module _ (d : Document) where
     pub as_many : length (verdict_blocks d (numbered_from 1 (comparisons (asks_of d))) verdicts are_verdicts) ≡ yes_number 1 verdicts
     pub read : (number : ℕ) → blocks_from (base_of d) (between, []) number (lines text)
         ≡ Ok (map plain_block (verdict_blocks d (numbered_from 1 (comparisons (asks_of d))) verdicts are_verdicts))
-    pub hold : All (λ block. BlockHolds d.field d.gens d.rels block.want block.steps) (verdict_blocks d (numbered_from 1 (comparisons (asks_of d))) verdicts are_verdicts)
+    pub hold : All (Holds d) (verdict_blocks d (numbered_from 1 (comparisons (asks_of d))) verdicts are_verdicts)
 
   -- What the text of a command means: the normal listing is a basis of the quotient by the ideal in each arity; the rules are those of the
   -- reduced basis; lines are those of the normal forms, and decide the ideal; verdicts are right.

@@ -41,11 +41,10 @@ use Rattle.certificate_text.specs.BlockForms.{between, blocks_from, base_of}
 use Rattle.certificate_text.specs.Plain.{plain_block}
 use Rattle.certificate_text.specs.Tails.{AreReadAs}
 use Rattle.certificate_text.specs.declared.block.Block.{Block}
-use Rattle.certificate_check.specs.Blocks.{BlockHolds}
 use Rattle.operad_answers.specs.OrderedPresentations.{OrderedPresentation, presentation, comparison, written, IsWellFormed, asks_of}
 use Rattle.operad_answers.specs.Parts.{line, part_text, AreParts, AreInOrder}
 use Rattle.operad_answers.specs.Texts.{Sum, IsNarrow, queries, IsNormalText, IsBasisText, IsFormsText, IsBasisOfQuotient, IsForm, IsAnswer, IsRuleOf}
-use Rattle.operad_answers.specs.Verdicts.{Sides, difference, comparisons, numbered_from, yes_number, WantingBlock, IsYes, IsNo, IsVerdict, IsProveText, verdict_blocks, AreQuestionsOver}
+use Rattle.operad_answers.specs.Verdicts.{Holds, Sides, difference, comparisons, numbered_from, yes_number, WantingBlock, IsYes, IsNo, IsVerdict, IsProveText, verdict_blocks, AreQuestionsOver}
 use Rattle.operad_answers.specs.Limits.{HasFewTrees, IsWithinLimits}
 use Rattle.operad_answers.specs.Budgets.{question_of, counted, IsSpent, IsPaid}
 use Rattle.operad_answers.specs.Commands.{Command, prove, IsTextOf, IsAnsweredBy, IsDone, HasTooManyTrees, AsksGreaterArity}
@@ -120,7 +119,7 @@ abbrev pub ProveTextsAreRead : Type 0
 ProveTextsAreRead = (d : Document) → IsWritable d → (asks : List Asked) → AreQuestionsOver d.gens asks → length (comparisons asks) < 2 ^ 63
     → (text : List ℕ) (printed : IsProveText d asks text) → (number : ℕ)
     → (blocks_from (base_of d) (between, []) number (lines text) ≡ Ok (map plain_block (verdict_blocks d (numbered_from 1 (comparisons asks)) printed.verdicts printed.are_verdicts)))
-    × ((block : Block) → Mem block (verdict_blocks d (numbered_from 1 (comparisons asks)) printed.verdicts printed.are_verdicts) → BlockHolds d.field d.gens d.rels block.want block.steps)
+    × ((block : Block) → Mem block (verdict_blocks d (numbered_from 1 (comparisons asks)) printed.verdicts printed.are_verdicts) → Holds d block)
 
 -- ---- a document and what `prove` prints, together
 
@@ -134,7 +133,7 @@ pub record HasHeldBlocks (d : Document) (K : ℕ) (bytes : List ℕ) : Type 0 wh
   pub read : IsReadAs bytes (record d { tail = tail })
   pub blocks : List Block
   pub are_blocks : AreReadAs bytes (record d { tail = tail }) blocks
-  pub hold : All (λ block. BlockHolds d.field d.gens d.rels block.want block.steps) blocks
+  pub hold : All (Holds d) blocks
   pub as_many : length blocks ≡ K
 
 -- Where bytes are read as a document without a tail, they, ended with a line feed, and what `prove` prints behind them are read as that

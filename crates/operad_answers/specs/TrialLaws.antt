@@ -2,13 +2,13 @@
 use Rattle.std.specs.Prelude.{ℕ, ◌≡◌, ◌<◌, List, []}
 use Rattle.counted_runs.specs.Enough.{enough}
 use Rattle.presentation_text.specs.ReadBack.{IsWritable}
-use Rattle.operad_answers.specs.Budgets.{counted, IsSpent}
+use Rattle.operad_answers.specs.Budgets.{counted}
 use Rattle.presentation_text.specs.declared.document.Document.{Document}
 use Rattle.trial_elements.specs.Elements.{trial_presentation, trial_elements, element_of_line}
 use Rattle.operad_answers.specs.OrderedPresentations.{presentation, written, asks_of}
 use Rattle.operad_answers.specs.Texts.{Sum}
 use Rattle.operad_answers.specs.TrialDocuments.{trial_written, trial_questions, IsTrialDocument}
-use Rattle.operad_answers.specs.TrialTexts.{IsTrialForm, six_lines, IsTrialText}
+use Rattle.operad_answers.specs.TrialTexts.{IsTrialForm, six_lines, IsTrialText, IsTrialOverBudget}
 
 -- Each seed has a document.
 abbrev pub TrialDocumentsExist : Type 0
@@ -24,9 +24,9 @@ TrialDocumentsWrite = (presentation trial_written ≡ trial_presentation)
 abbrev pub TrialDocumentsAreWritable : Type 0
 TrialDocumentsAreWritable = (seed : ℕ) (d : Document) → IsTrialDocument seed d → IsWritable d
 
--- 2893900624 steps are enough through arity 5, and fewer are spent.
+-- 2893900624 steps are enough through arity 5, and a trial is over budget only with fewer.
 abbrev pub TrialBudgets : Type 0
-TrialBudgets = (seed : ℕ) (d : Document) → IsTrialDocument seed d → (enough (counted d) 5 ≡ 2893900624) × ((B : ℕ) → IsSpent d 5 B → B < 2893900624)
+TrialBudgets = (seed : ℕ) → ((d : Document) → IsTrialDocument seed d → enough (counted d) 5 ≡ 2893900624) × ((B : ℕ) (text : List ℕ) → IsTrialOverBudget seed B text → B < 2893900624)
 
 -- For every seed 38 lines are counted as in the ideal and 2 as not, 38 blocks are accepted, and the two forms, which aren't 0, are the
 -- normal forms of the 20th and 40th element.

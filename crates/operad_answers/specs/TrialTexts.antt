@@ -6,7 +6,10 @@ use Rattle.trial_elements.specs.Elements.{trial_elements, element_of_line}
 use Rattle.trial_elements.specs.Laws.{InTrialIdeal, Exactly}
 use Rattle.operad_answers.specs.Parts.{line}
 use Rattle.operad_answers.specs.Texts.{Sum, IsForm}
-use Rattle.operad_answers.specs.TrialDocuments.{trial_generator, trial_written}
+use Rattle.presentation_text.specs.declared.document.Document.{Document}
+use Rattle.operad_answers.specs.Budgets.{IsSpent}
+use Rattle.operad_answers.specs.Commands.{budget_fault}
+use Rattle.operad_answers.specs.TrialDocuments.{IsTrialDocument, trial_generator, trial_written}
 
 -- f is the normal form of the element e of arity 5, collected
 abbrev pub IsTrialForm : Sum → Sum → Type 0
@@ -21,6 +24,13 @@ six_lines members others accepted twentieth fortieth =
     ++ (line (codes "accepted " ++ decimal accepted)
     ++ (line (codes "form 20 " ++ sum_text 32003 (trial_generator ∷ []) twentieth)
     ++ line (codes "form 40 " ++ sum_text 32003 (trial_generator ∷ []) fortieth)))))
+
+-- A stopped counted run through arity 5 over the document of the seed has exactly B steps, and the line names B.
+pub record IsTrialOverBudget (seed B : ℕ) (text : List ℕ) : Type 0 where
+  pub document : Document
+  pub is_document : IsTrialDocument seed document
+  pub spent : IsSpent document 5 B
+  pub text_is : text ≡ budget_fault B
 
 -- What the trial of a seed prints: how many of the lines have an element in the ideal, how many have one that isn't, that as many blocks
 -- were accepted as are in the ideal, and the normal forms of the 20th and of the 40th element.

@@ -163,7 +163,7 @@ pub fn trial_documents_are_writable()
     ensures law { TrialDocumentsAreWritable }
 {}
 
-/// Law: for each seed 2893900624 steps are enough, and fewer are spent.
+/// Law: for each seed 2893900624 steps are enough, and a trial is over budget only with fewer.
 pub fn trial_budgets()
     ensures law { TrialBudgets }
 {}

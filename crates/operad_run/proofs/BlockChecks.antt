@@ -9,7 +9,8 @@ use Rattle.certificate_check.specs.declared.answer.CheckAnswer.{CheckAnswer}
 use Rattle.certificate_check.specs.declared.answer.CheckAnswer.TheVariants.{Accepted, Refused}
 use Rattle.certificate_check.specs.declared.answer.CheckCause.{CheckCause}
 use Rattle.certificate_check.proofs.GoodUses.{split-at, taken}
-use Rattle.operad_run.specs.Certified.{Holds, IsRefusedBy}
+use Rattle.operad_answers.specs.Verdicts.{Holds}
+use Rattle.operad_run.specs.Certified.{IsRefusedBy}
 
 -- one more block that holds
 pub hold_more : (document : Document) (blocks : List Block) (i : ℕ) (block : Block) → i < length blocks → block ≡ get_or blocks i block

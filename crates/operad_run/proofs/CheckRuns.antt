@@ -1,6 +1,7 @@
 -- How runs of `operad_check` end.
 use Rattle.std.proofs.Common.{ℕ, ◌++◌, inl, inr, List, ◌∷◌, refl, subst}
-use Rattle.operad_run.specs.Certified.{IsCertified, IsFirstFault, Holds, IsAccepted, IsRefused, Tells}
+use Rattle.operad_answers.specs.Verdicts.{Holds}
+use Rattle.operad_run.specs.Certified.{IsCertified, IsFirstFault, IsAccepted, IsRefused, Tells}
 use Rattle.operad_run.specs.Runs.{Outside, Came, Told, Ends}
 use Rattle.operad_run.specs.CheckRuns.{IsMemberWord, Says, IsComplete, IsRun}
 use Rattle.operad_run.specs.declared.status.Status.{Status}

@@ -12,7 +12,8 @@ use Rattle.certificate_text.specs.declared.block.Block.{Block}
 use Rattle.certificate_check.specs.Soundness.{AreElements}
 use Rattle.certificate_check.proofs.HeldBlocks.{held_blocks}
 use Rattle.operad_answers.specs.Parts.{line}
-use Rattle.operad_run.specs.Certified.{Holds, IsMember, IsAccepted, IsRefused, IsRefusedBy, cause_name}
+use Rattle.operad_answers.specs.Verdicts.{Holds}
+use Rattle.operad_run.specs.Certified.{IsMember, IsAccepted, IsRefused, IsRefusedBy, cause_name}
 use Rattle.operad_run.specs.declared.checks.Refusal.{Refusal}
 use Rattle.certificate_text.proofs.ReadyBlocks.{prime_positive}
 use Rattle.certificate_text.proofs.SaidSums.{of_image}

@@ -1,7 +1,6 @@
 -- What a run tells is determined by the bytes.
-use Rattle.std.proofs.Common.{◌≡◌, ℕ, ◌<◌, ◌++◌, List, [], ap, sym, ◌∙◌, refl, subst, codes}
+use Rattle.std.proofs.Common.{◌≡◌, ℕ, ◌<◌, List, [], ap, sym, ◌∙◌, refl, subst}
 use Rattle.std.specs.List.{All}
-use Rattle.std.specs.Fmt.{decimal}
 use Rattle.presentation_text.specs.DocumentForms.{LineFault}
 use Rattle.presentation_text.specs.Presentations.{IsReadAs}
 use Rattle.presentation_text.specs.ReadBack.{ReadDocumentsAreWritable}
@@ -9,7 +8,7 @@ use Rattle.presentation_text.specs.declared.document.Ask.{Ask}
 use Rattle.presentation_text.specs.declared.document.Document as document_of
 use Rattle.presentation_text.specs.declared.kinds.DocKind.TheVariants.{Block}
 use Rattle.operad_answers.specs.OrderedPresentations.{asked_by, asks_of}
-use Rattle.operad_answers.specs.Parts.{line}
+use Rattle.operad_answers.specs.Commands.{query_fault}
 use Rattle.operad_answers.specs.Texts.{queries}
 use Rattle.operad_answers.specs.Limits.{IsAskWithin, IsFirstOfGreaterArity}
 use Rattle.operad_answers.proofs.Bounds.{one_number, none_greater}
@@ -63,7 +62,7 @@ module _ (writable : ReadDocumentsAreWritable) (bytes : List ℕ) (n : ℕ) wher
   one_limit text other h g =
       let asks = same_asks h.document g.document h.free g.free in
       h.text_is
-      ∙ ap (λ m. line (codes "fault limit query " ++ decimal m)) (one_number n g.document.asks h.number g.number (subst (λ xs. IsFirstOfGreaterArity n xs h.number) asks h.wide) g.wide)
+      ∙ ap query_fault (one_number n g.document.asks h.number g.number (subst (λ xs. IsFirstOfGreaterArity n xs h.number) asks h.wide) g.wide)
       ∙ sym g.text_is
 
   positive : (document : document_of.Document) → IsReadAs bytes document → 0 < document.field

@@ -7,7 +7,8 @@ use Rattle.presentation_text.specs.declared.document.Document.{Document}
 use Rattle.presentation_text.specs.declared.kinds.DocKind.{DocKind}
 use Rattle.certificate_text.specs.declared.block.Block.{Block}
 use Rattle.certificate_check.specs.Blocks.{BlockHolds}
-use Rattle.operad_run.specs.Certified.{IsCertified, IsFirstFault, Holds}
+use Rattle.operad_answers.specs.Verdicts.{Holds}
+use Rattle.operad_run.specs.Certified.{IsCertified, IsFirstFault}
 use Rattle.operad_run.proofs.SameReadings.{never_refused, same_documents, same_blocks, blocks_or_fault}
 
 abbrev HoldsOver : ℕ → List Generator → List (List Term) → Block → Type 0

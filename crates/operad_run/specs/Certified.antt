@@ -2,10 +2,8 @@
 use Rattle.std.specs.Prelude.{ℕ, ◌≡◌, ◌+◌, ◌⊎◌, List, ◌∷◌, ◌++◌, length, codes, Err}
 use Rattle.std.specs.List.{All}
 use Rattle.std.specs.Fmt.{decimal}
-use Rattle.operad_ideals.specs.Ideals.{InIdeal}
 use Rattle.symmetric_sums.specs.Terms.{terms_of}
 use Rattle.symmetric_sums.specs.Instances.{element_arity}
-use Rattle.symmetric_sums.specs.Membership.{presentation_of}
 use Rattle.presentation_text.specs.DocumentForms.{read_text}
 use Rattle.presentation_text.specs.Presentations.{IsReadAs}
 use Rattle.presentation_text.specs.declared.document.Document.{Document}
@@ -13,12 +11,13 @@ use Rattle.presentation_text.specs.declared.kinds.DocKind.{DocKind}
 use Rattle.certificate_text.specs.BlockForms.{read_tail}
 use Rattle.certificate_text.specs.Tails.{AreReadAs}
 use Rattle.certificate_text.specs.declared.block.Block.{Block}
-use Rattle.certificate_check.specs.Blocks.{BlockHolds}
 use Rattle.certificate_check.specs.Answers.{IsAnswer}
 use Rattle.certificate_check.specs.declared.answer.CheckAnswer.TheVariants.{Refused}
 use Rattle.certificate_check.specs.declared.answer.CheckCause.{CheckCause}
 use Rattle.certificate_check.specs.declared.answer.CheckCause.TheVariants.{Ahead, UseUnfit, Differs, NotWanted}
 use Rattle.operad_answers.specs.Parts.{line}
+use Rattle.operad_answers.specs.Verdicts.{Holds}
+use Rattle.operad_answers.specs.Headline.{IsInIdeal}
 use Rattle.operad_run.specs.Runs.{fault_text}
 use Rattle.operad_run.specs.declared.checks.Refusal.{Refusal}
 use Rattle.operad_run.specs.declared.status.Status.{Status}
@@ -34,14 +33,9 @@ abbrev pub IsFirstFault : List ℕ → ℕ → DocKind → Type 0
 IsFirstFault bytes number kind =
     (read_text bytes ≡ Err (number, kind)) ⊎ ((document : Document) × IsReadAs bytes document × (read_tail bytes document document.tail ≡ Err (number, kind)))
 
--- the block holds over the relations of the document
-abbrev pub Holds : Document → Block → Type 0
-Holds document block = BlockHolds document.field document.gens document.rels block.want block.steps
-
 -- the wanted element of the block is in the ideal of the presentation, in its arity
 abbrev pub IsMember : Document → Block → Type 0
-IsMember document block =
-    InIdeal (presentation_of document.field document.gens document.rels) (element_arity (terms_of block.want)) (terms_of block.want)
+IsMember document block = IsInIdeal document (element_arity (terms_of block.want)) (terms_of block.want)
 
 -- All blocks of the text hold, their wanted elements are in the ideal, and the line says how many there are.
 pub record IsAccepted (bytes : List ℕ) (text : List ℕ) : Type 0 where

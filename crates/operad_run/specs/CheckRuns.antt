@@ -4,7 +4,8 @@ use Rattle.std.specs.List.{All}
 use Rattle.outside_io.specs.Causes.{Rose}
 use Rattle.presentation_text.specs.declared.document.Document as document_of
 use Rattle.certificate_text.specs.declared.block.Block.{Block}
-use Rattle.operad_run.specs.Certified.{IsCertified, Holds, Tells}
+use Rattle.operad_answers.specs.Verdicts.{Holds}
+use Rattle.operad_run.specs.Certified.{IsCertified, Tells}
 use Rattle.operad_run.specs.Runs.{Outside, Came, most_bytes, IsMisused, IsUnreadable, IsTooLong, Ends}
 use Rattle.operad_run.specs.declared.status.Status.{Status}
 use Rattle.operad_run.specs.declared.status.Status.TheVariants.{Done, Refused, Usage, Document, Limit, ReadFault, NoMemory}

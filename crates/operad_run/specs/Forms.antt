@@ -1,7 +1,6 @@
 -- What `forms` tells of a text: its answers, or why there are none.
-use Rattle.std.specs.Prelude.{ℕ, ◌≡◌, List, [], ◌++◌, codes, Some, None, Err}
+use Rattle.std.specs.Prelude.{ℕ, ◌≡◌, List, [], Some, None, Err}
 use Rattle.std.specs.List.{All}
-use Rattle.std.specs.Fmt.{decimal}
 use Rattle.symmetric_trees.specs.declared.generators.Generator.{Generator}
 use Rattle.symmetric_sums.specs.Terms.{terms_of}
 use Rattle.presentation_text.specs.DocumentForms.{read_text}
@@ -13,8 +12,8 @@ use Rattle.presentation_text.specs.declared.document.Tail.{Tail}
 use Rattle.presentation_text.specs.declared.kinds.DocKind.{DocKind}
 use Rattle.presentation_text.specs.declared.kinds.DocKind.TheVariants.{Block, NotBuilt}
 use Rattle.operad_answers.specs.OrderedPresentations.{asks_of}
-use Rattle.operad_answers.specs.Parts.{line}
 use Rattle.operad_answers.specs.Texts.{queries}
+use Rattle.operad_answers.specs.Commands.{query_fault}
 use Rattle.operad_answers.specs.Limits.{IsAskWithin, IsFirstOfGreaterArity}
 use Rattle.operad_run.specs.Answers.{AddsAnswer, AreAnswered, AnswersDecide}
 use Rattle.operad_run.specs.Runs.{fault_text}
@@ -53,7 +52,7 @@ pub record IsTooWide (bytes : List ℕ) (n : ℕ) (text : List ℕ) : Type 0 whe
   pub free : IsFree bytes document
   pub number : ℕ
   pub wide : IsFirstOfGreaterArity n document.asks number
-  pub text_is : text ≡ line (codes "fault limit query " ++ decimal number)
+  pub text_is : text ≡ query_fault number
 
 -- The text is the lines of the answers to the queries, which tell these apart modulo symmetry.
 pub record IsAnswered (bytes : List ℕ) (n : ℕ) (text : List ℕ) : Type 0 where

@@ -4,7 +4,8 @@ ghost use Rattle.std.specs.List.{All};
 ghost use Rattle.symmetric_sums.specs.Terms.{FitsOver};
 ghost use Rattle.certificate_text.specs.Tails.{IsReadyBlock};
 ghost use Rattle.operad_answers.specs.Parts.{line};
-ghost use Rattle.operad_run.specs.Certified.{Holds, IsRefusedBy, Tells, cause_name as name_of};
+ghost use Rattle.operad_answers.specs.Verdicts.{Holds};
+ghost use Rattle.operad_run.specs.Certified.{IsRefusedBy, Tells, cause_name as name_of};
 
 use crate::run::fault_text;
 use crate::status::Status;

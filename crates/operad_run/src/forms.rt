@@ -1,10 +1,9 @@
-ghost use Rattle.std.specs.Prelude.{◌≡◌, ◌↔◌, ◌≤◌, ◌++◌, [], ◌∷◌, IfOk, IsTrue, MatchOption, OnOk, codes, length};
-ghost use Rattle.std.specs.Fmt.{decimal};
+ghost use Rattle.std.specs.Prelude.{◌≡◌, ◌↔◌, ◌≤◌, ◌++◌, [], ◌∷◌, IfOk, IsTrue, MatchOption, OnOk, length};
 ghost use Rattle.std.specs.List.{All};
 ghost use Rattle.symmetric_sums.specs.Terms.{FitsOver, terms_of};
 ghost use Rattle.presentation_text.specs.DraftForms.{AskFits};
 ghost use Rattle.operad_answers.specs.OrderedPresentations.{asks_of};
-ghost use Rattle.operad_answers.specs.Parts.{line as line_of};
+ghost use Rattle.operad_answers.specs.Commands.{query_fault};
 ghost use Rattle.operad_answers.specs.Texts.{queries};
 ghost use Rattle.operad_answers.specs.Limits as limits;
 ghost use Rattle.operad_run.specs.Answers.{AddsAnswer, AreAnswered};
@@ -113,7 +112,7 @@ fn answers(alloc: Global, document: &Document) -> Result<Vec<u8>, AllocError>
 
 // The text that names the line of the first question with a greater arity.
 fn wide_text(alloc: Global, line: u32) -> Result<Vec<u8>, AllocError>
-    ensures { IfOk result (λ text. text.items ≡ line_of (codes "fault limit query " ++ decimal line)) }
+    ensures { IfOk result (λ text. text.items ≡ query_fault line) }
 {
     let mut text = Vec::new(alloc);
     text.extend_from_slice(b"fault limit query ")?;

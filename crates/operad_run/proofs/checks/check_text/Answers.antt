@@ -5,7 +5,8 @@ use Rattle.std.specs.List.{All}
 use Rattle.presentation_text.specs.Presentations as documents
 use Rattle.certificate_text.specs.Tails as blocks
 use Rattle.operad_answers.specs.Parts.{line}
-use Rattle.operad_run.specs.Certified.{Holds, IsRefusedBy}
+use Rattle.operad_answers.specs.Verdicts.{Holds}
+use Rattle.operad_run.specs.Certified.{IsRefusedBy}
 use Rattle.operad_run.proofs.CheckedTexts.{accepted}
 use Rattle.operad_run.proofs.checks.check_text.Goals as goal
 

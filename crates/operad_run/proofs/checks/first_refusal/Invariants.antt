@@ -1,6 +1,6 @@
 use Rattle.std.proofs.Common.{◌≡◌, take}
 use Rattle.std.specs.List.{All}
-use Rattle.operad_run.specs.Certified.{Holds}
+use Rattle.operad_answers.specs.Verdicts.{Holds}
 use Rattle.operad_run.proofs.checks.first_refusal.Given as goal
 
 abbrev pub invariant-loop-block : goal.invariant-loop-block
