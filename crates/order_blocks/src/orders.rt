@@ -18,7 +18,7 @@ use tree_store::{Store, TreeId};
 pub trait BlockOrder: TreeOrder {
     ghost block: { Self → spec.Key → List ℕ };
 
-    /// Writes the block of the tree with this id behind the others. The id was given by `put`, and the tree has the
+    /// Writes the block of the tree with this id behind the others. The id is one that the store gave, and the tree has the
     /// leaves 1 to a number that is at most 16. `AllocError` comes for want of memory alone, and then nothing was written.
     fn write_block(&self, store: &Store, id: TreeId, out: &mut Blocks) -> Result<(), AllocError>
         requires held { id < length store.now }

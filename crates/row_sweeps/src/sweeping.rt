@@ -11,9 +11,9 @@ use std::alloc::{AllocError, Global};
 /// Why a row isn't swept.
 #[derive(Drop)]
 pub enum SweepFail {
-    /// The count stands at the bound, and a position of this sum has a rule.
+    /// The count stands at the bound, and a position of this sum, which is what was left of the row, has a rule.
     Spent { row: Vec<Term> },
-    /// Memory has run out.
+    /// Memory has run out; the row may be anything then.
     NoMemory,
 }
 
@@ -28,9 +28,11 @@ impl From<AllocError> for SweepFail {
     }
 }
 
-/// Cancels what can be cancelled in a row that is 0 from `end` on, the greatest position first, and answers the rest, falling.
-/// Each step is counted, and logged behind the others where `keep` is true. The row is 0 afterwards, so that it serves again.
-/// `Spent` comes where a step would pass the bound: with what the row is then, falling; the row is 0 then too.
+/// Cancels what can be cancelled in a row, the greatest position first, and answers the rest, falling. The row has a number
+/// below 2^63 for each position of the table, and is 0 from `end` on, which is at most its length. Each step is counted, and
+/// logged behind the others where `keep` is true. The row is 0 afterwards, so that it serves again, unless memory ran out.
+/// `Spent` comes exactly where a step would pass the bound: with what the row is then, falling. `NoMemory` comes for want of
+/// memory alone.
 pub fn sweep(
     alloc: Global,
     table: &RuleTable,

@@ -72,7 +72,8 @@ fn positions_of(alloc: Global, tail: &[Term]) -> Result<Vec<u32>, AllocError>
 }
 
 impl RuleTable {
-    /// A table of so many positions, without rules, modulo the prime.
+    /// A table of so many positions, at most 2^30, without rules, modulo a number from 1 to 65537.
+    /// `AllocError` comes for want of memory alone.
     pub fn new(alloc: Global, prime: u32, size: usize) -> Result<RuleTable, AllocError>
         requires positive { 0 < prime }
         requires small { prime ≤ 65537 }
@@ -87,7 +88,7 @@ impl RuleTable {
         })
     }
 
-    /// The prime, from 1 to 65537.
+    /// The number modulo which rules are, from 1 to 65537. It takes no memory.
     pub fn prime(&self) -> u32
         ensures prime { result ≡ suc self.now.q }
         ensures small { result ≤ 65537 }
@@ -95,7 +96,7 @@ impl RuleTable {
         self.prime
     }
 
-    /// How many positions there are, at most 2^30.
+    /// How many positions there are, at most 2^30. It takes no memory.
     pub fn len(&self) -> usize
         ensures len { result ≡ length self.now.rules }
         ensures few { result ≤ 2 ^ 30 }
@@ -103,7 +104,8 @@ impl RuleTable {
         self.rules.len()
     }
 
-    /// Puts coefficients behind the others, and answers where they begin. `AllocError` comes for want of memory alone.
+    /// Puts coefficients, of any size, behind the others, and answers where they begin. `AllocError` comes for want of memory
+    /// alone; nothing was put then.
     pub fn add_coefs(&mut self, coefs: &[u32]) -> Result<usize, AllocError>
         ensures from { IfOk result (λ from. from ≡ length self.old.coefs) }
         ensures added { OnOk result (self.new ≡ record self.old { coefs = self.old.coefs ++ coefs.now }) }
@@ -114,7 +116,8 @@ impl RuleTable {
         Ok(from)
     }
 
-    /// Whether `add_rule` may be called with these: it asks that the positions of the tail fall, which is more than it has to.
+    /// Whether `add_rule` may be called with these. It also asks that the positions of the tail fall, so it may say false of
+    /// a tail that `add_rule` would take. It takes no memory.
     pub fn takes_rule(&self, position: usize, from: usize, tail: &[u32]) -> bool
         ensures position { IsTrue result → position < length self.now.rules }
         ensures from { IsTrue result → from + length tail.now ≤ length self.now.coefs }
@@ -132,7 +135,9 @@ impl RuleTable {
         )
     }
 
-    /// Gives a position the rule with this tail, whose coefficients begin at `from`. `AllocError` comes for want of memory alone.
+    /// Gives a position, which is below `len()`, the rule with the positions of this tail, whose coefficients are as many of those
+    /// that were put, from `from` on. The positions are different and below that of the rule, and the coefficients are residues
+    /// other than 0. `AllocError` comes for want of memory alone; the table is as before then.
     pub fn add_rule(&mut self, position: usize, from: usize, tail: &[u32]) -> Result<(), AllocError>
         requires position { position < length self.old.rules }
         requires from { from + length tail.now ≤ length self.old.coefs }
@@ -150,7 +155,9 @@ impl RuleTable {
         Ok(())
     }
 
-    /// Gives a position the rule with the tail of these terms. `AllocError` comes for want of memory alone; the rules are as before then.
+    /// Gives a position, which is below `len()`, the rule with the tail of these terms. Their positions are different and below
+    /// that of the rule, and their coefficients are residues other than 0. `AllocError` comes for want of memory alone; the
+    /// rules are as before then.
     pub fn add_terms(
         &mut self,
         alloc: Global,

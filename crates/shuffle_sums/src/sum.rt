@@ -31,10 +31,12 @@ pub enum SSumFail {
     NoMemory,
 }
 
-/// A residue beside the id of a tree.
+/// A residue beside the id of a tree. The fields are free here; what a sum asks of them is said at its calls.
 #[derive(Clone, Copy, Debug)]
 pub struct Term {
+    /// The residue.
     pub coef: u32,
+    /// The id of the tree.
     pub tree: TreeId,
 }
 
@@ -65,7 +67,7 @@ impl<O: TreeOrder> SSum<O> {
         }
     }
 
-    /// The sum with these terms.
+    /// The sum with these terms, in this order. Nothing is put together and nothing dropped. It takes no memory.
     pub fn from_terms(terms: Items<Term>) -> SSum<O>
         ensures terms { result ≡ pairs terms }
     {
@@ -75,7 +77,7 @@ impl<O: TreeOrder> SSum<O> {
         }
     }
 
-    /// The terms.
+    /// The terms in their order, without a copy. It takes no memory.
     pub fn into_terms(self) -> Items<Term>
         ensures terms { pairs result ≡ self }
     {
