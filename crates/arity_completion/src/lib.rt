@@ -1,4 +1,8 @@
-//! Entries for the log of a completion: uses made of starts and cofactors, and elements passed back from shuffle sums.
+//! Entries for the log of a completion.
+//!
+//! `uses` writes what a row is after the steps of a reduction as uses of relations and of earlier entries, and `elements`
+//! passes a sum of shuffle trees back to a symmetric element; `entries` makes an entry of both. `laws` says that such entries
+//! may be pushed, and that they stand for the elements of the basis all along.
 #![tactic(auto)]
 
 mod elements;

@@ -254,12 +254,7 @@ fn free_cone<O: BlockOrder>(alloc: Global, store: &mut Store, order: &O) -> Resu
 }
 
 // The rest of the tree at this place of the cone, by so many steps.
-fn rest_of(
-    alloc: Global,
-    cone: &Cone,
-    place: usize,
-    bound: u64,
-) -> Result<Items<IdTerm>, RowFail>
+fn rest_of(alloc: Global, cone: &Cone, place: usize, bound: u64) -> Result<Items<IdTerm>, RowFail>
     requires cone { (given : List ℕ) × IsCone given cone.now }
     requires place { place < length cone.now.ids }
 {
