@@ -5,13 +5,17 @@ pub mod Elements
 pub mod FirstDividers
 pub mod GrownCones
 pub mod InputTrees
+pub mod KeptBases
 pub mod KeptLists
 pub mod LaidParts
 pub mod MadeTrees
 pub mod Meeting
+pub mod NewLeads
+pub mod NewTails
 pub mod OverTrees
 pub mod Ranking
 pub mod Rowing
 pub mod Ruling
 pub mod TailSteps
+pub mod TestElements
 pub mod WholeTrees

@@ -1,3 +1,5 @@
+pub mod Bases
+pub mod Cofactors
 pub mod Cones
 pub mod Dividers
 pub mod Gathered

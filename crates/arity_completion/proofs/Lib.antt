@@ -1,0 +1,12 @@
+pub mod Adding
+pub mod Backs
+pub mod Carried
+pub mod Chains
+pub mod FrameFits
+pub mod Hosts
+pub mod KeptEntries
+pub mod Pushing
+pub mod StartUses
+pub mod StepUses
+pub mod Ups
+pub mod Wholes
