@@ -7,6 +7,7 @@ ghost use Rattle.row_sweeps.specs.Rules.{unruled};
 ghost use Rattle.row_sweeps.specs.Stored.{nothing_stored};
 
 use crate::Term;
+#[cfg(test)]
 use crate::testing::is_falling_tail;
 use std::alloc::{AllocError, Global};
 use std::marker::Model;
@@ -116,9 +117,9 @@ impl RuleTable {
         Ok(from)
     }
 
-    /// Whether `add_rule` may be called with these. It also asks that the positions of the tail fall, so it may say false of
-    /// a tail that `add_rule` would take. It takes no memory.
-    pub fn takes_rule(&self, position: usize, from: usize, tail: &[u32]) -> bool
+    // Whether `add_rule` may be called with these, for tests: it also asks that the positions of the tail fall.
+    #[cfg(test)]
+    pub(crate) fn takes_rule(&self, position: usize, from: usize, tail: &[u32]) -> bool
         ensures position { IsTrue result → position < length self.now.rules }
         ensures from { IsTrue result → from + length tail.now ≤ length self.now.coefs }
         ensures tail { IsTrue result → IsTail self.now.q position (zip (slice_range self.now.coefs from (from + length tail.now)) tail.now) }
