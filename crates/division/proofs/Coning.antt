@@ -41,14 +41,14 @@ distinct_places places ids h = once ids (λ p q x e f. let a = h.to x p e in let
     once (y ∷ l) h = (λ m. let p = placed y l m in zero_suc p.0 (h 0 (suc p.0) y refl p.1), once l (λ p q x e f. less p q (h (suc p) (suc q) x e f)))
 
 -- what is known once trees were gathered
-pub record IsReady (old new : List (Tree ℕ)) (reducers : List Reducer) (found : List (Option ℕ)) (given ids : List ℕ) (tails : List (List ℕ)) : Type 0 where
+pub record HasGathered (old new : List (Tree ℕ)) (reducers : List Reducer) (found : List (Option ℕ)) (given ids : List ℕ) (tails : List (List ℕ)) : Type 0 where
   pub grows : Grows old new
   pub before : AreReducers old reducers
   pub given_held : All (λ i. i < length old) given
   pub dividers : AreDividers new reducers found
   pub gathered : AreGathered new reducers found given ids tails
 
-module _ (old new : List (Tree ℕ)) (reducers : List Reducer) (found : List (Option ℕ)) (given ids : List ℕ) (tails : List (List ℕ)) (r : IsReady old new reducers found given ids tails)
+module _ (old new : List (Tree ℕ)) (reducers : List Reducer) (found : List (Option ℕ)) (given ids : List ℕ) (tails : List (List ℕ)) (r : HasGathered old new reducers found given ids tails)
     (compare : Tree ℕ → Tree ℕ → Ordering) (q : ℕ) (coefs : List (List ℕ)) (s : Setting) (n : ℕ) (g : CanGather compare q old reducers coefs given s n) where
   element_later : (e : ℕ) (d : Reducer) (h : Element) → slice_get reducers e ≡ Some d → IsElementOf old d h → IsElementOf new d h
   element_later e d h f i = record {
@@ -69,24 +69,24 @@ module _ (old new : List (Tree ℕ)) (reducers : List Reducer) (found : List (Op
   hr : AreReducers new reducers
   hr = reducers_later old new reducers r.grows r.before
 
-  pub ready_over : AllOver s.arity n new ids
-  ready_over = r.gathered.over s.arity n (elements_over new reducers coefs s g.fit given_later) over_later
+  pub gathered_over : AllOver s.arity n new ids
+  gathered_over = r.gathered.over s.arity n (elements_over new reducers coefs s g.fit given_later) over_later
 
-  pub ready_arity : AreOfOneArity new ids
-  ready_arity = record {
+  pub gathered_arity : AreOfOneArity new ids
+  gathered_arity = record {
     arity = s.arity;
     leaves = n;
     few = g.few;
     held = r.gathered.held;
-    are = λ k d lt. ready_over k (get_or ids k d) (slice_get-get_or ids k d lt);
+    are = λ k d lt. gathered_over k (get_or ids k d) (slice_get-get_or ids k d lt);
   }
 
   module _ (order ranks : List ℕ) (rise : Rise compare (trees_at new ids order)) (are : AreRanks order ranks (length ids)) where
     rise_now : Rise s.compare (trees_at new ids order)
     rise_now = subst (λ (c : Tree ℕ → Tree ℕ → Ordering). Rise c (trees_at new ids order)) (sym g.compare_is) rise
 
-    pub ready_rules : CanRule q coefs found ids tails order ranks
-    ready_rules = subst (λ p. CanRule p coefs found ids tails order ranks) g.prime_is (can_rule new reducers coefs found given ids tails order ranks s n g.fit given_later hr r.dividers r.gathered over_later rise_now are)
+    pub gathered_rules : CanRule q coefs found ids tails order ranks
+    gathered_rules = subst (λ p. CanRule p coefs found ids tails order ranks) g.prime_is (can_rule new reducers coefs found given ids tails order ranks s n g.fit given_later hr r.dividers r.gathered over_later rise_now are)
 
-    pub ready_table : (rules : List (Option (List (ℕ × ℕ)))) → AreRules coefs found ids tails order ranks rules → (insertions : List (Option (Insertion s n))) × IsTableOver s n (trees_at new ids order) insertions rules
-    ready_table rules h = table_over new reducers coefs found given ids tails order ranks s n g.fit given_later hr r.dividers r.gathered over_later rise_now are rules h
+    pub gathered_table : (rules : List (Option (List (ℕ × ℕ)))) → AreRules coefs found ids tails order ranks rules → (insertions : List (Option (Insertion s n))) × IsTableOver s n (trees_at new ids order) insertions rules
+    gathered_table rules h = table_over new reducers coefs found given ids tails order ranks s n g.fit given_later hr r.dividers r.gathered over_later rise_now are rules h

@@ -3,16 +3,16 @@ use Rattle.std.proofs.Common.{List, ℕ}
 use Rattle.modular_sums.specs.Lists.{Distinct}
 use Rattle.order_blocks.specs.Sorting.{compare_by, trees_at, AreOfOneArity, Rise}
 use Rattle.division.specs.Ranks.{AreRanks}
-use Rattle.division.proofs.Coning.{distinct_places, IsReady, ready_arity, ready_over, ready_rules, ready_table}
+use Rattle.division.proofs.Coning.{distinct_places, HasGathered, gathered_arity, gathered_over, gathered_rules, gathered_table}
 use Rattle.division.proofs.cones.cone_of.Goals as goal
 
 pub sorted-requires-clause-trees : goal.sorted-requires-clause-trees
 sorted-requires-clause-trees g c =
     let f = c.requires.fit in
-    let ready : IsReady c.args.store.now c.gather.new.store c.args.reducers.now c.gather.new.found c.args.given c.gather.new.ids c.in-Ok.tails
+    let gathered : HasGathered c.args.store.now c.gather.new.store c.args.reducers.now c.gather.new.found c.args.given c.gather.new.ids c.in-Ok.tails
     = record { grows = c.gather.ensures.grows; before = c.requires.working.are_reducers; given_held = c.requires.held; dividers = c.gather.ensures.working.are_dividers; gathered = c.in-Ok.ensures.gathered } in
     subst (AreOfOneArity c.gather.new.store) (sym c.as_slice.ensures)
-    (ready_arity c.args.store.now c.gather.new.store c.args.reducers.now c.gather.new.found c.args.given c.gather.new.ids c.in-Ok.tails ready (compare_by g.O.TreeOrder.by_keys (g.O.TreeOrder.weights c.args.order.now)) (c.args.prime - 1) c.args.coefs.now f.0 f.1 f.2)
+    (gathered_arity c.args.store.now c.gather.new.store c.args.reducers.now c.gather.new.found c.args.given c.gather.new.ids c.in-Ok.tails gathered (compare_by g.O.TreeOrder.by_keys (g.O.TreeOrder.weights c.args.order.now)) (c.args.prime - 1) c.args.coefs.now f.0 f.1 f.2)
 
 pub sorted-requires-clause-distinct : goal.sorted-requires-clause-distinct
 sorted-requires-clause-distinct g c = subst Distinct (sym c.as_slice.ensures) (distinct_places c.gather.new.places c.gather.new.ids c.gather.ensures.places)
@@ -21,30 +21,30 @@ pub table_of-requires-clause-can : goal.table_of-requires-clause-can
 table_of-requires-clause-can g c =
     let f = c.requires.fit in
     let compare = compare_by g.O.TreeOrder.by_keys (g.O.TreeOrder.weights c.args.order.now) in
-    let ready : IsReady c.args.store.now c.gather.new.store c.args.reducers.now c.gather.new.found c.args.given c.gather.new.ids c.in-Ok.tails
+    let gathered : HasGathered c.args.store.now c.gather.new.store c.args.reducers.now c.gather.new.found c.args.given c.gather.new.ids c.in-Ok.tails
     = record { grows = c.gather.ensures.grows; before = c.requires.working.are_reducers; given_held = c.requires.held; dividers = c.gather.ensures.working.are_dividers; gathered = c.in-Ok.ensures.gathered } in
     let rise : Rise compare (trees_at c.gather.new.store c.gather.new.ids c.in_ok-sorting.sorting.items)
     = subst (λ (l : List ℕ). Rise compare (trees_at c.gather.new.store l c.in_ok-sorting.sorting.items)) c.as_slice.ensures c.in_ok-sorting.ensures.rising in
     let ranks : AreRanks c.in_ok-sorting.sorting.items c.in_ok-ranks.ranks.items (length c.gather.new.ids)
     = subst (λ (n : ℕ). AreRanks c.in_ok-sorting.sorting.items c.in_ok-ranks.ranks.items n) c.len-2.ensures (subst (λ (l : List ℕ). AreRanks l c.in_ok-ranks.ranks.items c.len-2.result) c.as_slice-2.ensures.value c.in_ok-ranks.ensures.ranks) in
     rw (c.as_slice-3.ensures, c.as_slice-4.ensures, c.as_slice-5.ensures, c.as_slice-6.ensures.value, c.as_slice-7.ensures.value)
-    (ready_rules c.args.store.now c.gather.new.store c.args.reducers.now c.gather.new.found c.args.given c.gather.new.ids c.in-Ok.tails ready compare (c.args.prime - 1) c.args.coefs.now f.0 f.1 f.2 c.in_ok-sorting.sorting.items c.in_ok-ranks.ranks.items rise ranks)
+    (gathered_rules c.args.store.now c.gather.new.store c.args.reducers.now c.gather.new.found c.args.given c.gather.new.ids c.in-Ok.tails gathered compare (c.args.prime - 1) c.args.coefs.now f.0 f.1 f.2 c.in_ok-sorting.sorting.items c.in_ok-ranks.ranks.items rise ranks)
 
 pub returns-clause-over : goal.returns-clause-over
 returns-clause-over g c = λ s n f.
     let compare = compare_by g.O.TreeOrder.by_keys (g.O.TreeOrder.weights c.args.order.now) in
-    let ready : IsReady c.args.store.now c.gather.new.store c.args.reducers.now c.gather.new.found c.args.given c.gather.new.ids c.in-Ok.tails
+    let gathered : HasGathered c.args.store.now c.gather.new.store c.args.reducers.now c.gather.new.found c.args.given c.gather.new.ids c.in-Ok.tails
     = record { grows = c.gather.ensures.grows; before = c.requires.working.are_reducers; given_held = c.requires.held; dividers = c.gather.ensures.working.are_dividers; gathered = c.in-Ok.ensures.gathered } in
     let rise : Rise compare (trees_at c.gather.new.store c.gather.new.ids c.in_ok-sorting.sorting.items)
     = subst (λ (l : List ℕ). Rise compare (trees_at c.gather.new.store l c.in_ok-sorting.sorting.items)) c.as_slice.ensures c.in_ok-sorting.ensures.rising in
     let ranks : AreRanks c.in_ok-sorting.sorting.items c.in_ok-ranks.ranks.items (length c.gather.new.ids)
     = subst (λ (n : ℕ). AreRanks c.in_ok-sorting.sorting.items c.in_ok-ranks.ranks.items n) c.len-2.ensures (subst (λ (l : List ℕ). AreRanks l c.in_ok-ranks.ranks.items c.len-2.result) c.as_slice-2.ensures.value c.in_ok-ranks.ensures.ranks) in
     let rules = rw (c.as_slice-3.ensures, c.as_slice-4.ensures, c.as_slice-5.ensures, c.as_slice-6.ensures.value, c.as_slice-7.ensures.value) at c.in_ok-table.ensures.rules in
-    let table = ready_table c.args.store.now c.gather.new.store c.args.reducers.now c.gather.new.found c.args.given c.gather.new.ids c.in-Ok.tails ready compare (c.args.prime - 1) c.args.coefs.now s n f c.in_ok-sorting.sorting.items c.in_ok-ranks.ranks.items rise ranks c.in_ok-table.table.rules rules in
+    let table = gathered_table c.args.store.now c.gather.new.store c.args.reducers.now c.gather.new.found c.args.given c.gather.new.ids c.in-Ok.tails gathered compare (c.args.prime - 1) c.args.coefs.now s n f c.in_ok-sorting.sorting.items c.in_ok-ranks.ranks.items rise ranks c.in_ok-table.table.rules rules in
     record {
       order = f.fit.order;
       prime = c.in_ok-table.ensures.prime ∙ sym f.prime_is;
-      over = ready_over c.args.store.now c.gather.new.store c.args.reducers.now c.gather.new.found c.args.given c.gather.new.ids c.in-Ok.tails ready compare (c.args.prime - 1) c.args.coefs.now s n f;
+      over = gathered_over c.args.store.now c.gather.new.store c.args.reducers.now c.gather.new.found c.args.given c.gather.new.ids c.in-Ok.tails gathered compare (c.args.prime - 1) c.args.coefs.now s n f;
       insertions = table.0;
       table = table.1;
     }
