@@ -14,7 +14,7 @@ use Rattle.labelled_trees.proofs.GraftLeaves.{graft_ext}
 use Rattle.labelled_trees.proofs.Grafts.{graft_leaf}
 use Rattle.labelled_trees.proofs.Leaves.{one_if-yes, one_if-no, by_leaf}
 use Rattle.labelled_trees.proofs.Counts.{only_within}
-use Rattle.operad_ideals.specs.Parts.{skew, free, Sign, minus, InOnePart}
+use Rattle.operad_ideals.specs.Parts.{symmetric, skew, free, Sign, plus, minus, InOnePart}
 use Rattle.operad_ideals.specs.Presentations.{Relation, Presentation, parts, arity_of, IsWide, IsSound, without_relations}
 use Rattle.operad_ideals.specs.Rules.{Rule, relation, symmetry}
 use Rattle.operad_ideals.specs.Ideals.{placed, Instance, element, InIdeal}
@@ -72,8 +72,27 @@ image_of_double = refl
 image_of_context : image commutator (two (leaf 0) (leaf 7)) ≡ (1, two (leaf 0) (leaf 7)) ∷ ((100, two (leaf 7) (leaf 0)) ∷ [])
 image_of_context = refl
 
-two_obligations : obligations lie ≡ swap 0 0 minus ∷ (rel 0 ∷ [])
+two_obligations : obligations lie ≡ swap 0 1 minus ∷ (rel 1 ∷ [])
 two_obligations = refl
+
+-- a skew bracket, an operation whose last three inputs may change places, and two relations, the first without terms
+abbrev mixed : Presentation
+mixed = record {
+  q = 100;
+  generators = (record { kind = skew; size = 2 } ∷ []) ∷ ((record { kind = free; size = 1 } ∷ (record { kind = symmetric; size = 3 } ∷ [])) ∷ []);
+  relations = record { arity = 3; terms = [] } ∷ (jacobi ∷ []);
+}
+
+mixed_obligations : obligations mixed ≡ swap 0 1 minus ∷ (swap 1 2 plus ∷ (swap 1 3 plus ∷ (rel 2 ∷ [])))
+mixed_obligations = refl
+
+-- the second input and the third in each other's place, and the second relation
+mixed_swap : obligation_terms mixed (swap 1 2 plus)
+    ≡ (1, node 1 (more (leaf 1) (more (leaf 2) (more (leaf 3) (more (leaf 4) none))))) ∷ ((100, node 1 (more (leaf 1) (more (leaf 3) (more (leaf 2) (more (leaf 4) none))))) ∷ [])
+mixed_swap = refl
+
+mixed_relation : obligation_terms mixed (rel 2) ≡ jacobi.terms
+mixed_relation = refl
 
 -- ---- labels
 
@@ -195,9 +214,9 @@ at_312 = renamed 3 1 2 (omega arith) (omega arith) (omega arith) (
 )
 
 -- p(1,2) - p(2,1) + p(2,1) - p(1,2) is zero
-swap_met : InIdeal pre_lie 2 (image_sum commutator (obligation_terms lie (swap 0 0 minus)))
+swap_met : InIdeal pre_lie 2 (image_sum commutator (obligation_terms lie (swap 0 1 minus)))
 unfolding ℕ_discrete tree_discrete tree_discrete_by row_discrete_by same_leaf same_node same_more coef scale expand
-swap_met = record { instances = []; adds_up = same_if_agree tree_discrete 100 (image_sum commutator (obligation_terms lie (swap 0 0 minus))) [] refl }
+swap_met = record { instances = []; adds_up = same_if_agree tree_discrete 100 (image_sum commutator (obligation_terms lie (swap 0 1 minus))) [] refl }
 
 -- the image of the Jacobi relation is a sum of three instances
 jacobi_met : InIdeal pre_lie 3 (image_sum commutator jacobi.terms)
@@ -240,12 +259,12 @@ zero_alone n e [] h = h
 zero_alone n e (i ∷ l) h = absurd (no_rule i.rule)
 
 -- p(1,2) + p(2,1) isn't zero
-not_met : Same tree_discrete 100 (image_sum product_alone (obligation_terms lie (swap 0 0 minus))) [] → ⊥
+not_met : Same tree_discrete 100 (image_sum product_alone (obligation_terms lie (swap 0 1 minus))) [] → ⊥
 unfolding ℕ_discrete tree_discrete tree_discrete_by row_discrete_by same_leaf same_node same_more coef scale expand
 not_met h = let k : 1 ≡ 0 = h (two (leaf 1) (leaf 2)) in absurd (omega (arith, k))
 
 product_unmet : AreMet lie magma product_alone → ⊥
-product_unmet met = let h = met (swap 0 0 minus) (inl refl) in not_met (zero_alone 2 (image_sum product_alone (obligation_terms lie (swap 0 0 minus))) h.instances h.adds_up)
+product_unmet met = let h = met (swap 0 1 minus) (inl refl) in not_met (zero_alone 2 (image_sum product_alone (obligation_terms lie (swap 0 1 minus))) h.instances h.adds_up)
 
 pub product_sends_not : SendsIdeal lie magma product_alone → ⊥
 product_sends_not sends = product_unmet ((morphism_law lie magma product_alone lie_sound magma_sound product_map).exactly.1 sends)

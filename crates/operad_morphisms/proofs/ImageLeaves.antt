@@ -6,18 +6,17 @@ use Rattle.modular_sums.specs.Sums.{AllTerms}
 use Rattle.modular_sums.proofs.Images.{AllTerms-imp}
 use Rattle.labelled_trees.specs.Trees.{Tree, Row, leaf, node, none, more, graft, graft_row, inputs, width}
 use Rattle.labelled_trees.specs.Leaves.{one_if, sum_leaves, sum_row, occurs}
-use Rattle.labelled_trees.specs.Labelled.{Fits, FitsRow, IsNumbered, IsLabelled}
+use Rattle.labelled_trees.specs.Labelled.{Fits, FitsRow, IsLabelled}
 use Rattle.labelled_trees.specs.Insertions.{item}
 use Rattle.labelled_trees.proofs.Fitting.{fits-graft}
 use Rattle.labelled_trees.proofs.GraftLeaves.{graft_row_ext, sum_leaves-graft, sum_row-graft}
-use Rattle.labelled_trees.proofs.Leaves.{AllLeaves-each, AllRow-imp, one_if-yes, one_if-no, at_row, sum_leaves-same}
+use Rattle.labelled_trees.proofs.Leaves.{AllLeaves-each, AllRow-imp, sum_leaves-same}
 use Rattle.labelled_trees.proofs.Numbered.{numbered_of_labelled, numbered_sums}
 use Rattle.operad_ideals.specs.Parts.{Part, total, parts_of}
 use Rattle.operad_ideals.specs.Presentations.{Presentation, arity_of}
 use Rattle.operad_ideals.specs.Rules.{numbered}
 use Rattle.operad_ideals.proofs.Corollas.{numbered-numbered}
 use Rattle.operad_ideals.proofs.Exchanged.{input_at, for_leaf, numbered-for_leaf, numbered_within}
-use Rattle.labelled_trees.specs.Leaves.{occurs_row}
 use Rattle.operad_morphisms.specs.Compositions.{choices}
 use Rattle.operad_morphisms.specs.Images.{image, image_row}
 use Rattle.operad_morphisms.specs.Maps.{IsMap}

@@ -1,11 +1,9 @@
 -- Images of sums: arities, sameness, and relabelling.
-use Rattle.std.proofs.Common.{◌≡◌, ℕ, zero, suc, ◌*◌, ◌%◌, ◌<◌, ◌≤◌, List, [], ◌∷◌, length, map, get_or, refl, sym, ap, ◌∙◌, arith, append_assoc}
+use Rattle.std.proofs.Common.{◌≡◌, ℕ, zero, suc, ◌*◌, ◌<◌, ◌≤◌, List, [], ◌∷◌, length, map, get_or, refl, sym, ap, ◌∙◌, arith}
 use mathlib.Core.List.{◌++◌}
 use mathlib.Core.Path.{ap₂}
-use Rattle.modular_sums.specs.Sums.{hit, scale, Same, expand, moved, AllTerms}
-use Rattle.modular_sums.proofs.Sums.{scale-scale}
-use Rattle.modular_sums.proofs.Images.{moved-append, moved-scale, same_sum}
-use Rattle.modular_sums.proofs.Replacements.{sum_over}
+use Rattle.modular_sums.specs.Sums.{scale, expand, moved, AllTerms}
+use Rattle.modular_sums.proofs.Images.{moved-append, moved-scale}
 use Rattle.labelled_trees.specs.Trees.{Tree, Row, leaf, node, none, more, graft, graft_row, map_tree}
 use Rattle.labelled_trees.specs.Equality.{tree_discrete}
 use Rattle.labelled_trees.specs.Labelled.{Fits, FitsRow, IsLabelled}
@@ -18,7 +16,7 @@ use Rattle.operad_morphisms.specs.Compositions.{product, choices}
 use Rattle.operad_morphisms.specs.Images.{image, image_row, image_sum}
 use Rattle.operad_morphisms.specs.Maps.{IsMap}
 use Rattle.operad_morphisms.specs.Laws.{ImagesOfLabelledTrees}
-use Rattle.modular_sums.proofs.Counted.{coef-count, count-expand, AllTerms-expand, expand-append, expand-scale, same-expand}
+use Rattle.modular_sums.proofs.Counted.{AllTerms-expand, expand-append, expand-scale, same-expand}
 use Rattle.operad_morphisms.proofs.ImageLeaves.{generator_terms, image_labelled}
 use Rattle.operad_morphisms.proofs.Composing.{length-image_row, always, choices-length}
 

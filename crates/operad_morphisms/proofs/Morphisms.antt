@@ -1,5 +1,5 @@
 -- A map that meets all obligations sends the ideal into the ideal, and conversely.
-use Rattle.std.proofs.Common.{◌≡◌, ℕ, zero, suc, ◌<◌, ◌≤◌, List, [], ◌∷◌, length, map, refl, sym, ap, ◌∙◌, subst, arith}
+use Rattle.std.proofs.Common.{◌≡◌, ℕ, zero, suc, ◌<◌, ◌≤◌, List, [], ◌∷◌, length, map, refl, sym, ◌∙◌, subst, arith}
 use Rattle.std.specs.Prelude.{flat_map}
 use Rattle.std.specs.List.{AllByRecursion}
 use native.Mathlib.Decide.{ℕ_discrete}
@@ -7,19 +7,19 @@ use Rattle.modular_sums.specs.Sums.{Same, expand, moved, AllTerms}
 use Rattle.modular_sums.proofs.Images.{moved_ext}
 use Rattle.modular_sums.proofs.Replacements.{sum_over, sum_over_ext, sum_over_swap}
 use Rattle.modular_sums.proofs.Links.{member_one}
-use Rattle.labelled_trees.specs.Trees.{Tree, leaf, node, graft, width}
+use Rattle.labelled_trees.specs.Trees.{Tree, leaf, graft}
 use Rattle.labelled_trees.specs.Contexts.{hole}
 use Rattle.labelled_trees.specs.Equality.{tree_discrete}
 use Rattle.labelled_trees.specs.Insertions.{IsContext, at_zero, put, item}
-use Rattle.labelled_trees.specs.Labelled.{Fits, FitsRow, IsLabelled}
-use Rattle.labelled_trees.specs.Leaves.{sum_leaves, AllLeaves, occurs, one_if}
+use Rattle.labelled_trees.specs.Labelled.{Fits, IsLabelled}
+use Rattle.labelled_trees.specs.Leaves.{sum_leaves, AllLeaves, one_if}
 use Rattle.labelled_trees.proofs.Fitting.{fits_of_graft, fits_parts, fits-graft}
 use Rattle.labelled_trees.proofs.GraftLeaves.{sum_leaves-graft}
 use Rattle.labelled_trees.proofs.Grafts.{graft_leaf}
 use Rattle.labelled_trees.proofs.Leaves.{AllLeaves-each, at_leaf, sum_leaves-same}
-use Rattle.labelled_trees.proofs.Numbered.{numbered_of_labelled, labelled_of_numbered, numbered_sums}
+use Rattle.labelled_trees.proofs.Numbered.{numbered_of_labelled, numbered_sums}
 use Rattle.operad_ideals.specs.Presentations.{Presentation, parts, arity_of, IsSound}
-use Rattle.operad_ideals.specs.Rules.{numbered, exchanged_at, Rule, relation, symmetry, rule_arity, rule_terms}
+use Rattle.operad_ideals.specs.Rules.{Rule, relation, symmetry, rule_arity, rule_terms}
 use Rattle.operad_ideals.specs.Ideals.{placed, Instance, element, InIdeal}
 use Rattle.operad_ideals.specs.HoleInstances.{HoleInstance, hole_element, InHoleIdeal}
 use Rattle.operad_ideals.proofs.ArityOne.{part_below}

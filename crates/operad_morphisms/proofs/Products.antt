@@ -1,5 +1,5 @@
 -- What products of sums, and choices among sums, count.
-use Rattle.std.proofs.Common.{◌≡◌, ℕ, ◌+◌, ◌*◌, List, [], ◌∷◌, map, refl, sym, ap, ◌∙◌, arith}
+use Rattle.std.proofs.Common.{◌≡◌, ℕ, ◌+◌, ◌*◌, List, [], ◌∷◌, map, refl, sym, ◌∙◌, arith}
 use mathlib.Core.Path.{ap₂}
 use Rattle.modular_sums.specs.Sums.{expand, AllTerms}
 use Rattle.modular_sums.proofs.Sums.{AllTerms-append}

@@ -1,5 +1,5 @@
 -- What holds of maps between operads.
-use Rattle.std.specs.Prelude.{ℕ, ◌≡◌, ◌↔◌, List, [], ◌++◌, ◌+◌, length, map, get_or, sum_by, count_by}
+use Rattle.std.specs.Prelude.{ℕ, ◌≡◌, ◌↔◌, List, [], ◌++◌, ◌+◌, ◌-◌, ◌<◌, length, map, sum_by, count_by}
 use Rattle.modular_sums.specs.Lists.{Mem}
 use Rattle.modular_sums.specs.Sums.{scale, Same, moved, AllTerms}
 use Rattle.labelled_trees.specs.Trees.{Tree, graft, map_tree}
@@ -13,7 +13,7 @@ use Rattle.operad_ideals.specs.Ideals.{InIdeal}
 use Rattle.operad_morphisms.specs.Compositions.{product, composed}
 use Rattle.operad_morphisms.specs.Images.{image, image_sum, composite, identity}
 use Rattle.operad_morphisms.specs.Maps.{IsMap, AreMet, SendsIdeal}
-use Rattle.operad_morphisms.specs.Obligations.{no_relation, Obligation, swap, rel, obligations, obligation_arity, obligation_terms, AreInOrder, swap_count, has_terms}
+use Rattle.operad_morphisms.specs.Obligations.{Obligation, relation_at, swap, rel, obligations, obligation_arity, obligation_terms, AreInOrder, swap_count, has_terms}
 
 -- The map is a morphism of free operads: it keeps composition.
 pub record CompositionLaw (from to : Presentation) (images : List (List (ℕ × Tree ℕ))) : Type 0 where
@@ -54,10 +54,11 @@ pub record MorphismLaw (from to : Presentation) (images : List (List (ℕ × Tre
 abbrev pub Morphism : Type 0
 Morphism = (from to : Presentation) (images : List (List (ℕ × Tree ℕ))) → IsSound from → IsSound to → IsMap from to images → MorphismLaw from to images
 
--- The obligations are the rules with terms, each once, in their order. A part that isn't free gives one less than it has inputs.
+-- The obligations are the rules with terms, each once, in their order. A part that isn't free gives one less than it has inputs. They
+-- count the inputs of a generator and the relations from 1; `InOnePart` counts inputs from 0.
 pub record ObligationLaw (p : Presentation) : Type 0 where
-  pub swaps : (g i : ℕ) (s : Sign) → Mem (swap g i s) (obligations p) ↔ InOnePart (parts p g) i s
-  pub rels : (k : ℕ) → Mem (rel k) (obligations p) ↔ ((get_or p.relations k no_relation).terms ≡ [] → ⊥)
+  pub swaps : (g i : ℕ) (s : Sign) → Mem (swap g i s) (obligations p) ↔ ((0 < i) × InOnePart (parts p g) (i - 1) s)
+  pub rels : (k : ℕ) → Mem (rel k) (obligations p) ↔ ((relation_at p.relations k).terms ≡ [] → ⊥)
   pub in_order : AreInOrder (obligations p)
   pub count : length (obligations p) ≡ sum_by (λ parts. sum_by (λ part. swap_count part.kind part.size) parts) p.generators + count_by (λ r. has_terms r.terms) p.relations
   pub each_rule : (rule : Rule p) → (rule_terms p rule ≡ [] → ⊥)

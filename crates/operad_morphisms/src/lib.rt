@@ -22,7 +22,7 @@ pub fn morphism()
 {}
 
 /// Law: the obligations are the symmetry rules, by generator and then by position, and then the relations with terms, by
-/// number; each stands there once, and nothing else does.
+/// number; each stands there once, and nothing else does. Generators are counted from 0, inputs and relations from 1.
 pub fn obligation_count()
     ensures law { ObligationCount }
 {}
