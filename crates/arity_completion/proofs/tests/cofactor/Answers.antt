@@ -1,4 +1,4 @@
-use Rattle.std.proofs.Common.{◌≡◌, ◌≤◌, ◌∷◌, [], Option, List, ℕ, sym, subst, arith}
+use Rattle.std.proofs.Common.{◌≡◌, ◌≤◌, ◌∷◌, [], ℕ, sym, subst, arith}
 use Rattle.std.specs.Prelude.{MatchOption, IfSome}
 use mathlib.Core.Path.{fun_ext}
 use Rattle.labelled_trees.specs.Trees.{Tree}
