@@ -1,10 +1,9 @@
 -- Lists of uses that add up.
-use Rattle.std.proofs.Common.{◌≡◌, ℕ, zero, suc, ◌+◌, ◌-◌, ◌*◌, ◌%◌, ◌<◌, List, [], ◌∷◌, ◌++◌, refl, sym, ap, ap₂, ◌∙◌, subst, arith}
-use Rattle.std.specs.List.{All, AllByRecursion}
+use Rattle.std.proofs.Common.{◌≡◌, ℕ, suc, ◌-◌, ◌*◌, ◌%◌, ◌<◌, List, [], ◌∷◌, ◌++◌, refl, sym, ap, ◌∙◌, arith}
 use Rattle.std.proofs.lemmas.List.Elements.{All-append, All-from_recursion, recursion_from_All}
 use Rattle.modular_sums.specs.Residues.{Alike}
 use Rattle.modular_sums.specs.Sums.{coef, scale, Same}
-use Rattle.modular_sums.proofs.Residues.{alike_add, alike_mul}
+use Rattle.modular_sums.proofs.Residues.{alike_mul}
 use Rattle.modular_sums.proofs.Sums.{coef-append, coef-scale}
 use Rattle.labelled_trees.specs.Trees.{Tree}
 use Rattle.labelled_trees.specs.Equality.{tree_discrete}
@@ -16,7 +15,7 @@ use Rattle.symmetric_sums.specs.declared.instance.Instance.{Instance}
 use Rattle.symmetric_sums.specs.Uses.{IsGoodUse, cited}
 use Rattle.logged_steps.specs.Standing.{StandsFor}
 use Rattle.logged_steps.specs.Uses.{UsesStandFor, total}
-use Rattle.logged_steps.proofs.Standing.{same-append, same-scale}
+use Rattle.logged_steps.proofs.Standing.{same-append}
 use Rattle.modular_sums.specs.Sums.{moved}
 use Rattle.arity_completion.specs.Uses.{AddUpTo}
 

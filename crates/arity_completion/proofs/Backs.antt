@@ -26,7 +26,7 @@ use Rattle.symmetric_trees.specs.Generators.{parts_at}
 use Rattle.symmetric_trees.specs.declared.generators.Generator.{Generator}
 use Rattle.symmetric_sums.specs.Collected.{IsCollected}
 use Rattle.symmetric_sums.specs.Membership.{presentation_of}
-use Rattle.symmetric_sums.specs.Terms.{FitsOver, HaveArity, HaveResidues, terms_of}
+use Rattle.symmetric_sums.specs.Terms.{HaveArity, HaveResidues, terms_of}
 use Rattle.symmetric_sums.specs.declared.term.Term.{Term}
 use Rattle.arity_completion.specs.Uses.{IsElementFor}
 

@@ -1,8 +1,6 @@
 -- Entries that are carried through a completion.
-use Rattle.std.proofs.Common.{◌≡◌, ℕ, zero, suc, ◌+◌, ◌<◌, ◌≤◌, List, [], ◌∷◌, ◌++◌, length, refl, sym, ap, ◌∙◌, subst, arith, length-append, ◌⊎◌, inl, inr}
+use Rattle.std.proofs.Common.{◌≡◌, ℕ, zero, suc, ◌+◌, ◌<◌, ◌≤◌, List, [], ◌∷◌, ◌++◌, length, refl, sym, ap, ◌∙◌, subst, arith, length-append}
 use Rattle.std.specs.Prelude.{slice_get, slice_index, Some}
-use native.Mathlib.Decide.{dec_lt}
-use Rattle.labelled_trees.specs.Trees.{Tree}
 use Rattle.operad_ideals.specs.Presentations.{Presentation}
 use Rattle.shuffle_bases.specs.Elements.{Element, terms}
 use Rattle.symmetric_sums.specs.Instances.{sum_at}

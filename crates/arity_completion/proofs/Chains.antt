@@ -1,6 +1,5 @@
 -- Chains, and what is kept of them.
-use Rattle.std.proofs.Common.{◌≡◌, ℕ, zero, suc, ◌+◌, ◌*◌, ◌-◌, ◌%◌, ◌<◌, List, [], ◌∷◌, ◌++◌, refl, sym, ap, ◌∙◌, subst, arith, append-nil, append_assoc}
-use Rattle.std.specs.List.{All}
+use Rattle.std.proofs.Common.{◌≡◌, ℕ, suc, ◌+◌, ◌*◌, ◌-◌, ◌%◌, List, [], ◌∷◌, ◌++◌, refl, sym, ap, ◌∙◌, arith, append-nil, append_assoc}
 use Rattle.std.proofs.lemmas.List.Elements.{All-nil}
 use Rattle.modular_sums.specs.Residues.{Alike}
 use Rattle.modular_sums.specs.Sums.{coef, scale, Same}
@@ -11,7 +10,6 @@ use Rattle.labelled_trees.specs.Equality.{tree_discrete}
 use Rattle.shuffle_bases.specs.Elements.{Setting, Insertion, value_of}
 use Rattle.shuffle_reductions.specs.Chains.{IsChain}
 use Rattle.symmetric_sums.specs.Membership.{presentation_of}
-use Rattle.symmetric_sums.specs.Terms.{terms_of}
 use Rattle.logged_steps.proofs.Kept.{kept_law}
 use Rattle.logged_steps.proofs.Standing.{same-append, same-scale}
 use Rattle.arity_completion.specs.Laws.{DifferencesAreKept, ReducedRowsAreKept}

@@ -1,5 +1,5 @@
 -- Entries that keep the rule.
-use Rattle.std.proofs.Common.{◌≡◌, ℕ, ◌<◌, List, ◌∙◌, arith}
+use Rattle.std.proofs.Common.{ℕ, ◌<◌, List, ◌∙◌, arith}
 use Rattle.labelled_trees.specs.Trees.{Tree}
 use Rattle.symmetric_trees.specs.declared.generators.Generator.{Generator}
 use Rattle.symmetric_sums.specs.declared.term.Term.{Term}

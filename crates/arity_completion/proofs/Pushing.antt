@@ -1,5 +1,5 @@
 -- One use more.
-use Rattle.std.proofs.Common.{◌≡◌, ℕ, zero, suc, ◌+◌, ◌<◌, List, [], ◌∷◌, ◌++◌, length, take, get_or, sym, ap, subst, arith}
+use Rattle.std.proofs.Common.{◌≡◌, ℕ, zero, suc, ◌+◌, ◌<◌, List, [], ◌∷◌, ◌++◌, length, take, get_or, subst, arith}
 use Rattle.symmetric_sums.specs.declared.instance.Instance.{Instance}
 use Rattle.arity_completion.specs.Uses.{AreUsesOf}
 

@@ -1,19 +1,18 @@
 -- Uses of the entries of a basis, for the steps of a reduction.
-use Rattle.std.proofs.Common.{◌≡◌, ℕ, zero, suc, ◌+◌, ◌-◌, ◌*◌, ◌%◌, ◌<◌, List, [], ◌∷◌, ◌++◌, length, map, refl, sym, ap, ap₂, ◌∙◌, subst, arith}
-use Rattle.std.specs.Prelude.{slice_index, slice_get, Some}
+use Rattle.std.proofs.Common.{◌≡◌, ℕ, suc, ◌*◌, ◌%◌, ◌<◌, List, [], ◌∷◌, ◌++◌, length, map, refl, sym, ap, ap₂, ◌∙◌, subst, arith}
+use Rattle.std.specs.Prelude.{slice_index}
 use Rattle.std.proofs.Math.ListN.{length-map}
 use Rattle.std.specs.declared.cmp.Ordering.{Ordering}
 use Rattle.modular_sums.specs.Residues.{Alike}
-use Rattle.modular_sums.specs.Sums.{coef, scale, Same, moved, AllTerms}
+use Rattle.modular_sums.specs.Sums.{coef, scale, Same, moved}
 use Rattle.modular_sums.proofs.Coefficients.{coef_absent, coef_first}
 use Rattle.modular_sums.proofs.Images.{AllTerms-imp}
-use Rattle.modular_sums.proofs.Residues.{alike_mul}
 use Rattle.modular_sums.proofs.Sums.{scale-scale}
-use Rattle.labelled_trees.specs.Trees.{Tree, leaf}
+use Rattle.labelled_trees.specs.Trees.{Tree}
 use Rattle.labelled_trees.specs.Equality.{tree_discrete}
 use Rattle.labelled_trees.specs.Meaning.{tree_of}
 use Rattle.operad_ideals.specs.Ideals.{placed}
-use Rattle.operad_ideals.specs.Presentations.{Presentation, arity_of}
+use Rattle.operad_ideals.specs.Presentations.{Presentation}
 use Rattle.shuffle_insertions.specs.Frames.{Frame}
 use Rattle.shuffle_insertions.specs.Orders.{IsTreeOrder}
 use Rattle.shuffle_insertions.specs.ShuffleTrees.{IsShuffleTree}
@@ -25,13 +24,11 @@ use Rattle.shuffle_normal_forms.proofs.Leading.{not_less, one_not_zero}
 use Rattle.shuffle_transfer.specs.Certified.{setting}
 use Rattle.shuffle_transfer.specs.Labels.{inputs_of, symmetric_tree}
 use Rattle.shuffle_transfer.specs.Transfer.{shuffled}
-use Rattle.symmetric_trees.specs.Trees.{IsLabelled}
 use Rattle.symmetric_trees.specs.declared.generators.Generator.{Generator}
 use Rattle.symmetric_sums.specs.Instances.{in_place, rule_element, sum_at}
 use Rattle.symmetric_sums.specs.Membership.{presentation_of}
 use Rattle.symmetric_sums.specs.declared.term.Term.{Term}
 use Rattle.symmetric_sums.specs.declared.instance.Rule.{Rule}
-use Rattle.symmetric_sums.specs.declared.instance.Rule.TheVariants.{Step}
 use Rattle.symmetric_sums.specs.declared.instance.Instance.{Instance}
 use Rattle.tree_store.specs.Stores.{tree_at}
 use Rattle.shuffle_sums.specs.Shelves.{Shelf}

@@ -1,5 +1,5 @@
 -- The uses of a row.
-use Rattle.std.proofs.Common.{◌≡◌, ℕ, ◌<◌, List, ◌++◌, subst}
+use Rattle.std.proofs.Common.{ℕ, ◌<◌, List, ◌++◌, subst}
 use Rattle.std.proofs.lemmas.List.Elements.{recursion_from_All}
 use Rattle.modular_sums.specs.Sums.{scale}
 use Rattle.symmetric_trees.specs.declared.generators.Generator.{Generator}

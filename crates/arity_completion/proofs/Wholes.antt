@@ -1,6 +1,6 @@
 -- Starts that leave each leaf where it is.
-use Rattle.std.proofs.Common.{◌≡◌, ℕ, suc, ◌%◌, ◌-◌, ◌<◌, ◌≤◌, List, [], ◌∷◌, refl, sym, ap, ap₂, ◌∙◌, subst}
-use Rattle.modular_sums.specs.Sums.{coef, Same, AllTerms}
+use Rattle.std.proofs.Common.{◌≡◌, ℕ, suc, ◌%◌, ◌-◌, ◌<◌, ◌≤◌, List, [], ◌∷◌, refl, ap, ap₂, ◌∙◌}
+use Rattle.modular_sums.specs.Sums.{coef, AllTerms}
 use Rattle.labelled_trees.specs.Trees.{Tree, leaf, graft}
 use Rattle.labelled_trees.specs.Equality.{tree_discrete}
 use Rattle.labelled_trees.specs.Labelled.{IsLabelled}

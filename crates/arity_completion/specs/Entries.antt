@@ -12,16 +12,14 @@ use Rattle.shuffle_transfer.specs.Certified.{setting}
 use Rattle.shuffle_transfer.specs.Labels.{inputs_of}
 use Rattle.symmetric_trees.specs.declared.generators.Generator.{Generator}
 use Rattle.symmetric_sums.specs.Membership.{presentation_of}
-use Rattle.symmetric_sums.specs.Terms.{terms_of}
 use Rattle.symmetric_sums.specs.declared.term.Term.{Term}
 use Rattle.shuffle_sums.specs.Shelves.{Shelf}
 use Rattle.division.specs.Cofactors.{AreOf}
 use Rattle.division.specs.declared.cofactor.Cofactor.{Cofactor}
 use Rattle.cofactor_log.specs.Entries.{IsKept}
 use Rattle.cofactor_log.specs.declared.entry.Entry.{Entry}
-use Rattle.logged_steps.specs.Standing.{StandsFor}
 use Rattle.arity_completion.specs.Trails.{IsStart, all_started, taken, AreEntriesOf}
-use Rattle.arity_completion.specs.Uses.{AddUpTo, IsElementFor, UsesAddUp}
+use Rattle.arity_completion.specs.Uses.{IsElementFor, UsesAddUp}
 use Rattle.arity_completion.specs.declared.uses.Start.{Start}
 
 -- The entry's element is that of the terms. Over each list of monic elements for which the entries with the numbers stand: where the

@@ -16,7 +16,6 @@ use Rattle.shuffle_transfer.specs.Certified.{setting}
 use Rattle.shuffle_transfer.specs.Labels.{inputs_of, symmetric_tree}
 use Rattle.shuffle_passage.specs.Passage.{over}
 use Rattle.symmetric_trees.specs.Generators.{parts_at}
-use Rattle.symmetric_trees.specs.Trees.{IsLabelled}
 use Rattle.symmetric_trees.specs.declared.generators.Generator.{Generator}
 use Rattle.symmetric_sums.specs.Collected.{IsReduced}
 use Rattle.symmetric_sums.specs.Membership.{presentation_of}

@@ -17,7 +17,8 @@ use shuffle_sums::Shelf;
 use shuffle_trees::STree;
 use std::alloc::{AllocError, Global};
 
-/// The entry for a sum of shuffle trees that is a residue times what a row is after the steps of a reduction.
+/// The entry for a sum of shuffle trees that is a residue times what a row is after the steps of a reduction: its element is the
+/// symmetric one of the terms, and its uses are those of `uses_of`.
 /// `AllocError` comes for want of memory alone.
 pub fn entry_for(
     alloc: Global,

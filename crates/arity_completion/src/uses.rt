@@ -103,7 +103,8 @@ fn step_uses(
 }
 
 /// A residue times what a row is after the steps of a reduction, as uses: of the relations and entries where it starts, and
-/// for each cofactor of the entry of its element. `AllocError` comes for want of memory alone.
+/// for each cofactor of the entry of its element; `entries` has the number of the entry of each element. The cofactors' hosts
+/// stand in the shelf. `AllocError` comes for want of memory alone.
 pub fn uses_of(
     alloc: Global,
     log: &Log,

@@ -18,7 +18,7 @@ use Rattle.division.specs.declared.reducer.Reducer.{Reducer}
 use Rattle.division.specs.Insertions.{Grows}
 use Rattle.division.specs.Dividers.{IsFirstDivider, AreReducers, AreGroups, AreDividers, FoundGrows}
 use Rattle.division.specs.KeptTails.{AreKept}
-use Rattle.division.specs.Gathered.{IsStepOf, IsGatheredAt, AllOver, AreGathered, AreOver, ArePlaces, Came, IsUndivided, Longer, StandAt, SamePlaces, IsWorking}
+use Rattle.division.specs.Gathered.{IsStepOf, IsGatheredAt, AllOver, AreGathered, AreOver, ArePlaces, Came, Longer, StandAt, SamePlaces, IsWorking}
 use Rattle.division.proofs.KeptLists.{entry_pushed, entry_stays, set_here, entry_set}
 use Rattle.division.proofs.MadeTrees.{grows_same, grows_both, grown_tree, grows_length}
 use Rattle.division.proofs.TailSteps.{told_later, inserted_later, reducers_later, dividers_later}

@@ -76,7 +76,8 @@ pub fn meet(
     }
 }
 
-/// The places of the ids of a tail in the list, where they stand from now on.
+/// The places of the ids of a tail in the list, where they stand from now on. The errors are those of `meet`; the list may have
+/// grown then.
 pub fn meet_all(
     alloc: Global,
     places: &mut Items<Option<u32>>,
@@ -101,7 +102,9 @@ pub fn meet_all(
     Ok(found)
 }
 
-/// One step from the tree with this id: the ids of its tail, none where no element divides it.
+/// One step from the tree with this id: the ids of its tail, none where no element divides it. `parts` is room for the parts of
+/// a tree; its contents don't matter. An error comes for want of room in the store, or of memory; what was found and kept is
+/// right, also then.
 pub fn step(
     store: &mut Store,
     alloc: Global,

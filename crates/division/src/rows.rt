@@ -119,7 +119,8 @@ fn fill_row(placed: &[Term], row: &mut [u64])
 
 /// The rest, at positions, of a sum of ids that have places in the cone, by a row of zeros with an entry for each position, which is
 /// 0 afterwards unless memory runs out. Steps are counted, and logged behind the others where `keep` is true: a residue and the
-/// position of the host. `Spent` comes where a step would pass the bound, with what the row is then.
+/// position of the host. `Spent` comes where a step would pass the bound, with what the row is then, `NoMemory` for want of
+/// memory alone.
 pub fn sweep_row(
     alloc: Global,
     cone: &Cone,
@@ -151,7 +152,7 @@ pub fn sweep_row(
     }
 }
 
-/// The rest of a sum of ids that have places in the cone, as `sweep_row` has it at positions.
+/// The rest, as a sum of ids, of a sum of ids that have places in the cone: what `sweep_row` has at positions, with its errors.
 pub fn reduce_row(
     alloc: Global,
     cone: &Cone,

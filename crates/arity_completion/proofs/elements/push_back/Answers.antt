@@ -1,9 +1,8 @@
-use Rattle.std.proofs.Common.{◌≡◌, ◌∙◌, ◌++◌, ◌∷◌, [], Err, ap, subst, sym, ℕ, List}
+use Rattle.std.proofs.Common.{◌∙◌, ◌++◌, ◌∷◌, [], Err, ap, subst, sym, ℕ}
 use Rattle.labelled_trees.specs.Labelled.{Fits}
 use Rattle.labelled_trees.specs.Meaning.{tree_of}
 use Rattle.labelled_trees.specs.Trees.{Tree}
 use Rattle.labelled_trees.proofs.Numbered.{numbered_of_labelled}
-use Rattle.shuffle_insertions.specs.ShuffleTrees.{IsShuffleTree}
 use Rattle.shuffle_transfer.specs.Labels.{inputs_of, symmetric_tree}
 use Rattle.shuffle_passage.specs.Passage.{over}
 use Rattle.std.proofs.lemmas.List.{map-append}

@@ -1,11 +1,11 @@
-use Rattle.std.proofs.Common.{◌≡◌, ◌∙◌, ap, subst, sym, ℕ, ◌<◌, arith, List, take}
+use Rattle.std.proofs.Common.{◌∙◌, ap, subst, sym, ℕ, ◌<◌, arith, take}
 use Rattle.std.specs.List.{All}
 use Rattle.labelled_trees.specs.Trees.{Tree}
 use Rattle.labelled_trees.specs.Meaning.{tree_of}
 use Rattle.symmetric_trees.specs.Trees.{Fits}
 use Rattle.symmetric_sums.specs.Terms.{HaveResidues, terms_of}
 use Rattle.symmetric_sums.specs.declared.term.Term.{Term}
-use Rattle.modular_sums.specs.Sums.{AllTerms, moved}
+use Rattle.modular_sums.specs.Sums.{moved}
 use Rattle.shuffle_insertions.specs.ShuffleTrees.{IsShuffleTree}
 use Rattle.shuffle_transfer.specs.Labels.{inputs_of, symmetric_tree}
 use Rattle.shuffle_passage.specs.Passage.{over}

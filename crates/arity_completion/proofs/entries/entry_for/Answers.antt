@@ -1,4 +1,3 @@
-use Rattle.std.proofs.Common.{◌≡◌, ◌∙◌, ◌<◌, arith}
 use Rattle.cofactor_log.specs.Entries.{elements_of}
 use Rattle.arity_completion.proofs.KeptEntries.{entry_law}
 use Rattle.arity_completion.proofs.entries.entry_for.Goals as goal

@@ -1,4 +1,4 @@
-use Rattle.std.proofs.Common.{◌≡◌, ◌∷◌, [], ◌++◌, refl, sym, subst, ap, ◌∙◌, take, ◌+◌, map, ℕ, List}
+use Rattle.std.proofs.Common.{refl, sym, subst, ap, ◌∙◌, take, ◌+◌, map}
 use Rattle.labelled_trees.specs.Trees.{leaf}
 use Rattle.labelled_trees.specs.declared.Tree.TheVariants.{Leaf}
 use Rattle.labelled_trees.proofs.ProgramTrees.{tree_of-leaf}

@@ -1,14 +1,12 @@
-use Rattle.std.proofs.Common.{rules, ◌≡◌, ◌∙◌, ◌*◌, ◌-◌, ◌<◌, ap, refl, sym, subst, map}
+use Rattle.std.proofs.Common.{◌∙◌, ◌*◌, ◌-◌, ◌<◌, ap, refl, sym, subst, map}
 use Rattle.std.specs.List.{All}
 use Rattle.modular_sums.specs.Residues.{Alike}
 use Rattle.labelled_trees.specs.Labelled.{Fits}
-use Rattle.labelled_trees.specs.Meaning.{tree_of}
 use Rattle.shuffle_insertions.specs.Frames.{Frame}
 use Rattle.shuffle_transfer.specs.Labels.{inputs_of, symmetric_tree}
 use Rattle.shuffle_passage.specs.Passage.{over}
 use Rattle.shuffle_places.specs.Places.{frame_at}
 use Rattle.tree_store.specs.Stores.{tree_at}
-use Rattle.symmetric_trees.specs.declared.generators.Generator.{Generator}
 use Rattle.arity_completion.proofs.FrameFits.{frames_fit}
 use Rattle.arity_completion.proofs.Hosts.{host_tree, step_number}
 use Rattle.arity_completion.proofs.uses.step_use.Goals as goal

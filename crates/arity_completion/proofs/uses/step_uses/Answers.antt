@@ -1,4 +1,4 @@
-use Rattle.std.proofs.Common.{◌≡◌, ◌∷◌, [], ◌++◌, refl, sym, subst, take, ◌+◌}
+use Rattle.std.proofs.Common.{sym, subst, take, ◌+◌}
 use Rattle.arity_completion.specs.Uses.{AreUsesOf, IsStepUse}
 use Rattle.arity_completion.proofs.Pushing.{uses_push}
 use Rattle.arity_completion.proofs.uses.step_uses.Goals as goal

@@ -1,6 +1,4 @@
-use Rattle.std.proofs.Common.{rules, sym, subst}
-use Rattle.cofactor_log.specs.Entries.{elements_of}
-use Rattle.arity_completion.specs.Uses.{UsesAddUp}
+use Rattle.std.proofs.Common.{rules}
 use Rattle.arity_completion.proofs.Ups.{uses_add_up}
 use Rattle.arity_completion.proofs.uses.uses_of.Goals as goal
 

@@ -1,7 +1,6 @@
 use Rattle.std.proofs.Common.{◌≡◌, ◌<◌, ◌≤◌, ◌∙◌, List, ℕ, length, map, refl, ap, sym, subst, arith}
-use native.Mathlib.Decide.{ℕ_discrete}
 use Rattle.labelled_trees.specs.Trees.{Tree, node, row, graft}
-use Rattle.labelled_trees.specs.Leaves.{occurs, occurs_row, one_if}
+use Rattle.labelled_trees.specs.Leaves.{occurs, occurs_row}
 use Rattle.tree_store.specs.Stores.{tree_at, IsStore}
 use Rattle.tree_store.proofs.Counts.{held_valid}
 use Rattle.division.specs.Parts.{part_at}

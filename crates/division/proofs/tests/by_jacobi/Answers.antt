@@ -1,5 +1,3 @@
-use Rattle.std.proofs.Common.{ap}
-use Rattle.division.specs.Gathered.{IsWorking}
 use Rattle.division.proofs.TestElements.{one_working}
 use Rattle.division.proofs.tests.by_jacobi.Goals as goal
 

@@ -1,4 +1,4 @@
-use Rattle.std.proofs.Common.{subst, List, ℕ, []}
+use Rattle.std.proofs.Common.{subst, []}
 use Rattle.order_blocks.specs.Sorting.{compare_by}
 use Rattle.division.specs.Gathered.{Came}
 use Rattle.division.proofs.TestElements.{nothing_given}
