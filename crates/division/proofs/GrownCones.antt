@@ -11,12 +11,12 @@ use Rattle.shuffle_reductions.specs.TableGrowth.{AreValid}
 use Rattle.shuffle_reductions.proofs.GrownTables.{tables_grow_lem}
 use Rattle.row_sweeps.specs.Rules.{Rules}
 use Rattle.division.specs.Cones.{trees_of, IsCone}
-use Rattle.division.specs.Growing.{with_one, Grows}
+use Rattle.division.specs.Growing.{with_one, GrowsByElement}
 use Rattle.division.specs.declared.cones.Cone.{Cone}
 use Rattle.division.proofs.Rowing.{order_length, place_of_position}
 
 pub cone_grows : (given : List ℕ) (old : Cone) (table : Rules) (at : ℕ) (tail : List (ℕ × ℕ)) → IsCone given old → at < length old.ids → table.rules ≡ set old.table.rules at (Some tail) → table.q ≡ old.table.q
-    → Grows old (record old { table = table }) at tail
+    → GrowsByElement old (record old { table = table }) at tail
 cone_grows given old table at tail c lt rules prime s n trees h monic g more element =
     let size : length (trees_of trees old) ≡ length old.ids = length-map old.order.items (λ p. tree_at trees (get_or old.ids p 0)) ∙ order_length given old c in
     let valid : AreValid s n (trees_of trees old) = λ k low.

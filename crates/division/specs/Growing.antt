@@ -12,6 +12,6 @@ abbrev pub with_one : Setting → Element → Setting
 with_one s g = with_elements s (s.elements ++ (g ∷ []))
 
 -- Over each setting for which the cone was, it is one for the setting with an element more, whose lead is the tree of the position and whose tail this is.
-abbrev pub Grows : Cone → Cone → ℕ → List (ℕ × ℕ) → Type 0
-Grows old new at tail = (s : Setting) (n : ℕ) (trees : List (Tree ℕ)) → IsConeOver s n trees old → AreMonic s
+abbrev pub GrowsByElement : Cone → Cone → ℕ → List (ℕ × ℕ) → Type 0
+GrowsByElement old new at tail = (s : Setting) (n : ℕ) (trees : List (Tree ℕ)) → IsConeOver s n trees old → AreMonic s
     → (g : Element) → AreMonic (with_one s g) → IsElementOf s n (trees_of trees old) at tail g → IsConeOver (with_one s g) n trees new

@@ -2,7 +2,7 @@ ghost use Rattle.std.specs.Prelude.{◌≡◌, ◌<◌, ℕ, List, length, OnOk,
 ghost use Rattle.modular_sums.specs.RuleTables.{IsTail};
 ghost use Rattle.row_sweeps.specs.Terms.{pairs};
 ghost use Rattle.division.specs.Cones.{IsCone};
-ghost use Rattle.division.specs.Growing.{Grows};
+ghost use Rattle.division.specs.Growing.{GrowsByElement};
 
 use crate::Cone;
 use row_sweeps::Term;
@@ -19,7 +19,7 @@ pub fn add_element(
     requires cone { (given : List ℕ) × IsCone given cone.old }
     requires position { position < length cone.old.ids }
     requires tail { IsTail cone.old.table.q position (pairs tail.now) }
-    ensures grown { OnOk result (Grows cone.old cone.new position (pairs tail.now)) }
+    ensures grown { OnOk result (GrowsByElement cone.old cone.new position (pairs tail.now)) }
     ensures cone { (given : List ℕ) → IsCone given cone.old → IsCone given cone.new }
     ensures unchanged { OnErr result (cone.new.table.rules ≡ cone.old.table.rules) }
 {
