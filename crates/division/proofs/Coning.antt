@@ -14,7 +14,7 @@ use Rattle.division.specs.Gathered.{AreGathered, AllOver, ArePlaces}
 use Rattle.division.specs.Laws.{IsElementOf}
 use Rattle.division.proofs.MadeTrees.{grown_tree, grown_ids}
 use Rattle.division.proofs.TailSteps.{reducers_later}
-use Rattle.order_blocks.specs.Sorting.{trees_at, AreOfOneArity, Rise}
+use Rattle.shuffle_sums.specs.Sorting.{trees_at, AreOfOneArity, Rise}
 use Rattle.shuffle_reductions.specs.Swept.{IsTableOver}
 use Rattle.division.specs.Given.{AreGiven}
 use Rattle.division.specs.Ranks.{AreRanks, AreRules, CanRule}

@@ -34,8 +34,8 @@ use Rattle.division.specs.Dividers.{AreReducers, AreDividers}
 use Rattle.division.specs.Gathered.{AreGathered, AreOver, AllOver, IsGatheredAt, StandAt}
 use Rattle.division.specs.Laws.{trees_in, AreElementsOf}
 use Rattle.division.proofs.Elements.{free_told}
-use Rattle.order_blocks.specs.Sorting.{trees_at, Rise}
-use Rattle.order_blocks.proofs.RisingBlocks.{position_within}
+use Rattle.shuffle_sums.specs.Sorting.{trees_at, Rise}
+use Rattle.shuffle_sums.proofs.RisingBlocks.{position_within}
 use Rattle.shuffle_reductions.specs.Swept.{tree_in, IsRuleOf, IsTableOver}
 use Rattle.division.specs.Given.{numbers_in, AreGiven, IsFit}
 use Rattle.division.specs.Ranks.{tail_at, AreRanks, AreRules, CanRule}

@@ -9,7 +9,7 @@ use Rattle.std.proofs.lemmas.Grind.{get_or-set_at}
 use Rattle.division.proofs.LaidParts.{get_or_any}
 use Rattle.std.proofs.lemmas.List.FromFn.{length-range_with_len, get_or-range_with_len}
 use Rattle.std.proofs.lemmas.List.Sorted.{length_permutation, Contains-permutation}
-use Rattle.order_blocks.proofs.RisingBlocks.{position_within, two_positions}
+use Rattle.shuffle_sums.proofs.RisingBlocks.{position_within, two_positions}
 use Rattle.division.specs.Ranks.{AreRanks}
 
 -- what holds after so many positions

@@ -12,7 +12,7 @@ use Rattle.std.proofs.lemmas.Grind.{get_or-set_at}
 use Rattle.std.proofs.Math.ListN.{length-map}
 use Rattle.std.proofs.lemmas.List.FromFn.{length-range_with_len}
 use Rattle.std.proofs.lemmas.List.Sorted.{length_permutation}
-use Rattle.order_blocks.proofs.RisingBlocks.{position_within}
+use Rattle.shuffle_sums.proofs.RisingBlocks.{position_within}
 use Rattle.modular_sums.specs.Sums.{hit, AllTerms, Same, coef, moved}
 use Rattle.modular_sums.proofs.Sums.{AllTerms-append, coef-append, hit-yes, hit-no}
 use Rattle.modular_sums.proofs.Images.{moved-append, moved-moved, moved_eq}

@@ -10,7 +10,7 @@ use Rattle.std.proofs.Math.Seq.{get_or-append_seam}
 use Rattle.std.specs.List.{All, range_with_len, zip}
 use Rattle.std.proofs.lemmas.List.FromFn.{length-range_with_len}
 use Rattle.std.proofs.lemmas.List.Sorted.{length_permutation}
-use Rattle.order_blocks.proofs.RisingBlocks.{position_within}
+use Rattle.shuffle_sums.proofs.RisingBlocks.{position_within}
 use Rattle.modular_sums.specs.RuleTables.{Table, IsTail}
 use Rattle.row_sweeps.specs.Rules.{Rules, unruled}
 use Rattle.row_sweeps.proofs.KeptRules.{range_grown, range_last}

@@ -10,7 +10,7 @@ use Rattle.labelled_trees.specs.Trees.{Tree, Row, node}
 use Rattle.shuffle_insertions.specs.Orders.{IsTreeOrder}
 use Rattle.shuffle_insertions.specs.ShuffleTrees.{IsShuffleTree}
 use Rattle.shuffle_bases.specs.Elements.{Setting}
-use Rattle.order_blocks.specs.Sorting.{AreOfOneArity}
+use Rattle.shuffle_sums.specs.Sorting.{AreOfOneArity}
 use Rattle.tree_store.specs.Stores.{tree_at, HasLabel, IsStore}
 use Rattle.division.specs.declared.reducer.Reducer.{Reducer}
 use Rattle.division.specs.Cones.{CanGather}

@@ -6,7 +6,7 @@ use Rattle.shuffle_insertions.specs.Orders.{IsTreeOrder}
 use Rattle.shuffle_bases.specs.Elements.{Setting, Insertion}
 use Rattle.division.specs.declared.reducer.Reducer.{Reducer}
 use Rattle.division.specs.Gathered.{AllOver, ArePlaces, Longer}
-use Rattle.order_blocks.specs.Sorting.{trees_at}
+use Rattle.shuffle_sums.specs.Sorting.{trees_at}
 use Rattle.shuffle_reductions.specs.Swept.{IsTableOver}
 use Rattle.division.specs.Given.{AreGiven, IsFit}
 use Rattle.division.specs.Ranks.{AreRanks}

@@ -4,14 +4,15 @@ ghost use Rattle.shuffle_bases.specs.Elements.{Setting};
 ghost use Rattle.division.specs.Insertions.{Grows};
 ghost use Rattle.division.specs.Dividers.{FoundGrows, HaveRoom};
 ghost use Rattle.division.specs.Gathered.{ArePlaces, IsWorking};
-ghost use Rattle.order_blocks.specs.Sorting.{compare_by};
+ghost use Rattle.shuffle_sums.specs.Sorting.{compare_by};
 ghost use Rattle.division.specs.Cones.{CanGather, IsCone, IsConeOver};
 
 use crate::ranks::ranks_of;
 use crate::rules::table_of;
 use crate::{Reducer, gather};
-use order_blocks::{BlockOrder, sorted};
+use path_orders::TreeOrder;
 use row_sweeps::RuleTable;
+use shuffle_sums::sorted;
 use sqlite_items::Items;
 use std::alloc::{AllocError, Global};
 use tree_store::{Store, TreeId};
@@ -32,7 +33,7 @@ pub struct Cone {
 /// Gathers what steps can reach from the given ids, sorts it, and gives each position the rule of its insertion. The elements are
 /// given as ids, by groups and with the coefficients of their tails; `found`, `kept` and `parts` are as for `gather`, and `places`
 /// has the places of the given ids. `AllocError` comes for want of memory, or of room for more than 2^30 trees.
-pub fn cone_of<O: BlockOrder>(
+pub fn cone_of<O: TreeOrder>(
     alloc: Global,
     store: &mut Store,
     order: &O,

@@ -1,7 +1,7 @@
 ghost use Rattle.std.specs.Prelude.{◌≡◌, ◌<◌, ℕ, List, [], length, IfOk, OnOk};
 ghost use Rattle.shuffle_insertions.specs.ShuffleTrees.{IsShuffle};
 ghost use Rattle.tree_store.specs.Stores.{tree_at, HasLabel, IsStore};
-ghost use Rattle.order_blocks.specs.Sorting.{AreOfOneArity};
+ghost use Rattle.shuffle_sums.specs.Sorting.{AreOfOneArity};
 ghost use Rattle.division.specs.Cones.{IsCone};
 ghost use Rattle.division.specs.Dividers.{HaveRoom};
 ghost use Rattle.division.specs.Gathered.{IsWorking};
@@ -11,10 +11,9 @@ use crate::{
     Basis, Cone, Reducer, RowFail, add_element, cone_of, divides_root, gather, insert_at_root,
     meet, meet_all, reduce_row, step,
 };
-use order_blocks::{BlockOrder, put_all};
-use path_orders::Path;
+use path_orders::{Path, TreeOrder};
 use row_sweeps::{Steps, Term};
-use shuffle_sums::{SSum, Term as IdTerm};
+use shuffle_sums::{SSum, Term as IdTerm, put_all};
 use shuffle_trees::{Labels, STree, Shape, all_trees};
 use sqlite_items::Items;
 use std::alloc::{AllocError, Global};
@@ -226,7 +225,7 @@ fn listing(alloc: Global, store: &mut Store) -> Result<Vec<TreeId>, Fail>
 }
 
 // Their cone, without elements.
-fn free_cone<O: BlockOrder>(alloc: Global, store: &mut Store, order: &O) -> Result<Cone, Fail>
+fn free_cone<O: TreeOrder>(alloc: Global, store: &mut Store, order: &O) -> Result<Cone, Fail>
     ensures cone { IfOk result (λ cone. (given : List ℕ) × IsCone given cone) }
     ensures prime { IfOk result (λ cone. cone.table.q ≡ 100) }
 {

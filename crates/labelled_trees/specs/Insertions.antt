@@ -1,6 +1,7 @@
 -- Contexts and insertion, with plain trees and lists.
 use Rattle.std.specs.Prelude.{ℕ, ◌≡◌, List, [], ◌∷◌}
 use Rattle.std.proofs.Common.{zero, suc}
+use Rattle.modular_sums.specs.Lists.{nth_or}
 use Rattle.labelled_trees.specs.Trees.{Tree, leaf, graft}
 use Rattle.labelled_trees.specs.Leaves.{occurs}
 
@@ -19,10 +20,7 @@ put context x = graft context (at_zero x)
 
 -- the i-th tree of a list, counted from 1; leaf 0 where there is none
 abbrev pub item : List (Tree ℕ) → ℕ → Tree ℕ
-item [] i = leaf 0
-item (t ∷ ts) zero = leaf 0
-item (t ∷ ts) (suc zero) = t
-item (t ∷ ts) (suc (suc i)) = item ts (suc i)
+item ts i = nth_or (leaf 0) ts i
 
 -- the list of s (a + 1) to s (a + k)
 abbrev pub listed : {A : Type 0} → (ℕ → A) → ℕ → ℕ → List A

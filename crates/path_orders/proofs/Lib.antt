@@ -1,3 +1,5 @@
+pub mod Alike
+pub mod JoinedLists
 pub mod LeafWords
 pub mod Seen
 pub mod WeightSums

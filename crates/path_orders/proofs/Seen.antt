@@ -9,7 +9,7 @@ use Rattle.shuffle_insertions.specs.Keys.{Key, words_below}
 use Rattle.shuffle_trees.specs.Walks.{words}
 use Rattle.shuffle_trees.proofs.Counts.{few_leaves, within_of_shuffle}
 use Rattle.shuffle_trees.proofs.Walking.{words_end}
-use Rattle.path_orders.specs.Laws.{KeysAreSeen}
+use Rattle.path_orders.specs.Laws.{FlatKeysAreSeen, KeysAreSeen}
 use Rattle.path_orders.proofs.WeightSums.{weight-labels}
 use Rattle.path_orders.proofs.WordLists.{length-leaves}
 
@@ -26,3 +26,6 @@ seen weights n t k v h same_words same_row same_labels =
     let within : AllLeaves t (λ i. i ≤ length (leaves t)) = subst (λ m. AllLeaves t (λ i. i ≤ m)) (sym many) (within_of_shuffle n t h) in
     let spelled : words t ≡ words_below (suc (length (leaves t))) t = sym (words_end (length (leaves t)) t within (omega (arith, many, few))) in
     same_keyed (same_words ∙ spelled) same_row (ap (sum_by weights) same_labels ∙ weight-labels weights t)
+
+pub flat_seen : FlatKeysAreSeen
+flat_seen weights t k same_words same_row same_labels = same_keyed same_words same_row (ap (sum_by weights) same_labels ∙ weight-labels weights t)

@@ -1,4 +1,5 @@
 pub mod Comparing
+pub mod Joined
 pub mod Laws
 pub mod SeenKeys
 pub mod WordSteps

@@ -1,5 +1,5 @@
-use crate::{LeafPath, Path, PathShort, TreeOrder, WeightPath};
-use shuffle_trees::{Key, Labels, STree, Shape};
+use crate::{Blocks, LeafPath, Path, PathShort, TreeOrder, WeightPath};
+use shuffle_trees::{FlatKey, FlatWord, Key, Labels, STree, Shape};
 use sqlite_items::Items;
 use std::alloc::Global;
 use std::cmp::Ordering;
@@ -109,5 +109,36 @@ fn orders_by_weight(rt: HostRuntime) -> Result<(), Fail> {
     assert!(rt; is_above(alloc, &order, &labels, "a(1,b(2,3))", "a(a(1,2),3)")?);
     assert!(rt; is_above(alloc, &order, &labels, "a(1,2)", "c(1,2)")?);
     assert!(rt; is_above(alloc, &order, &labels, "a(b(1,2),3)", "a(1,b(2,3))")?);
+    Ok(())
+}
+
+// The flat key of b(a(1,3),2), where a is label 0 and b is label 1.
+fn flat_key() -> FlatKey {
+    let mut key = FlatKey::new();
+    key.put_vertex(1);
+    let outer = FlatWord::empty().with(1);
+    key.put_vertex(0);
+    let inner = outer.with(0);
+    key.put_leaf(1, inner);
+    key.put_leaf(3, inner);
+    key.put_leaf(2, outer);
+    key
+}
+
+#[test]
+fn writes_blocks(rt: HostRuntime) -> Result<(), Fail> {
+    let alloc = rt.alloc();
+    let mut blocks = Blocks::new(alloc);
+    let key = flat_key();
+    let order = WeightPath::new(Items::from_slice(alloc, &[65536, 4])?);
+    Path {}.write_block(&key, &mut blocks)?;
+    PathShort {}.write_block(&key, &mut blocks)?;
+    LeafPath {}.write_block(&key, &mut blocks)?;
+    order.write_block(&key, &mut blocks)?;
+    assert_eq!(rt; blocks.len(), 4);
+    assert!(rt; blocks.get(0) == [2, 1, 0, 1, 1, 2, 1, 0, 1, 3, 2].as_slice());
+    assert!(rt; blocks.get(1) == [65533, 1, 0, 65534, 1, 65533, 1, 0, 1, 3, 2].as_slice());
+    assert!(rt; blocks.get(2) == [1, 3, 2, 2, 1, 0, 1, 1, 2, 1, 0].as_slice());
+    assert!(rt; blocks.get(3) == [0, 0, 1, 4, 2, 1, 0, 1, 1, 2, 1, 0, 1, 3, 2].as_slice());
     Ok(())
 }

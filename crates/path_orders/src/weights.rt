@@ -1,4 +1,4 @@
-ghost use Rattle.std.specs.Prelude.{◌≡◌, ◌<◌, ◌^◌, length};
+ghost use Rattle.std.specs.Prelude.{◌≡◌, ◌<◌, ◌≤◌, ◌^◌, length};
 ghost use Rattle.std.specs.List.{sum_by};
 ghost use Rattle.labelled_trees.specs.Meaning.{tree_of};
 ghost use Rattle.labelled_trees.specs.Trees.{vertices};
@@ -44,4 +44,12 @@ pub fn weigh_labels(labels: &[u16], weights: &[u32]) -> u128
         sum += u128::from(weight_of(weights, *label));
     }
     sum
+}
+
+/// The sum of the weights of at most 15 labels.
+pub fn weigh_few_labels(labels: &[u16], weights: &[u32]) -> u64
+    requires { length labels.now ≤ 15 }
+    ensures sum { result ≡ sum_by (weight_in weights.now) labels.now }
+{
+    weigh_labels(labels, weights) as u64
 }

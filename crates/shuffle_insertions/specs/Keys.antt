@@ -53,7 +53,8 @@ pub record Key : Type 0 where
   pub weight : ℕ
 
 -- By path: the words of leaf 1 are compared, then those of leaf 2 and so on, a longer word being greater; then the leaf rows
--- (Dotsenko and Khoroshkin 2010, path-lexicographic ordering).
+-- (Dotsenko and Khoroshkin 2010, path-lexicographic ordering). Which of two words, letters and rows is the greater, and the names
+-- of the four orders, are this project's own.
 abbrev pub path : Key → Key → Ordering
 path a b = ordering_then (slice_cmp word_cmp a.words b.words) (slice_cmp nat_cmp a.row b.row)
 
@@ -61,11 +62,11 @@ path a b = ordering_then (slice_cmp word_cmp a.words b.words) (slice_cmp nat_cmp
 abbrev pub pathshort : Key → Key → Ordering
 pathshort a b = ordering_then (slice_cmp short_cmp a.words b.words) (slice_cmp nat_cmp a.row b.row)
 
--- By leaves, then path: the leaf rows are compared first.
+-- By leaves, then path: the leaf rows are compared first. That they come first is this project's own.
 abbrev pub leafpath : Key → Key → Ordering
 leafpath a b = ordering_then (slice_cmp nat_cmp a.row b.row) (slice_cmp word_cmp a.words b.words)
 
--- By weight, then path: a heavier tree is greater.
+-- By weight, then path: a heavier tree is greater. This order is the project's own.
 abbrev pub weightpath : Key → Key → Ordering
 weightpath a b = ordering_then (nat_cmp a.weight b.weight) (path a b)
 

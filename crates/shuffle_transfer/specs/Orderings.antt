@@ -4,7 +4,7 @@ use Rattle.std.proofs.Common.{zero, suc}
 use Rattle.std.specs.declared.cmp.Ordering.TheVariants.{Less}
 use Rattle.std.specs.Ordering.{nat_cmp}
 use Rattle.std.specs.Cmp.Lexicographic.{slice_cmp}
-use Rattle.modular_sums.specs.Lists.{Mem, Distinct}
+use Rattle.modular_sums.specs.Lists.{Mem, Distinct, nth_or}
 use Rattle.shuffle_insertions.specs.Listing.{upto}
 
 -- A permutation of 1 to m: a list of m numbers from 1 to m in which none stands twice.
@@ -15,10 +15,7 @@ pub record IsOrdering (m : ℕ) (v : List ℕ) : Type 0 where
 
 -- the i-th number of a list, counted from 1; 0 where there is none
 abbrev pub entry : List ℕ → ℕ → ℕ
-entry [] i = 0
-entry (x ∷ v) zero = 0
-entry (x ∷ v) (suc zero) = x
-entry (x ∷ v) (suc (suc i)) = entry v (suc i)
+entry v i = nth_or 0 v i
 
 -- an entry of a list, and the other entries
 pub record Pick : Type 0 where

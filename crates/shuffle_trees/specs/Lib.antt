@@ -1,6 +1,7 @@
 pub mod Capped
 pub mod Checks
 pub mod Codes
+pub mod FlatKeys
 pub mod KeyParts
 pub mod ValidTrees
 pub mod Walks

@@ -3,6 +3,7 @@
 
 mod checks;
 mod counting;
+mod flat_keys;
 mod frame;
 mod insertion;
 mod keys;
@@ -11,6 +12,7 @@ mod listing;
 mod stree;
 
 pub use counting::count_trees;
+pub use flat_keys::{FlatKey, FlatWord, MOST_LEAVES};
 pub use frame::Frame;
 pub use insertion::insert;
 pub use keys::{Key, leaf_row, words};

@@ -2,6 +2,7 @@
 use Rattle.std.specs.Prelude.{ℕ, ◌≡◌, ◌+◌, ◌*◌, ◌-◌, ◌%◌, ◌==◌, nat_lt, List, [], ◌∷◌, length, map, Option, Some, None, Result, Ok, Err, if◌then◌else◌}
 use Rattle.std.specs.List.{All}
 use Rattle.std.proofs.Common.{zero, suc}
+use Rattle.modular_sums.specs.Lists.{nth_or}
 use Rattle.modular_sums.specs.Sums.{moved, AllTerms}
 use Rattle.labelled_trees.specs.Trees.{Tree, node}
 use Rattle.labelled_trees.specs.Leaves.{occurs, leaf_count}
@@ -28,10 +29,7 @@ use Rattle.symmetric_sums.specs.declared.expanding.Expanded.{Expanded}
 
 -- the k-th sum, counted from 1; nothing where there is none
 abbrev pub sum_at : List (List Term) → ℕ → List (ℕ × Tree ℕ)
-sum_at [] k = []
-sum_at (sum ∷ sums) zero = []
-sum_at (sum ∷ sums) (suc zero) = terms_of sum
-sum_at (sum ∷ sums) (suc (suc k)) = sum_at sums (suc k)
+sum_at sums k = nth_or [] (map terms_of sums) k
 
 -- the sign of the exchange of two inputs of a part of this kind; none where they can't change places
 abbrev pub kind_sign : Kind → Option Sign

@@ -2,7 +2,7 @@ use Rattle.std.proofs.Common.{rules, arith, ◌<◌}
 use Rattle.std.specs.List.{range_with_len}
 use Rattle.std.proofs.lemmas.List.FromFn.{length-range_with_len}
 use Rattle.std.proofs.lemmas.List.Sorted.{length_permutation}
-use Rattle.order_blocks.proofs.RisingBlocks.{position_within}
+use Rattle.shuffle_sums.proofs.RisingBlocks.{position_within}
 use Rattle.division.proofs.Ranking.{ranks_more, ranks_all}
 use Rattle.division.proofs.ranks.ranks_of.Goals as goal
 

@@ -1,5 +1,5 @@
 use Rattle.std.proofs.Common.{subst, []}
-use Rattle.order_blocks.specs.Sorting.{compare_by}
+use Rattle.shuffle_sums.specs.Sorting.{compare_by}
 use Rattle.division.specs.Gathered.{Came}
 use Rattle.division.proofs.TestElements.{nothing_given}
 use Rattle.division.proofs.tests.free_cone.Goals as goal

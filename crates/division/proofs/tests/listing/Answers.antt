@@ -1,7 +1,7 @@
 use Rattle.std.proofs.Common.{subst, arith}
 use Rattle.shuffle_trees.specs.LabelLists.{arity_in}
-use Rattle.order_blocks.specs.Putting.{ArePut}
-use Rattle.order_blocks.proofs.PutTrees.{listing_put}
+use Rattle.shuffle_sums.specs.Putting.{ArePut}
+use Rattle.shuffle_sums.proofs.PutTrees.{listing_put}
 use Rattle.division.proofs.tests.listing.Goals as goal
 
 pub returns-clause-one_arity : goal.returns-clause-one_arity
