@@ -1,18 +1,17 @@
 -- Blocks compare as keys do.
 use Rattle.std.specs.Prelude.{Bool, true, false}
-use Rattle.std.proofs.Common.{◌≡◌, ℕ, zero, suc, ◌+◌, ◌-◌, ◌/◌, ◌%◌, ◌<◌, ◌≤◌, List, [], ◌∷◌, length, refl, ap, sym, ◌∙◌, arith}
+use Rattle.std.proofs.Common.{◌≡◌, ℕ, ◌-◌, ◌/◌, ◌%◌, ◌<◌, ◌≤◌, List, [], ◌∷◌, length, refl, ap, sym, ◌∙◌, arith}
 use mathlib.Core.List.{◌++◌}
 use mathlib.Core.Path.{ap₂}
-use Rattle.std.specs.List.{AllByRecursion}
 use Rattle.std.specs.declared.cmp.Ordering.{Ordering}
 use Rattle.std.specs.declared.cmp.Ordering.TheVariants.{Less, Equal, Greater}
 use Rattle.std.specs.Ordering.{nat_cmp, ordering_then, MatchOrdering}
 use Rattle.std.specs.Cmp.{ranks, nat_cmp_is}
 use Rattle.std.specs.Cmp.Lexicographic.{slice_cmp}
 use Rattle.std.proofs.lemmas.Map.Lookups.{exact_unsigned}
-use Rattle.shuffle_insertions.specs.Keys.{Key, word_cmp, short_cmp, path, pathshort, leafpath, weightpath}
+use Rattle.shuffle_insertions.specs.Keys.{Key, path}
 use Rattle.shuffle_insertions.proofs.Comparing.{slice_cmp-append}
-use Rattle.shuffle_insertions.specs.KeyBlocks.{mark, marked, digits, path_block, short_block, leaf_block, weight_block, AreShort, AreAlike}
+use Rattle.shuffle_insertions.specs.KeyBlocks.{mark, marked, digits, path_block, AreShort, AreAlike}
 use Rattle.shuffle_insertions.specs.BlockLaws.{BlocksCompare}
 
 then-assoc : (a b c : Ordering) → ordering_then (ordering_then a b) c ≡ ordering_then a (ordering_then b c)

@@ -1,5 +1,5 @@
 -- The law of blocks.
-use Rattle.std.specs.Prelude.{ℕ, ◌≡◌}
+use Rattle.std.specs.Prelude.{◌≡◌}
 use Rattle.std.specs.Ordering.{nat_cmp}
 use Rattle.std.specs.Cmp.Lexicographic.{slice_cmp}
 use Rattle.shuffle_insertions.specs.Keys.{Key, path, pathshort, leafpath, weightpath}

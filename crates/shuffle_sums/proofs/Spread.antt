@@ -5,10 +5,10 @@ use mathlib.Core.List.{◌++◌, append-nil}
 use mathlib.Core.Path.{ap₂}
 use native.Mathlib.Decide.{ℕ_discrete}
 use Rattle.shuffle_insertions.proofs.Keys.{length-words_at}
-use Rattle.std.proofs.lemmas.List.{take-map, drop-map, nil_from_length, get_or-set_same, get_or-set_other, length-set, take_more, get_or-drop}
+use Rattle.std.proofs.lemmas.List.{nil_from_length, get_or-set_same, get_or-set_other, length-set, take_more, get_or-drop}
 use Rattle.std.proofs.Common.{append_assoc}
 use Rattle.labelled_trees.specs.Trees.{Tree, Row, leaf, node, none, more, leaves}
-use Rattle.labelled_trees.specs.Leaves.{occurs, leaf_count}
+use Rattle.labelled_trees.specs.Leaves.{occurs}
 use Rattle.shuffle_insertions.specs.ShuffleTrees.{IsShuffle}
 use Rattle.shuffle_insertions.specs.Keys.{only_if, words_at, words_at_row, words_below}
 use Rattle.path_orders.proofs.WordLists.{word_alone}

@@ -1,4 +1,4 @@
-use Rattle.std.proofs.Common.{◌∙◌, ◌++◌, ap, arith, drop, length, map}
+use Rattle.std.proofs.Common.{◌∙◌, ◌++◌, ap, arith, map}
 use Rattle.labelled_trees.specs.Trees.{row, leaves_row}
 use Rattle.shuffle_trees.specs.FlatKeys.{flat_labels, flat_row, letters}
 use Rattle.shuffle_trees.specs.Walks.{vertex_labels_row}

@@ -1,4 +1,4 @@
-use Rattle.std.proofs.Common.{◌≡◌, ◌∙◌, ◌+◌, ◌-◌, length, take, drop, map, ap, sym, arith}
+use Rattle.std.proofs.Common.{◌∙◌, ◌+◌, ◌-◌, take, drop, map, ap, sym, arith}
 use Rattle.std.proofs.lemmas.List.{take-map, drop-map, length-take-le}
 use Rattle.shuffle_trees.specs.FlatKeys as spec
 use Rattle.shuffle_trees.proofs.flat_keys.FlatKey.words.Goals as goal
