@@ -10,7 +10,8 @@ mod words;
 
 pub use blocks::Blocks;
 pub use orders::{
-    LeafPath, Path, PathShort, TreeOrder, WeightPath, flat_keys_are_seen, keys_are_alike, keys_are_seen,
+    LeafPath, Path, PathShort, TreeOrder, WeightPath, flat_keys_are_seen, keys_are_alike,
+    keys_are_seen,
 };
 
 #[cfg(test)]
