@@ -1,5 +1,5 @@
 use crate::fail::RowFail;
-use crate::stores;
+use crate::{cones, divisions, id_sums, logs, places, sorting, stores};
 use presentation_text::{Document, ReadDocFail, read_document};
 use std::alloc::{AllocError, Global};
 
@@ -43,6 +43,20 @@ fn answer(
     match name {
         "Store::put" => stores::put(alloc, document, out),
         "Store::vertex" => stores::vertex(alloc, document, numbers, out),
+        "places_of" => places::all(alloc, document, out),
+        "first_place" => places::first(alloc, document, out),
+        "Place::of" => places::cut(alloc, document, numbers, out),
+        "sort_blocks" => sorting::blocks(alloc, document, out),
+        "sorted" => sorting::all(alloc, document, numbers, out),
+        "SSum::add_scaled" => id_sums::add_scaled(alloc, document, numbers, out),
+        "Shelf::shelve" => id_sums::shelve(alloc, document, out),
+        "Basis::add" => id_sums::basis(alloc, document, out),
+        "insert_at_root" => divisions::at_root(alloc, document, out),
+        "step" => divisions::tail(alloc, document, out),
+        "gather" => divisions::gathered(alloc, document, out),
+        "reduce_row" => cones::reduced(alloc, document, numbers, out),
+        "Log::push" => logs::push(alloc, document, out),
+        "entry_for" => logs::entry(alloc, document, numbers, out),
         _ => Err(RowFail::Refused),
     }
 }

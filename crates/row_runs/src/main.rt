@@ -9,10 +9,16 @@
 
 mod arguments;
 mod calls;
+mod cones;
+mod divisions;
 mod fail;
+mod id_sums;
+mod logs;
+mod places;
 mod printing;
 mod rows;
 mod runs;
+mod sorting;
 mod stores;
 
 use outside_io::{RealSink, RealSource, read_all, write_all};

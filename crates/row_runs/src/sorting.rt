@@ -1,0 +1,151 @@
+ghost use Rattle.std.specs.Prelude.{◌≤◌, IfOk};
+ghost use Rattle.modular_sums.specs.Lists.{Distinct};
+ghost use Rattle.shuffle_sums.specs.Sorting.{AreOfOneArity};
+
+use crate::arguments::shuffle_tree;
+use crate::fail::RowFail;
+use crate::printing::write_next;
+use path_orders::{Blocks, LeafPath, Path, PathShort, TreeOrder, WeightPath};
+use presentation_text::{Document, OrderName, write_number};
+use shuffle_passage::labels_of;
+use shuffle_sums::{flat_key, put_all, sort_blocks, sorted};
+use shuffle_trees::{Labels, STree, all_trees};
+use sqlite_items::Items;
+use std::alloc::Global;
+use std::cmp::Ordering;
+use tree_store::{Store, TreeId};
+
+// The most leaves of a tree that has a flat key.
+const MOST_LEAVES: u8 = 16;
+
+// Puts the tree into the store and writes its block.
+fn write_block<O: TreeOrder>(
+    alloc: Global,
+    store: &mut Store,
+    order: &O,
+    tree: &STree,
+    blocks: &mut Blocks,
+) -> Result<(), RowFail> {
+    match tree.arity() {
+        Some(leaves) if leaves <= MOST_LEAVES => {
+            let id = store.put(alloc, tree)?;
+            order.write_block(&flat_key(store, id), blocks)?;
+            Ok(())
+        }
+        _ => Err(RowFail::Refused),
+    }
+}
+
+// The places of the trees once they are sorted by their blocks.
+fn by_blocks<O: TreeOrder>(
+    alloc: Global,
+    document: &Document,
+    order: &O,
+    out: &mut Vec<u8>,
+) -> Result<(), RowFail> {
+    let mut store = Store::new(alloc);
+    let mut blocks = Blocks::new(alloc);
+    for at in 0..document.asks.len() {
+        let tree = shuffle_tree(alloc, document, at)?;
+        write_block(alloc, &mut store, order, &tree, &mut blocks)?;
+    }
+    for place in sort_blocks(alloc, &blocks)?.as_slice() {
+        write_next(*place as u64, out)?;
+    }
+    out.push(b'\n')?;
+    Ok(())
+}
+
+/// Sorts the trees by their blocks in the order of the document, and writes their places, counted from 0.
+pub fn blocks(alloc: Global, document: &Document, out: &mut Vec<u8>) -> Result<(), RowFail> {
+    match document.order {
+        OrderName::Path => by_blocks(alloc, document, &Path {}, out),
+        OrderName::PathShort => by_blocks(alloc, document, &PathShort {}, out),
+        OrderName::LeafPath => by_blocks(alloc, document, &LeafPath {}, out),
+        OrderName::WeightPath => by_blocks(alloc, document, &by_weight(alloc, document)?, out),
+    }
+}
+
+// The weights of the labels, where each generator has one label.
+fn by_weight(alloc: Global, document: &Document) -> Result<WeightPath, RowFail> {
+    let weights = Items::from_slice(alloc, document.weights.as_slice())?;
+    Ok(WeightPath::new(weights))
+}
+
+// The ids of all shuffle trees of an arity over the labels.
+fn listing(
+    alloc: Global,
+    store: &mut Store,
+    labels: &Labels,
+    arity: u8,
+) -> Result<Vec<TreeId>, RowFail>
+    requires { arity ≤ 16 }
+    ensures one_arity { IfOk result (λ ids. AreOfOneArity store.new ids.items) }
+    ensures distinct { IfOk result (λ ids. Distinct ids.items) }
+{
+    let trees = all_trees(alloc, labels, arity)?;
+    Ok(put_all(alloc, store, trees.as_slice())?)
+}
+
+// Whether the order has the first tree below the second; false where they have not one arity.
+fn is_below<O: TreeOrder>(order: &O, labels: &Labels, one: &STree, other: &STree) -> bool {
+    match (one.arity(), other.arity()) {
+        (Some(leaves), Some(others)) if leaves == others => {
+            order.compare(labels, one, other) == Ordering::Less
+        }
+        _ => false,
+    }
+}
+
+// How many trees stand, once all of an arity are sorted, above the one before them.
+fn count_rising<O: TreeOrder>(
+    alloc: Global,
+    order: &O,
+    labels: &Labels,
+    arity: u8,
+) -> Result<u64, RowFail>
+    requires { arity ≤ 16 }
+{
+    let mut store = Store::new(alloc);
+    let ids = listing(alloc, &mut store, labels, arity)?;
+    let trees = all_trees(alloc, labels, arity)?;
+    let mut count = 0u64;
+    let mut before = None;
+    for at in &sorted(alloc, &store, order, ids.as_slice())? {
+        let here = trees.as_slice().get(*at);
+        if let Some(one) = before
+            && let Some(other) = here
+            && is_below(order, labels, one, other)
+        {
+            count = count.saturating_add(1);
+        }
+        before = here;
+    }
+    Ok(count)
+}
+
+/// Sorts all shuffle trees of the given arity by the document's order, and writes how many of them the order has above the
+/// one before: all but one.
+pub fn all(
+    alloc: Global,
+    document: &Document,
+    numbers: &[u32],
+    out: &mut Vec<u8>,
+) -> Result<(), RowFail> {
+    let arity = match numbers {
+        [arity] if *arity <= 9 => *arity as u8,
+        _ => return Err(RowFail::Refused),
+    };
+    let labels = labels_of(alloc, &document.gens)?;
+    let count = match document.order {
+        OrderName::Path => count_rising(alloc, &Path {}, &labels, arity)?,
+        OrderName::PathShort => count_rising(alloc, &PathShort {}, &labels, arity)?,
+        OrderName::LeafPath => count_rising(alloc, &LeafPath {}, &labels, arity)?,
+        OrderName::WeightPath => {
+            count_rising(alloc, &by_weight(alloc, document)?, &labels, arity)?
+        }
+    };
+    write_number(count, out)?;
+    out.push(b'\n')?;
+    Ok(())
+}
