@@ -23,11 +23,11 @@ fn is_member(words: &[String]) -> bool
     }
 }
 
-/// All that the checker does. The word is `member`; the source gives a text of at most 16,777,216 bytes: a presentation with
-/// one generator of two inputs and relations, and blocks of a certificate. Where all blocks hold, the status is `Done` and
-/// the sink takes the line `accepted K`, K the number of blocks; then each wanted element is in the ideal that the relations
-/// and the symmetry of the generator generate, whoever wrote the blocks. Where one doesn't hold, the status is `Refused` and the
-/// sink takes the line `refused BLOCK STEP CAUSE`: the first such block, counted from 1, its failing step and the cause.
+/// All that the checker does. The word is `member`; the source gives a text of at most 16,777,216 bytes: a presentation and
+/// blocks of a certificate. Where all blocks hold, the status is `Done` and the sink takes the line `accepted K`, K the number
+/// of blocks; then each wanted element is in the ideal that the relations and the symmetry of the generators generate, whoever
+/// wrote the blocks. Where one doesn't hold, the status is `Refused` and the sink takes the line `refused BLOCK STEP CAUSE`: the
+/// first such block, counted from 1, its failing step and the cause.
 ///
 /// Each other end has its cause, its status and its text: other words, a source or a sink that failed, a text that is
 /// longer, or a line that isn't as said, the first of which is named. `NoMemory` comes for want of memory alone, and writes
