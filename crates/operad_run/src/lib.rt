@@ -7,8 +7,6 @@ mod forms;
 mod member;
 mod run;
 mod status;
-#[cfg(test)]
-mod tests;
 
 pub use forms::answers_are_determined;
 pub use member::check_run;
