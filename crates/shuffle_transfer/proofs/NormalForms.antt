@@ -12,7 +12,7 @@ use Rattle.modular_sums.proofs.Differences.{same_gone, same_forms_apart, same_su
 use Rattle.operad_ideals.specs.Presentations.{arity_of}
 use Rattle.operad_ideals.specs.Ideals.{InIdeal}
 use Rattle.operad_ideals.proofs.Ideals.{ideal_zero, ideal-append, ideal-scale, ideal-same}
-use Rattle.shuffle_transfer.specs.NormalTrees.{normal_list, IsIndependent, IsNormalForm, compare}
+use Rattle.shuffle_transfer.specs.NormalTrees.{normal_list, HasLabelledTrees, IsIndependent, IsNormalForm, compare}
 use Rattle.shuffle_transfer.specs.NormalLaws.{NormalLaw, NormalTreesListed}
 use Rattle.shuffle_transfer.proofs.Given.{Given}
 use Rattle.shuffle_transfer.proofs.Independent.{Normal, independent}
@@ -35,8 +35,12 @@ module _ (c : Given) (n : ℕ) (le : n ≤ c.most) where
   abbrev Form : E → E → Type 0
   Form = IsNormalForm c.presentation n list
 
+  labelled_list : HasLabelledTrees c.presentation n list
+  labelled_list t m = (listed_normal c n le t m).labelled
+
   independent_list : IsIndependent c.presentation n list
   independent_list = record {
+    labelled = labelled_list;
     distinct = listed_once c n le;
     zero = λ e h i. independent c n le e (AllTerms-imp (λ t. Mem t list) (Normal c n le) e (listed_normal c n le) h) i;
   }
@@ -65,7 +69,10 @@ module _ (c : Given) (n : ℕ) (le : n ≤ c.most) where
   law prime = record {
     normal = λ t. (λ m. of_normal c n le t (listed_normal c n le t m), λ h. normal_listed c n le t (to_normal c n le t prime h));
     independent = independent_list;
-    spanning = λ t h. let k = spans c n le ((1, t) ∷ []) (h, tt) in (k.by, AllTerms-imp (Normal c n le) (λ u. Mem u list) k.by (normal_listed c n le) k.normal, k.rest);
+    spanning = record {
+      labelled = labelled_list;
+      spans = λ t h. let k = spans c n le ((1, t) ∷ []) (h, tt) in (k.by, AllTerms-imp (Normal c n le) (λ u. Mem u list) k.by (normal_listed c n le) k.normal, k.rest);
+    };
     forms = form_exists;
     one_form = λ e f g hf hg. one_form e e f g hf hg (gone e);
     congruent = λ d e f g hf hg. (one_form d e f g hf hg, congruent d e f g hf hg);

@@ -40,14 +40,21 @@ module _ (p : Presentation) where
   abbrev pub normal_list : List Element → ℕ → List (Tree ℕ)
   normal_list elements n = map (symmetric_tree p) (filter (has_no_place elements) (all_trees (labels p) (inputs_of p) n))
 
-  -- The list is independent modulo the ideal: no tree stands twice, and an element of the ideal on trees of the list is zero.
+  -- The list consists of trees labelled by 1 to n.
+  abbrev pub HasLabelledTrees : ℕ → List (Tree ℕ) → Type 0
+  HasLabelledTrees n l = (t : Tree ℕ) → Mem t l → IsLabelled (arity_of p) n t
+
+  -- The list of labelled trees is independent modulo the ideal: no tree stands twice, and an element of the ideal on trees of the list
+  -- is zero.
   pub record IsIndependent (n : ℕ) (l : List (Tree ℕ)) : Type 0 where
+    pub labelled : HasLabelledTrees n l
     pub distinct : Distinct l
     pub zero : (e : List (ℕ × Tree ℕ)) → AllTerms e (λ t. Mem t l) → InIdeal p n e → Same tree_discrete p.q e []
 
-  -- The list is spanning modulo the ideal: each labelled tree less some element on trees of the list is in the ideal.
-  abbrev pub IsSpanning : ℕ → List (Tree ℕ) → Type 0
-  IsSpanning n l = (t : Tree ℕ) → IsLabelled (arity_of p) n t → (e : List (ℕ × Tree ℕ)) × AllTerms e (λ u. Mem u l) × InIdeal p n ((1, t) ∷ scale p.q e)
+  -- The list of labelled trees is spanning modulo the ideal: each labelled tree less some element on trees of the list is in the ideal.
+  pub record IsSpanning (n : ℕ) (l : List (Tree ℕ)) : Type 0 where
+    pub labelled : HasLabelledTrees n l
+    pub spans : (t : Tree ℕ) → IsLabelled (arity_of p) n t → (e : List (ℕ × Tree ℕ)) × AllTerms e (λ u. Mem u l) × InIdeal p n ((1, t) ∷ scale p.q e)
 
   -- f is a normal form of e: it is an element on trees of the list, and e less f is in the ideal.
   pub record IsNormalForm (n : ℕ) (l : List (Tree ℕ)) (e f : List (ℕ × Tree ℕ)) : Type 0 where
@@ -55,8 +62,11 @@ module _ (p : Presentation) where
     pub rest : InIdeal p n (e ++ scale p.q f)
 
   module _ (cmp : Tree ℕ → Tree ℕ → Ordering) (n : ℕ) where
-    -- t is the leading tree of the element: its shuffle form stands in that of the element, and no greater tree does.
+    -- t is the leading tree of the element: the greatest tree of its collected form. It is a sorted labelled tree, its shuffle form
+    -- stands in that of the element, and no greater tree does (Bremner and Dotsenko 2016, leading monomials).
     pub record IsLead (e : List (ℕ × Tree ℕ)) (t : Tree ℕ) : Type 0 where
+      pub labelled : IsLabelled (arity_of p) n t
+      pub sorted : IsSorted (parts p) t
       pub there : Alike p.q (coef tree_discrete (shuffled p e) (shuffle_form p t)) 0 → ⊥
       pub above : (s : Tree ℕ) → IsShuffleTree (inputs_of p) n s → cmp (shuffle_form p t) s ≡ Less → Alike p.q (coef tree_discrete (shuffled p e) s) 0
 
