@@ -44,7 +44,6 @@ trees = t2 ∷ (t3 ∷ [])
 
 pub basis : IsBasis lie 3 trees
 basis = subst (IsBasis lie 3) two_normal record {
-  labelled = λ t m. (((lie_normal 3 (omega arith)).normal t).0 m).labelled;
   independent = (lie_normal 3 (omega arith)).independent;
   spanning = (lie_normal 3 (omega arith)).spanning;
 }
@@ -86,7 +85,7 @@ row : (w : List ℕ) → IsOrdering 3 w → (t : Tree ℕ) → Mem t trees → (
 row w o t m f h c s = record {
   normal = h;
   rest = in_ideal c ((1, acted w t) ∷ scale 100 f)
-      (labelled-acted (arity_of lie) 3 w o t (basis.labelled t m), AllTerms-scale 100 f (IsLabelled (arity_of lie) 3) (AllTerms-imp (λ u. Mem u trees) (IsLabelled (arity_of lie) 3) f basis.labelled h)) s;
+      (labelled-acted (arity_of lie) 3 w o t (basis.independent.labelled t m), AllTerms-scale 100 f (IsLabelled (arity_of lie) 3) (AllTerms-imp (λ u. Mem u trees) (IsLabelled (arity_of lie) 3) f basis.independent.labelled h)) s;
 }
 
 is_type : (c : List ℕ) → Mem c (three ∷ (two_one ∷ (ones ∷ []))) → IsOrdering 3 (type_permutation c)
@@ -216,7 +215,7 @@ lie_by_shuffle_rows k b =
 lie_passed : IsNormalForm lie 3 trees ((1, acted (type_permutation three) t2) ∷ []) (moved (symmetric_tree lie) ((100, t2) ∷ ((100, t3) ∷ [])))
 unfolding three_rows
 lie_passed = (shuffle_forms_pass_back lie sound wide (omega arith) by_path (jacobi ∷ []) 4 certified 3 (omega arith) trees normal ((1, acted (type_permutation three) t2) ∷ []) ((100, t2) ∷ ((100, t3) ∷ []))
-    (labelled-acted (arity_of lie) 3 (type_permutation three) (is_type three (inl refl)) t2 (basis.labelled t2 (inl refl)), tt) shuffle_rows.0).0
+    (labelled-acted (arity_of lie) 3 (type_permutation three) (is_type three (inl refl)) t2 (basis.independent.labelled t2 (inl refl)), tt) shuffle_rows.0).0
 
 -- ---- a permutation that is none of a cycle type
 

@@ -38,7 +38,7 @@ use Rattle.action_characters.proofs.Spans.{InSpan, in_span, free_list, as_form, 
 module _ (p : Presentation) (n : ℕ) (l : List (Tree ℕ)) (spanning : IsSpanning p n l) where
   -- each labelled tree has a form
   pub tree_form : (t : Tree ℕ) → IsLabelled (arity_of p) n t → (f : List (ℕ × Tree ℕ)) × IsFormOn tree_discrete (element p n) p.q l (one t) f
-  tree_form t h = let k = spanning t h in (k.0, record { on_list = k.1; rest = in_span p n ((1, t) ∷ scale p.q k.0) k.2 })
+  tree_form t h = let k = spanning.spans t h in (k.0, record { on_list = k.1; rest = in_span p n ((1, t) ∷ scale p.q k.0) k.2 })
 
   -- the trees of an element
   trees : List (ℕ × Tree ℕ) → List (Tree ℕ)
@@ -80,7 +80,7 @@ module _ (p : Presentation) (n : ℕ) (w : List ℕ) where
 
   -- a basis has a form of each tree that is relabelled
   acted_form : IsOrdering n w → (k l : List (Tree ℕ)) → IsBasis p n k → IsBasis p n l → (t : Tree ℕ) → Mem t k → (f : List (ℕ × Tree ℕ)) × IsFormOn tree_discrete (element p n) p.q l (image p n w t) f
-  acted_form o k l a b t m = tree_form p n l b.spanning (acted w t) (labelled-acted (arity_of p) n w o t (a.labelled t m))
+  acted_form o k l a b t m = tree_form p n l b.spanning (acted w t) (labelled-acted (arity_of p) n w o t (a.independent.labelled t m))
 
 pub traces_exist : TracesExist
 traces_exist p n w o l b =
@@ -90,7 +90,7 @@ traces_exist p n w o l b =
 pub trace_is_invariant : TraceIsInvariant
 trace_is_invariant p n w o k l a b r s tr ts =
     bases_agree (Tree ℕ) (Instance p n) tree_discrete (element p n) p.q (image p n w) (keeps p n w o) k l (free_list p n k a.independent) (free_list p n l b.independent)
-    (λ t m. tree_form p n l b.spanning t (a.labelled t m)) (λ t m. tree_form p n k a.spanning t (b.labelled t m)) r s (as_trace p n w k r tr) (as_trace p n w l s ts)
+    (λ t m. tree_form p n l b.spanning t (a.independent.labelled t m)) (λ t m. tree_form p n k a.spanning t (b.independent.labelled t m)) r s (as_trace p n w k r tr) (as_trace p n w l s ts)
 
 -- ---- conjugates
 
@@ -119,11 +119,11 @@ conjugates_have_one_trace p n v w x ov ow ox conjugate k l a b r s tr ts =
 
     there : (t : Tree ℕ) → Mem t k → Same tree_discrete p.q (expand (image p n u.list) (image p n v t)) (image p n w t)
     there t m z = expand_one tree_discrete p.q (image p n u.list) (acted v t) z
-        ∙ ap (λ y. coef tree_discrete ((1, y) ∷ []) z % suc p.q) (acted-acted (arity_of p) n u.list v (entry w) u_after_v t (a.labelled t m))
+        ∙ ap (λ y. coef tree_discrete ((1, y) ∷ []) z % suc p.q) (acted-acted (arity_of p) n u.list v (entry w) u_after_v t (a.independent.labelled t m))
 
     back : (t : Tree ℕ) → Mem t l → Same tree_discrete p.q (expand (image p n v) (image p n u.list t)) (image p n x t)
     back t m z = expand_one tree_discrete p.q (image p n v) (acted u.list t) z
-        ∙ ap (λ y. coef tree_discrete ((1, y) ∷ []) z % suc p.q) (acted-acted (arity_of p) n v u.list (entry x) v_after_u t (b.labelled t m))
+        ∙ ap (λ y. coef tree_discrete ((1, y) ∷ []) z % suc p.q) (acted-acted (arity_of p) n v u.list (entry x) v_after_u t (b.independent.labelled t m))
 
 pub types_suffice : TypesSuffice
 types_suffice n w o =
@@ -145,7 +145,7 @@ total_ones (x ∷ l) = omega (arith, total_ones l)
 pub identity_counts : IdentityCounts
 identity_counts p n l b = record {
   forms = one;
-  each = λ t m. subst (λ y. IsNormalForm p n l ((1, y) ∷ []) (one t)) (sym (acted-upto (arity_of p) n t (b.labelled t m)))
+  each = λ t m. subst (λ y. IsNormalForm p n l ((1, y) ∷ []) (one t)) (sym (acted-upto (arity_of p) n t (b.independent.labelled t m)))
       record { normal = (m, tt); rest = ideal-same p n (one t ++ scale p.q (one t)) [] (same_gone tree_discrete p.q (one t)) (ideal_zero p n) };
   adds_up = ap (λ k. k % suc p.q) (sym (sum_by-total (λ t. coef tree_discrete (one t) t) l
       ∙ total_ext (λ t. coef tree_discrete (one t) t) (λ t. 1) l (λ t m. coef_first tree_discrete 1 t [] (coef_nothing tree_discrete t)) ∙ total_ones l));

@@ -53,7 +53,6 @@ module _ (o : OrderedPresentation) (well_formed : IsWellFormed o) where
       let those = those_of_order (IsNormalTree (presentation o) (comparison o) n) h.trees h.are_normal in
       record {
         trees = h.trees;
-        labelled = all_members (IsLabelled o.generators n) h.trees (λ t m. ((h.are_normal.all t).0 m).labelled);
         sorted = all_members (IsSorted (parts (presentation o))) h.trees (λ t m. ((h.are_normal.all t).0 m).sorted);
         ascending = h.are_normal.ascending;
         independent = independent (presentation o) field (comparison o) (order_in o) n h.trees those;

@@ -15,7 +15,7 @@ use Rattle.operad_ideals.specs.Presentations.{Presentation, arity_of}
 use Rattle.shuffle_transfer.specs.Labels.{labels, inputs_of, symmetric_tree}
 use Rattle.shuffle_transfer.specs.Transfer.{shuffled}
 use Rattle.shuffle_transfer.specs.Certified.{setting}
-use Rattle.shuffle_transfer.specs.NormalTrees.{normal_list, IsNormalTree, IsIndependent, IsSpanning}
+use Rattle.shuffle_transfer.specs.NormalTrees.{normal_list, IsNormalTree, HasLabelledTrees, IsIndependent, IsSpanning}
 use Rattle.shuffle_transfer.proofs.Labels.{are_labels}
 use Rattle.shuffle_transfer.proofs.Spanning.{all_shuffles}
 use Rattle.shuffle_completion.specs.Completion.{IsCompletedThrough, IsTailReduced, AreTailsReduced}
@@ -129,9 +129,12 @@ module _ (p : Presentation) (good : IsOverField p) (compare : Tree ℕ → Tree 
     all_listed : (e : Sum) → AllTerms e (IsNormalTree p compare n) → AllTerms e (λ t. Mem t l)
     all_listed e h = AllTerms-imp (IsNormalTree p compare n) (λ t. Mem t l) e (λ t k. (are.all t).1 k) h
 
+    labelled : HasLabelledTrees p n l
+    labelled t m = ((are.all t).0 m).labelled
+
     pub independent : IsIndependent p n l
-    independent = record { distinct = are.once; zero = λ e h m. normal_zero p good.sound compare order n e (all_normal e h) m }
+    independent = record { labelled = labelled; distinct = are.once; zero = λ e h m. normal_zero p good.sound compare order n e (all_normal e h) m }
 
     pub spanning : IsSpanning p n l
     unfolding scale
-    spanning t h = let f = some_form n ((1, t) ∷ []) (h, tt) in (f.0, all_listed f.0 f.1.normal, f.1.rest)
+    spanning = record { labelled = labelled; spans = λ t h. let f = some_form n ((1, t) ∷ []) (h, tt) in (f.0, all_listed f.0 f.1.normal, f.1.rest) }
