@@ -31,7 +31,7 @@ use Rattle.operad_answers.specs.OrderedPresentations.{OrderedPresentation, prese
 use Rattle.operad_answers.specs.Parts.{AreInOrder}
 use Rattle.operad_answers.specs.Texts.{Sum, IsForm, IsRuleOf}
 use Rattle.operad_answers.specs.Laws.{ListingLaw, CompleteElementsAnswer}
-use Rattle.operad_answers.proofs.Ordered.{Ascending, all_members}
+use Rattle.symmetric_sums.proofs.TreeLists.{Ascending, all_members}
 use Rattle.operad_answers.proofs.Forms.{form_of_same}
 use Rattle.operad_answers.proofs.WellFormed.{well_formed_over_field, order_in}
 

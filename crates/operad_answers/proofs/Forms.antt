@@ -28,8 +28,10 @@ use Rattle.presentation_text.specs.SumText.{IsPrintable, sum_text}
 use Rattle.presentation_text.proofs.PrintedSums.{read_back}
 use Rattle.operad_answers.specs.OrderedPresentations.{OrderedPresentation, presentation, comparison, IsWellFormed}
 use Rattle.operad_answers.specs.Texts.{Sum, IsForm, IsAnswer}
-use Rattle.operad_answers.proofs.Collected.{reduced_stands, read_out, read_same, read_reduced, less_same}
-use Rattle.operad_answers.proofs.Ordered.{sorted, in_order}
+use Rattle.symmetric_sums.proofs.ReducedSums.{less_same, read_out, read_same, read_reduced}
+use Rattle.operad_answers.proofs.Collected.{reduced_stands}
+use Rattle.symmetric_sums.proofs.TreeLists.{sorted}
+use Rattle.operad_answers.proofs.Ordered.{in_order}
 use Rattle.operad_answers.proofs.WellFormed.{well_formed_over_field, order_in, prime_above}
 
 module _ (o : OrderedPresentation) (well_formed : IsWellFormed o) where

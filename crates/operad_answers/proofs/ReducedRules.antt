@@ -21,7 +21,7 @@ use Rattle.symmetric_sums.specs.Collecting.{Pairs}
 use Rattle.operad_answers.specs.OrderedPresentations.{OrderedPresentation, presentation, comparison, IsWellFormed}
 use Rattle.operad_answers.specs.Parts.{AreParts}
 use Rattle.operad_answers.specs.Texts.{Sum, IsForm, IsBasisPart, IsBasisText, IsRuleOf, IsRulePart, IsTextOfReducedBasis}
-use Rattle.operad_answers.proofs.Ordered.{Ascending, each_member}
+use Rattle.symmetric_sums.proofs.TreeLists.{Ascending, each_member}
 use Rattle.operad_answers.proofs.WellFormed.{well_formed_over_field, order_in}
 
 abbrev Rule : Type 0

@@ -1,5 +1,6 @@
 -- Normal trees and normal forms.
-use Rattle.std.specs.Prelude.{ℕ, ◌≡◌, List, [], ◌∷◌, ◌++◌, map, filter}
+use Rattle.std.specs.Prelude.{ℕ, ◌≡◌, ◌↔◌, List, [], ◌∷◌, ◌++◌, map, filter}
+use Rattle.std.proofs.Common.{suc}
 use Rattle.std.specs.declared.cmp.Ordering.{Ordering}
 use Rattle.std.specs.declared.cmp.Ordering.TheVariants.{Less}
 use Rattle.modular_sums.specs.Residues.{Alike}
@@ -16,6 +17,7 @@ use Rattle.shuffle_normal_forms.specs.FreeTrees.{has_no_place}
 use Rattle.operad_ideals.specs.Spelling.{IsSorted}
 use Rattle.operad_ideals.specs.Presentations.{Presentation, parts, arity_of}
 use Rattle.operad_ideals.specs.Ideals.{InIdeal}
+use Rattle.symmetric_sums.specs.Collected.{IsReduced}
 use Rattle.shuffle_transfer.specs.Labels.{labels, gen, inputs_of, shuffle_form, symmetric_tree}
 use Rattle.shuffle_transfer.specs.Transfer.{shuffled}
 
@@ -56,9 +58,9 @@ module _ (p : Presentation) where
     pub labelled : HasLabelledTrees n l
     pub spans : (t : Tree ℕ) → IsLabelled (arity_of p) n t → (e : List (ℕ × Tree ℕ)) × AllTerms e (λ u. Mem u l) × InIdeal p n ((1, t) ∷ scale p.q e)
 
-  -- f is a normal form of e: it is an element on trees of the list, and e less f is in the ideal.
-  pub record IsNormalForm (n : ℕ) (l : List (Tree ℕ)) (e f : List (ℕ × Tree ℕ)) : Type 0 where
-    pub normal : AllTerms f (λ t. Mem t l)
+  -- Modulo the ideal e is the combination f of trees of the list: an element on trees of the list, with e less f in the ideal.
+  pub record IsCombination (n : ℕ) (l : List (Tree ℕ)) (e f : List (ℕ × Tree ℕ)) : Type 0 where
+    pub on_list : AllTerms f (λ t. Mem t l)
     pub rest : InIdeal p n (e ++ scale p.q f)
 
   module _ (cmp : Tree ℕ → Tree ℕ → Ordering) (n : ℕ) where
@@ -76,3 +78,19 @@ module _ (p : Presentation) where
       pub labelled : IsLabelled (arity_of p) n t
       pub sorted : IsSorted (parts p) t
       pub leads_none : (e : List (ℕ × Tree ℕ)) → AllTerms e (IsLabelled (arity_of p) n) → InIdeal p n e → IsLead e t → ⊥
+
+    -- The list has the normal trees, each once, in any order.
+    pub record HasNormalTrees (l : List (Tree ℕ)) : Type 0 where
+      pub distinct : Distinct l
+      pub normal : (t : Tree ℕ) → Mem t l ↔ IsNormalTree t
+
+    -- As a sum, f is the normal form of e: it is on normal trees, and e less f is in the ideal.
+    pub record IsNormalSum (e f : List (ℕ × Tree ℕ)) : Type 0 where
+      pub normal : AllTerms f IsNormalTree
+      pub rest : InIdeal p n (e ++ scale p.q f)
+
+    -- The normal form of e is f: the collected element on normal trees whose difference from e is in the ideal
+    -- (Bremner and Dotsenko 2016, normal forms).
+    pub record IsNormalForm (e f : List (ℕ × Tree ℕ)) : Type 0 where
+      pub as_sum : IsNormalSum e f
+      pub collected : IsReduced (suc p.q) (parts p) f
