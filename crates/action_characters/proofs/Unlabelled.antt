@@ -19,7 +19,7 @@ use Rattle.operad_ideals.specs.Rules.{rule_terms}
 use Rattle.operad_ideals.specs.Ideals.{placed, Instance, element, InIdeal}
 use Rattle.operad_ideals.proofs.Ideals.{ideal_zero, ideal-same}
 use Rattle.shuffle_insertions.specs.Listing.{upto}
-use Rattle.shuffle_transfer.specs.NormalTrees.{IsNormalForm}
+use Rattle.shuffle_transfer.specs.NormalTrees.{IsCombination}
 use Rattle.shuffle_transfer.proofs.Jacobi.{lie}
 use Rattle.action_characters.proofs.ModularTraces.{one}
 use Rattle.action_characters.specs.Traces.{IsTrace}
@@ -104,15 +104,15 @@ still_zero e h i t = sym (others_same e i t) ∙ basis.independent.zero (others 
 pub still_spans : (t : Tree ℕ) → IsLabelled (arity_of lie) 3 t → (e : List (ℕ × Tree ℕ)) × AllTerms e (λ u. Mem u (leaf 0 ∷ trees)) × InIdeal lie 3 ((1, t) ∷ scale 100 e)
 still_spans t h = let k = basis.spanning.spans t h in (k.0, AllTerms-imp (λ u. Mem u trees) (λ u. Mem u (leaf 0 ∷ trees)) k.0 (λ u m. inr m) k.1, k.2)
 
-itself : (t : Tree ℕ) → Mem t (leaf 0 ∷ trees) → IsNormalForm lie 3 (leaf 0 ∷ trees) (one t) (one t)
-itself t m = record { normal = (m, tt); rest = ideal-same lie 3 (one t ++ scale 100 (one t)) [] (same_gone tree_discrete 100 (one t)) (ideal_zero lie 3) }
+itself : (t : Tree ℕ) → Mem t (leaf 0 ∷ trees) → IsCombination lie 3 (leaf 0 ∷ trees) (one t) (one t)
+itself t m = record { on_list = (m, tt); rest = ideal-same lie 3 (one t ++ scale 100 (one t)) [] (same_gone tree_discrete 100 (one t)) (ideal_zero lie 3) }
 
 -- the identity has the trace 3 on this list, and 2 on a basis
 pub another_trace : IsTrace lie 3 (upto 3) (leaf 0 ∷ trees) 3
 unfolding ℕ_discrete tree_discrete tree_discrete_by row_discrete_by same_leaf same_node same_more coef
 another_trace = record {
   forms = one;
-  each = λ t m. subst (λ y. IsNormalForm lie 3 (leaf 0 ∷ trees) ((1, y) ∷ []) (one t)) (sym (unmoved t m)) (itself t m);
+  each = λ t m. subst (λ y. IsCombination lie 3 (leaf 0 ∷ trees) ((1, y) ∷ []) (one t)) (sym (unmoved t m)) (itself t m);
   adds_up = refl;
 }
   where
