@@ -24,11 +24,12 @@ use Rattle.shuffle_normal_forms.specs.FreeTrees.{IsFreeTree, free_trees}
 use Rattle.shuffle_normal_forms.specs.NormalForms.{InSpan}
 use Rattle.shuffle_normal_forms.proofs.Laws.{all_listed}
 use Rattle.shuffle_bases.specs.Elements.{Setting, value_of}
-use Rattle.shuffle_transfer.specs.NormalTrees.{IsNormalForm, by_path, compare}
+use Rattle.shuffle_transfer.specs.NormalTrees.{IsCombination, by_path, compare, HasNormalTrees}
+use Rattle.shuffle_transfer.proofs.NormalTrees.{order_of}
 use Rattle.shuffle_transfer.proofs.Jacobi.{jacobi_relation, lie, wide, sound, certified, two_normal, lie_normal, lie_transfer, relation_in_ideal}
 use Rattle.action_characters.specs.Actions.{acted, IsConjugateBy}
 use Rattle.action_characters.specs.CycleTypes.{IsCycleType, cycle_types, type_permutation}
-use Rattle.action_characters.specs.Traces.{IsBasis, HasNormalTrees, IsTrace, AreShuffleRows}
+use Rattle.action_characters.specs.Traces.{IsBasis, IsTrace, AreShuffleRows}
 use Rattle.action_characters.proofs.Actions.{labelled-acted}
 use Rattle.action_characters.proofs.CycleTypes.{cycle_types_listed}
 use Rattle.action_characters.proofs.TypePermutations.{types_are_permutations}
@@ -44,13 +45,12 @@ trees = t2 ∷ (t3 ∷ [])
 
 pub basis : IsBasis lie 3 trees
 basis = subst (IsBasis lie 3) two_normal record {
-  labelled = λ t m. (((lie_normal 3 (omega arith)).normal t).0 m).labelled;
   independent = (lie_normal 3 (omega arith)).independent;
   spanning = (lie_normal 3 (omega arith)).spanning;
 }
 
 normal : HasNormalTrees lie (compare lie by_path) 3 trees
-normal = subst (HasNormalTrees lie (compare lie by_path) 3) two_normal (listing_has_normal_trees lie sound wide (omega arith) by_path (jacobi ∷ []) 4 certified 3 (omega arith))
+normal = subst (HasNormalTrees lie (compare lie by_path) 3) two_normal (listing_has_normal_trees lie sound wide (omega arith) (compare lie by_path) (order_of lie by_path) (jacobi ∷ []) 4 certified 3 (omega arith))
 
 -- ---- the relation
 
@@ -78,15 +78,15 @@ their_permutations : (type_permutation three ≡ 2 ∷ (3 ∷ (1 ∷ []))) × (t
 their_permutations = (refl, refl, refl)
 
 abbrev Row : List ℕ → Tree ℕ → List (ℕ × Tree ℕ) → Type 0
-Row w t f = IsNormalForm lie 3 trees ((1, acted w t) ∷ []) f
+Row w t f = IsCombination lie 3 trees ((1, acted w t) ∷ []) f
 
 -- a row, where its difference has the shuffle form of a multiple of the relation
 row : (w : List ℕ) → IsOrdering 3 w → (t : Tree ℕ) → Mem t trees → (f : List (ℕ × Tree ℕ)) → AllTerms f (λ u. Mem u trees)
     → (c : ℕ) → Same tree_discrete 100 (shuffled lie ((1, acted w t) ∷ scale 100 f)) (scale c (shuffled lie jacobi_relation.terms)) → Row w t f
 row w o t m f h c s = record {
-  normal = h;
+  on_list = h;
   rest = in_ideal c ((1, acted w t) ∷ scale 100 f)
-      (labelled-acted (arity_of lie) 3 w o t (basis.labelled t m), AllTerms-scale 100 f (IsLabelled (arity_of lie) 3) (AllTerms-imp (λ u. Mem u trees) (IsLabelled (arity_of lie) 3) f basis.labelled h)) s;
+      (labelled-acted (arity_of lie) 3 w o t (basis.independent.labelled t m), AllTerms-scale 100 f (IsLabelled (arity_of lie) 3) (AllTerms-imp (λ u. Mem u trees) (IsLabelled (arity_of lie) 3) f basis.independent.labelled h)) s;
 }
 
 is_type : (c : List ℕ) → Mem c (three ∷ (two_one ∷ (ones ∷ []))) → IsOrdering 3 (type_permutation c)
@@ -136,7 +136,7 @@ trace_ones = identity_counts lie 3 trees basis
 -- so on every basis
 on_every_basis : (c : List ℕ) (r : ℕ) → Mem c (three ∷ (two_one ∷ (ones ∷ []))) → IsTrace lie 3 (type_permutation c) trees r
     → (k : List (Tree ℕ)) → IsBasis lie 3 k → IsTrace lie 3 (type_permutation c) k r
-on_every_basis c r m tr = (normal_trees_give_trace lie sound wide (omega arith) by_path (jacobi ∷ []) 4 certified 3 (omega arith) trees normal).1 (type_permutation c) (is_type c m) r tr
+on_every_basis c r m tr = (normal_trees_give_trace lie sound wide (omega arith) (compare lie by_path) (order_of lie by_path) (jacobi ∷ []) 4 certified 3 (omega arith) trees normal).1 (type_permutation c) (is_type c m) r tr
 
 pub lie_characters : (k : List (Tree ℕ)) → IsBasis lie 3 k
     → IsTrace lie 3 (type_permutation three) k 100 × IsTrace lie 3 (type_permutation two_one) k 0 × IsTrace lie 3 (type_permutation ones) k 2
@@ -164,7 +164,7 @@ lie_swap k b r tr = conjugates_have_one_trace lie 3 (type_permutation three) (ty
 -- ---- forms, relabelled relations and rows of shuffle trees
 
 pub lie_forms : (e : List (ℕ × Tree ℕ)) → AllTerms e (IsLabelled (arity_of lie) 3)
-    → (f : List (ℕ × Tree ℕ)) × IsNormalForm lie 3 trees e f × ((g : List (ℕ × Tree ℕ)) → IsNormalForm lie 3 trees e g → Same tree_discrete 100 f g)
+    → (f : List (ℕ × Tree ℕ)) × IsCombination lie 3 trees e f × ((g : List (ℕ × Tree ℕ)) → IsCombination lie 3 trees e g → Same tree_discrete 100 f g)
 lie_forms = forms_are_unique lie 3 trees basis.independent basis.spanning
 
 pub lie_relabelled : InIdeal lie 3 (relabelled swap jacobi_relation.terms)
@@ -210,13 +210,13 @@ shuffle_rows = (
 pub lie_by_shuffle_rows : (k : List (Tree ℕ)) → IsBasis lie 3 k → IsTrace lie 3 (type_permutation three) k 100
 unfolding word_discrete same_cons letter_discrete same_letter ℕ_discrete tree_discrete tree_discrete_by row_discrete_by same_leaf same_node same_more coef three_rows
 lie_by_shuffle_rows k b =
-    shuffle_rows_give_trace lie sound wide (omega arith) by_path (jacobi ∷ []) 4 certified 3 (omega arith) trees normal (type_permutation three) (is_type three (inl refl)) three_rows shuffle_rows k b
+    shuffle_rows_give_trace lie sound wide (omega arith) (compare lie by_path) (order_of lie by_path) (jacobi ∷ []) 4 certified 3 (omega arith) trees normal (type_permutation three) (is_type three (inl refl)) three_rows shuffle_rows k b
 
 -- the first of these rows, passed back
-lie_passed : IsNormalForm lie 3 trees ((1, acted (type_permutation three) t2) ∷ []) (moved (symmetric_tree lie) ((100, t2) ∷ ((100, t3) ∷ [])))
+lie_passed : IsCombination lie 3 trees ((1, acted (type_permutation three) t2) ∷ []) (moved (symmetric_tree lie) ((100, t2) ∷ ((100, t3) ∷ [])))
 unfolding three_rows
-lie_passed = (shuffle_forms_pass_back lie sound wide (omega arith) by_path (jacobi ∷ []) 4 certified 3 (omega arith) trees normal ((1, acted (type_permutation three) t2) ∷ []) ((100, t2) ∷ ((100, t3) ∷ []))
-    (labelled-acted (arity_of lie) 3 (type_permutation three) (is_type three (inl refl)) t2 (basis.labelled t2 (inl refl)), tt) shuffle_rows.0).0
+lie_passed = (shuffle_forms_pass_back lie sound wide (omega arith) (compare lie by_path) (order_of lie by_path) (jacobi ∷ []) 4 certified 3 (omega arith) trees normal ((1, acted (type_permutation three) t2) ∷ []) ((100, t2) ∷ ((100, t3) ∷ []))
+    (labelled-acted (arity_of lie) 3 (type_permutation three) (is_type three (inl refl)) t2 (basis.independent.labelled t2 (inl refl)), tt) shuffle_rows.0).0
 
 -- ---- a permutation that is none of a cycle type
 

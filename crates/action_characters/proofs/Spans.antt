@@ -1,4 +1,4 @@
--- The ideal as the span of its instances, normal forms as forms, and permutations as linear maps that keep the span.
+-- The ideal as the span of its instances, combinations as forms, and permutations as linear maps that keep the span.
 use Rattle.std.proofs.Common.{◌≡◌, ℕ, ◌*◌, List, [], ◌∷◌, refl, sym, arith, subst}
 use Rattle.std.specs.Prelude.{flat_map}
 use mathlib.Core.Path.{ap₂}
@@ -12,7 +12,7 @@ use Rattle.operad_ideals.specs.Presentations.{Presentation}
 use Rattle.operad_ideals.specs.Ideals.{Instance, element, InIdeal}
 use Rattle.operad_ideals.proofs.Ideals.{ideal_zero, ideal_one, ideal-append, ideal-scale, ideal-same}
 use Rattle.shuffle_transfer.specs.Orderings.{IsOrdering}
-use Rattle.shuffle_transfer.specs.NormalTrees.{IsIndependent, IsNormalForm}
+use Rattle.shuffle_transfer.specs.NormalTrees.{IsIndependent, IsCombination}
 use Rattle.shuffle_transfer.specs.Transfer.{relabelled}
 use Rattle.action_characters.specs.ModularTraces.{KeepsSpans, AreIndependent, IsFormOn}
 use Rattle.action_characters.specs.Actions.{acted}
@@ -40,11 +40,11 @@ module _ (p : Presentation) (n : ℕ) where
   pub free_list : (l : List (Tree ℕ)) → IsIndependent p n l → AreIndependent tree_discrete (element p n) p.q l
   free_list l h = record { distinct = h.distinct; zero = λ e k m. h.zero e k (in_ideal e m) }
 
-  pub as_form : (l : List (Tree ℕ)) (e f : List (ℕ × Tree ℕ)) → IsNormalForm p n l e f → IsFormOn tree_discrete (element p n) p.q l e f
-  as_form l e f h = record { on_list = h.normal; rest = in_span (e ++ scale p.q f) h.rest }
+  pub as_form : (l : List (Tree ℕ)) (e f : List (ℕ × Tree ℕ)) → IsCombination p n l e f → IsFormOn tree_discrete (element p n) p.q l e f
+  as_form l e f h = record { on_list = h.on_list; rest = in_span (e ++ scale p.q f) h.rest }
 
-  pub as_normal : (l : List (Tree ℕ)) (e f : List (ℕ × Tree ℕ)) → IsFormOn tree_discrete (element p n) p.q l e f → IsNormalForm p n l e f
-  as_normal l e f h = record { normal = h.on_list; rest = in_ideal (e ++ scale p.q f) h.rest }
+  pub as_combination : (l : List (Tree ℕ)) (e f : List (ℕ × Tree ℕ)) → IsFormOn tree_discrete (element p n) p.q l e f → IsCombination p n l e f
+  as_combination l e f h = record { on_list = h.on_list; rest = in_ideal (e ++ scale p.q f) h.rest }
 
   -- ---- a permutation as a linear map
 

@@ -4,16 +4,14 @@ use mathlib.Core.List.{◌++◌}
 use Rattle.std.specs.List.{sum_by}
 use Rattle.modular_sums.specs.Residues.{Alike}
 use Rattle.modular_sums.specs.Lists.{Mem}
-use Rattle.modular_sums.specs.Sums.{coef, scale, Same, expand, AllTerms}
+use Rattle.modular_sums.specs.Sums.{coef, scale, Same, expand}
 use Rattle.modular_sums.proofs.Residues.{alike_add}
 use Rattle.modular_sums.proofs.Coefficients.{coef_nothing, coef_first}
 use Rattle.modular_sums.proofs.Differences.{same_gone}
-use Rattle.modular_sums.proofs.Images.{AllTerms-imp}
 use Rattle.action_characters.specs.ModularTraces.{IsFormOn, IsLinearTrace}
 use Rattle.action_characters.proofs.Totals.{total, sum_by-total, total_ext}
 use Rattle.action_characters.proofs.Choices.{chosen}
-use Rattle.action_characters.proofs.Congruences.{AllTerms-expand, congruent_images}
-use Rattle.action_characters.proofs.ModularTraces.{one, one_expand, expand_one, trace_same, bases_agree, traces_commute, forms_are_unique as one_form}
+use Rattle.action_characters.proofs.ModularTraces.{one, expand_one, trace_same, bases_agree, traces_commute, forms_are_unique as one_form}
 use Rattle.labelled_trees.specs.Trees.{Tree}
 use Rattle.labelled_trees.specs.Equality.{tree_discrete}
 use Rattle.labelled_trees.specs.Labelled.{IsLabelled}
@@ -21,7 +19,8 @@ use Rattle.operad_ideals.specs.Presentations.{Presentation, arity_of}
 use Rattle.operad_ideals.specs.Ideals.{Instance, element}
 use Rattle.operad_ideals.proofs.Ideals.{ideal_zero, ideal-same}
 use Rattle.shuffle_transfer.specs.Orderings.{IsOrdering, entry}
-use Rattle.shuffle_transfer.specs.NormalTrees.{IsIndependent, IsSpanning, IsNormalForm}
+use Rattle.shuffle_transfer.specs.NormalTrees.{IsIndependent, IsSpanning, IsCombination}
+use Rattle.shuffle_transfer.proofs.NormalForms.{combination, congruent, gone}
 use Rattle.shuffle_transfer.proofs.Orderings.{entry_within}
 use Rattle.action_characters.specs.Actions.{acted}
 use Rattle.action_characters.specs.CycleTypes.{type_permutation}
@@ -31,46 +30,19 @@ use Rattle.action_characters.proofs.Entries.{Inverse, inverse, Composite, compos
 use Rattle.action_characters.proofs.Actions.{labelled-acted, acted-upto, acted-acted}
 use Rattle.action_characters.proofs.TypePermutations.{types_are_permutations}
 use Rattle.action_characters.proofs.CycleForms.{each_has_type}
-use Rattle.action_characters.proofs.Spans.{InSpan, in_span, free_list, as_form, as_normal, image, keeps}
+use Rattle.action_characters.proofs.Spans.{in_span, free_list, as_form, as_combination, image, keeps}
 
 -- ---- forms
 
 module _ (p : Presentation) (n : ℕ) (l : List (Tree ℕ)) (spanning : IsSpanning p n l) where
   -- each labelled tree has a form
   pub tree_form : (t : Tree ℕ) → IsLabelled (arity_of p) n t → (f : List (ℕ × Tree ℕ)) × IsFormOn tree_discrete (element p n) p.q l (one t) f
-  tree_form t h = let k = spanning t h in (k.0, record { on_list = k.1; rest = in_span p n ((1, t) ∷ scale p.q k.0) k.2 })
-
-  -- the trees of an element
-  trees : List (ℕ × Tree ℕ) → List (Tree ℕ)
-  trees [] = []
-  trees (x ∷ e) = x.1 ∷ trees e
-
-  among : (e : List (ℕ × Tree ℕ)) → AllTerms e (λ t. Mem t (trees e))
-  unfolding trees
-  among [] = tt
-  among (x ∷ e) = (inl refl, AllTerms-imp (λ t. Mem t (trees e)) (λ t. Mem t (x.1 ∷ trees e)) e (λ t m. inr m) (among e))
-
-  labelled_among : (e : List (ℕ × Tree ℕ)) → AllTerms e (IsLabelled (arity_of p) n) → (t : Tree ℕ) → Mem t (trees e) → IsLabelled (arity_of p) n t
-  unfolding trees
-  labelled_among [] h t m = absurd m
-  labelled_among (x ∷ e) h t (inl s) = subst (IsLabelled (arity_of p) n) (sym s) h.0
-  labelled_among (x ∷ e) h t (inr m) = labelled_among e h.1 t m
-
-  pub element_form : (e : List (ℕ × Tree ℕ)) → AllTerms e (IsLabelled (arity_of p) n) → (f : List (ℕ × Tree ℕ)) × IsNormalForm p n l e f
-  element_form e h =
-      let c = chosen tree_discrete (trees e) [] (λ t f. IsFormOn tree_discrete (element p n) p.q l (one t) f) (λ t m. tree_form t (labelled_among e h t m)) in (
-        expand c.0 e,
-        as_normal p n l e (expand c.0 e) record {
-          on_list = AllTerms-expand c.0 (λ t. Mem t (trees e)) (λ t. Mem t l) e (λ t m. (c.1 t m).on_list) (among e);
-          rest = subst (λ d. InSpan p n (d ++ scale p.q (expand c.0 e))) (one_expand e)
-              (congruent_images tree_discrete (element p n) p.q one c.0 (λ t. Mem t (trees e)) (λ t m. (c.1 t m).rest) e (among e));
-        },
-      )
+  tree_form t h = let k = spanning.spans t h in (k.0, record { on_list = k.1; rest = in_span p n ((1, t) ∷ scale p.q k.0) k.2 })
 
 pub forms_are_unique : FormsAreUnique
 forms_are_unique p n l free spanning e h =
-    let k = element_form p n l spanning e h in
-    (k.0, k.1, λ g i. one_form (Tree ℕ) (Instance p n) tree_discrete (element p n) p.q l (free_list p n l free) e k.0 g (as_form p n l e k.0 k.1) (as_form p n l e g i))
+    let k = combination p n l spanning e h in
+    (k.0, k.1, λ g i. (congruent p n l free e e k.0 g k.1 i).0 (gone p n e))
 
 -- ---- traces
 
@@ -80,17 +52,17 @@ module _ (p : Presentation) (n : ℕ) (w : List ℕ) where
 
   -- a basis has a form of each tree that is relabelled
   acted_form : IsOrdering n w → (k l : List (Tree ℕ)) → IsBasis p n k → IsBasis p n l → (t : Tree ℕ) → Mem t k → (f : List (ℕ × Tree ℕ)) × IsFormOn tree_discrete (element p n) p.q l (image p n w t) f
-  acted_form o k l a b t m = tree_form p n l b.spanning (acted w t) (labelled-acted (arity_of p) n w o t (a.labelled t m))
+  acted_form o k l a b t m = tree_form p n l b.spanning (acted w t) (labelled-acted (arity_of p) n w o t (a.independent.labelled t m))
 
 pub traces_exist : TracesExist
 traces_exist p n w o l b =
     let c = chosen tree_discrete l [] (λ t f. IsFormOn tree_discrete (element p n) p.q l (image p n w t) f) (acted_form p n w o l l b b) in
-    (sum_by (λ t. coef tree_discrete (c.0 t) t) l % suc p.q, record { forms = c.0; each = λ t m. as_normal p n l (image p n w t) (c.0 t) (c.1 t m); adds_up = refl })
+    (sum_by (λ t. coef tree_discrete (c.0 t) t) l % suc p.q, record { forms = c.0; each = λ t m. as_combination p n l (image p n w t) (c.0 t) (c.1 t m); adds_up = refl })
 
 pub trace_is_invariant : TraceIsInvariant
 trace_is_invariant p n w o k l a b r s tr ts =
     bases_agree (Tree ℕ) (Instance p n) tree_discrete (element p n) p.q (image p n w) (keeps p n w o) k l (free_list p n k a.independent) (free_list p n l b.independent)
-    (λ t m. tree_form p n l b.spanning t (a.labelled t m)) (λ t m. tree_form p n k a.spanning t (b.labelled t m)) r s (as_trace p n w k r tr) (as_trace p n w l s ts)
+    (λ t m. tree_form p n l b.spanning t (a.independent.labelled t m)) (λ t m. tree_form p n k a.spanning t (b.independent.labelled t m)) r s (as_trace p n w k r tr) (as_trace p n w l s ts)
 
 -- ---- conjugates
 
@@ -119,11 +91,11 @@ conjugates_have_one_trace p n v w x ov ow ox conjugate k l a b r s tr ts =
 
     there : (t : Tree ℕ) → Mem t k → Same tree_discrete p.q (expand (image p n u.list) (image p n v t)) (image p n w t)
     there t m z = expand_one tree_discrete p.q (image p n u.list) (acted v t) z
-        ∙ ap (λ y. coef tree_discrete ((1, y) ∷ []) z % suc p.q) (acted-acted (arity_of p) n u.list v (entry w) u_after_v t (a.labelled t m))
+        ∙ ap (λ y. coef tree_discrete ((1, y) ∷ []) z % suc p.q) (acted-acted (arity_of p) n u.list v (entry w) u_after_v t (a.independent.labelled t m))
 
     back : (t : Tree ℕ) → Mem t l → Same tree_discrete p.q (expand (image p n v) (image p n u.list t)) (image p n x t)
     back t m z = expand_one tree_discrete p.q (image p n v) (acted u.list t) z
-        ∙ ap (λ y. coef tree_discrete ((1, y) ∷ []) z % suc p.q) (acted-acted (arity_of p) n v u.list (entry x) v_after_u t (b.labelled t m))
+        ∙ ap (λ y. coef tree_discrete ((1, y) ∷ []) z % suc p.q) (acted-acted (arity_of p) n v u.list (entry x) v_after_u t (b.independent.labelled t m))
 
 pub types_suffice : TypesSuffice
 types_suffice n w o =
@@ -145,8 +117,8 @@ total_ones (x ∷ l) = omega (arith, total_ones l)
 pub identity_counts : IdentityCounts
 identity_counts p n l b = record {
   forms = one;
-  each = λ t m. subst (λ y. IsNormalForm p n l ((1, y) ∷ []) (one t)) (sym (acted-upto (arity_of p) n t (b.labelled t m)))
-      record { normal = (m, tt); rest = ideal-same p n (one t ++ scale p.q (one t)) [] (same_gone tree_discrete p.q (one t)) (ideal_zero p n) };
+  each = λ t m. subst (λ y. IsCombination p n l ((1, y) ∷ []) (one t)) (sym (acted-upto (arity_of p) n t (b.independent.labelled t m)))
+      record { on_list = (m, tt); rest = ideal-same p n (one t ++ scale p.q (one t)) [] (same_gone tree_discrete p.q (one t)) (ideal_zero p n) };
   adds_up = ap (λ k. k % suc p.q) (sym (sum_by-total (λ t. coef tree_discrete (one t) t) l
       ∙ total_ext (λ t. coef tree_discrete (one t) t) (λ t. 1) l (λ t m. coef_first tree_discrete 1 t [] (coef_nothing tree_discrete t)) ∙ total_ones l));
 }
@@ -154,14 +126,14 @@ identity_counts p n l b = record {
 -- ---- rows
 
 module _ (p : Presentation) (n : ℕ) (w : List ℕ) (l : List (Tree ℕ)) (free : IsIndependent p n l) where
-  row_of : (trees : List (Tree ℕ)) (rows : List (List (ℕ × Tree ℕ))) → AreRows p n w l trees rows → (t : Tree ℕ) → Mem t trees → (f : List (ℕ × Tree ℕ)) × IsNormalForm p n l (image p n w t) f
+  row_of : (trees : List (Tree ℕ)) (rows : List (List (ℕ × Tree ℕ))) → AreRows p n w l trees rows → (t : Tree ℕ) → Mem t trees → (f : List (ℕ × Tree ℕ)) × IsCombination p n l (image p n w t) f
   row_of [] rows h t m = absurd m
   row_of (u ∷ trees) [] h t m = absurd h
-  row_of (u ∷ trees) (f ∷ rows) h t (inl e) = (f, subst (λ y. IsNormalForm p n l (image p n w y) f) (sym e) h.0)
+  row_of (u ∷ trees) (f ∷ rows) h t (inl e) = (f, subst (λ y. IsCombination p n l (image p n w y) f) (sym e) h.0)
   row_of (u ∷ trees) (f ∷ rows) h t (inr m) = row_of trees rows h.1 t m
 
   -- the coefficients of other forms
-  diagonal_alike : (forms : Tree ℕ → List (ℕ × Tree ℕ)) (trees : List (Tree ℕ)) → ((t : Tree ℕ) → Mem t trees → IsNormalForm p n l (image p n w t) (forms t))
+  diagonal_alike : (forms : Tree ℕ → List (ℕ × Tree ℕ)) (trees : List (Tree ℕ)) → ((t : Tree ℕ) → Mem t trees → IsCombination p n l (image p n w t) (forms t))
       → (rows : List (List (ℕ × Tree ℕ))) → AreRows p n w l trees rows → Alike p.q (diagonal trees rows) (total (λ t. coef tree_discrete (forms t) t) trees)
   diagonal_alike forms [] h rows k = refl
   diagonal_alike forms (t ∷ trees) h [] k = absurd k
@@ -172,7 +144,7 @@ module _ (p : Presentation) (n : ℕ) (w : List ℕ) (l : List (Tree ℕ)) (free
 
 pub rows_give_trace : RowsGiveTrace
 rows_give_trace p n w l free rows h =
-    let c = chosen tree_discrete l [] (λ t f. IsNormalForm p n l (image p n w t) f) (row_of p n w l free l rows h) in
+    let c = chosen tree_discrete l [] (λ t f. IsCombination p n l (image p n w t) f) (row_of p n w l free l rows h) in
     record {
       forms = c.0;
       each = c.1;

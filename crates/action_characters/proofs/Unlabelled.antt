@@ -1,11 +1,11 @@
--- Why the trees of a basis are labelled: with a tree that isn't, a list may be independent and spanning and give the identity
--- another trace.
+-- Why the trees of an independent and spanning list are labelled: a list with a tree that isn't may meet all else that is asked of such
+-- lists, though it is longer, and give the identity another trace.
 use Rattle.std.proofs.Common.{◌≡◌, ℕ, suc, ◌%◌, List, [], ◌∷◌, refl, sym, ◌∙◌, ap, arith, subst, inl, inr, ◌+◌}
 use Rattle.std.specs.Prelude.{flat_map}
 use mathlib.Core.List.{◌++◌}
 use native.Mathlib.Decide.{ℕ_discrete}
 use Rattle.modular_sums.specs.Residues.{Alike}
-use Rattle.modular_sums.specs.Lists.{Mem}
+use Rattle.modular_sums.specs.Lists.{Mem, Distinct}
 use Rattle.modular_sums.specs.Sums.{hit, coef, scale, Same, moved, AllTerms}
 use Rattle.modular_sums.proofs.Sums.{hit-no, AllTerms-append, AllTerms-scale}
 use Rattle.modular_sums.proofs.Coefficients.{coef_absent}
@@ -19,12 +19,12 @@ use Rattle.operad_ideals.specs.Rules.{rule_terms}
 use Rattle.operad_ideals.specs.Ideals.{placed, Instance, element, InIdeal}
 use Rattle.operad_ideals.proofs.Ideals.{ideal_zero, ideal-same}
 use Rattle.shuffle_insertions.specs.Listing.{upto}
-use Rattle.shuffle_transfer.specs.NormalTrees.{IsIndependent, IsSpanning, IsNormalForm}
-use Rattle.shuffle_insertions.proofs.Examples.{t2, t3}
+use Rattle.shuffle_transfer.specs.NormalTrees.{IsCombination}
 use Rattle.shuffle_transfer.proofs.Jacobi.{lie}
 use Rattle.action_characters.proofs.ModularTraces.{one}
 use Rattle.action_characters.specs.Traces.{IsTrace}
-use Rattle.action_characters.proofs.Traces.{rows_give_trace}
+use Rattle.action_characters.specs.Actions.{acted}
+use Rattle.action_characters.proofs.Actions.{acted-upto}
 use Rattle.action_characters.proofs.Lie.{trees, basis}
 
 -- ---- an element of the ideal has the coefficient 0 at a tree that isn't labelled
@@ -90,25 +90,32 @@ others_same e h t = go (tree_discrete t (leaf 0))
         ∙ sym (unlabelled_gone lie 3 e h (leaf 0) not_labelled) ∙ ap (λ u. coef tree_discrete e u % 101) (sym s)
     go (no ne) = ap (λ k. k % 101) (others_coef t ne e)
 
-pub still_independent : IsIndependent lie 3 (leaf 0 ∷ trees)
-still_independent = record {
-  distinct = (apart, basis.independent.distinct);
-  zero = λ e h i t. sym (others_same e i t) ∙ basis.independent.zero (others e) (others_there e h) (ideal-same lie 3 (others e) e (others_same e i) i) t;
-}
+pub still_distinct : Distinct (leaf 0 ∷ trees)
+still_distinct = (apart, basis.independent.distinct)
   where
     apart : Mem (leaf 0) trees → ⊥
     apart (inl e) = absurd (cc e)
     apart (inr (inl e)) = absurd (cc e)
     apart (inr (inr m)) = m
 
-pub still_spanning : IsSpanning lie 3 (leaf 0 ∷ trees)
-still_spanning t h = let k = basis.spanning t h in (k.0, AllTerms-imp (λ u. Mem u trees) (λ u. Mem u (leaf 0 ∷ trees)) k.0 (λ u m. inr m) k.1, k.2)
+pub still_zero : (e : List (ℕ × Tree ℕ)) → AllTerms e (λ t. Mem t (leaf 0 ∷ trees)) → InIdeal lie 3 e → Same tree_discrete 100 e []
+still_zero e h i t = sym (others_same e i t) ∙ basis.independent.zero (others e) (others_there e h) (ideal-same lie 3 (others e) e (others_same e i) i) t
 
-itself : (t : Tree ℕ) → Mem t (leaf 0 ∷ trees) → IsNormalForm lie 3 (leaf 0 ∷ trees) (one t) (one t)
-itself t m = record { normal = (m, tt); rest = ideal-same lie 3 (one t ++ scale 100 (one t)) [] (same_gone tree_discrete 100 (one t)) (ideal_zero lie 3) }
+pub still_spans : (t : Tree ℕ) → IsLabelled (arity_of lie) 3 t → (e : List (ℕ × Tree ℕ)) × AllTerms e (λ u. Mem u (leaf 0 ∷ trees)) × InIdeal lie 3 ((1, t) ∷ scale 100 e)
+still_spans t h = let k = basis.spanning.spans t h in (k.0, AllTerms-imp (λ u. Mem u trees) (λ u. Mem u (leaf 0 ∷ trees)) k.0 (λ u m. inr m) k.1, k.2)
+
+itself : (t : Tree ℕ) → Mem t (leaf 0 ∷ trees) → IsCombination lie 3 (leaf 0 ∷ trees) (one t) (one t)
+itself t m = record { on_list = (m, tt); rest = ideal-same lie 3 (one t ++ scale 100 (one t)) [] (same_gone tree_discrete 100 (one t)) (ideal_zero lie 3) }
 
 -- the identity has the trace 3 on this list, and 2 on a basis
 pub another_trace : IsTrace lie 3 (upto 3) (leaf 0 ∷ trees) 3
 unfolding ℕ_discrete tree_discrete tree_discrete_by row_discrete_by same_leaf same_node same_more coef
-another_trace = rows_give_trace lie 3 (upto 3) (leaf 0 ∷ trees) still_independent (one (leaf 0) ∷ (((1, t2) ∷ []) ∷ (((1, t3) ∷ []) ∷ [])))
-    (itself (leaf 0) (inl refl), (itself t2 (inr (inl refl)), (itself t3 (inr (inr (inl refl))), tt)))
+another_trace = record {
+  forms = one;
+  each = λ t m. subst (λ y. IsCombination lie 3 (leaf 0 ∷ trees) ((1, y) ∷ []) (one t)) (sym (unmoved t m)) (itself t m);
+  adds_up = refl;
+}
+  where
+    unmoved : (t : Tree ℕ) → Mem t (leaf 0 ∷ trees) → acted (upto 3) t ≡ t
+    unmoved t (inl e) = subst (λ y. acted (upto 3) y ≡ y) (sym e) refl
+    unmoved t (inr m) = acted-upto (arity_of lie) 3 t (basis.independent.labelled t m)

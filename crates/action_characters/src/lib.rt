@@ -5,7 +5,7 @@ ghost use Rattle.action_characters.specs.CycleTypes.{CycleTypesCounted, CycleTyp
 ghost use Rattle.action_characters.specs.Laws.{ConjugatesHaveOneTrace, FormsAreUnique, IdentityCounts, ListingHasNormalTrees, NormalTreesGiveTrace, RowsGiveTrace, ShuffleFormsPassBack, ShuffleRowsGiveTrace, TraceIsInvariant, TracesExist, TypesSuffice};
 ghost use Rattle.action_characters.specs.ModularLaws.{BasesAgree, FormsOnIndependentLists, LinearTracesExist, TracesCommute};
 
-/// Law: on an independent and spanning list each element on labelled trees has exactly one normal form.
+/// Law: modulo the ideal each element on labelled trees is exactly one combination of an independent and spanning list.
 pub fn forms_are_unique()
     ensures law { FormsAreUnique }
 {}

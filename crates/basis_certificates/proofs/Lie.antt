@@ -201,7 +201,7 @@ pub lead_with : (e : List (ℕ × Tree ℕ)) → AllTerms e (IsLabelled (arity_o
 lead_with e labelled below there = record {
   spelled = host_spelled 3 t1 top_two host_t1;
   element_labelled = labelled;
-  leads = record { there = there; above = λ s v less. above s (holds_or_zero (λ s. cmp t1 s ≡ Less → ⊥) (shuffled lie e) below s) (subst (λ t. cmp t s ≡ Less) form_t1 less) };
+  leads = record { labelled = (host_spelled 3 t1 top_two host_t1).labelled; sorted = (host_spelled 3 t1 top_two host_t1).sorted; there = there; above = λ s v less. above s (holds_or_zero (λ s. cmp t1 s ≡ Less → ⊥) (shuffled lie e) below s) (subst (λ t. cmp t s ≡ Less) form_t1 less) };
   new = λ y m. absurd m;
 }
   where

@@ -16,9 +16,9 @@ use Rattle.shuffle_reductions.proofs.Standing.{has_same, trim, trim_same, trim_n
 use Rattle.shuffle_transfer.specs.Labels.{symmetric_tree}
 use Rattle.shuffle_transfer.specs.Transfer.{shuffled}
 use Rattle.shuffle_transfer.specs.Certified.{setting}
-use Rattle.shuffle_transfer.specs.NormalTrees.{normal_list, IsNormalTree}
+use Rattle.shuffle_transfer.specs.NormalTrees.{normal_list, IsNormalTree, IsNormalSum}
 use Rattle.shuffle_completion.specs.Completion.{IsCompletedThrough}
-use Rattle.shuffle_completion.specs.ReducedBases.{IsMinimal, IsNormalFormOf, IsReducedBasis, IsReducedElement}
+use Rattle.shuffle_completion.specs.ReducedBases.{IsMinimal, IsReducedBasis, IsReducedElement}
 use Rattle.shuffle_completion.proofs.Laws.{complete_is_reduced, listing_is_normal, forms_by_chains}
 use Rattle.shuffle_completion.proofs.Passing.{sorted_back}
 use Rattle.shuffle_completion.specs.Existence.{IsOverField}
@@ -31,7 +31,7 @@ use Rattle.operad_answers.specs.OrderedPresentations.{OrderedPresentation, prese
 use Rattle.operad_answers.specs.Parts.{AreInOrder}
 use Rattle.operad_answers.specs.Texts.{Sum, IsForm, IsRuleOf}
 use Rattle.operad_answers.specs.Laws.{ListingLaw, CompleteElementsAnswer}
-use Rattle.operad_answers.proofs.Ordered.{Ascending, all_members}
+use Rattle.symmetric_sums.proofs.TreeLists.{Ascending, all_members}
 use Rattle.operad_answers.proofs.Forms.{form_of_same}
 use Rattle.operad_answers.proofs.WellFormed.{well_formed_over_field, order_in}
 
@@ -89,9 +89,9 @@ module _ (o : OrderedPresentation) (well_formed : IsWellFormed o) (elements : Li
     form_of_rule r m =
         let s = source r m in
         let e : IsReducedElement (presentation o) (comparison o) s.0 = (basis.each s.0 s.1).2 in
-        let f : IsNormalFormOf (presentation o) (comparison o) n ((1, r.0) ∷ []) (scale q (moved S (s.0).tail))
-        = subst (λ t. IsNormalFormOf (presentation o) (comparison o) n ((1, t) ∷ []) (scale q (moved S (s.0).tail))) (sym s.3.tree_is)
-        (subst (λ k. IsNormalFormOf (presentation o) (comparison o) k ((1, S (s.0).lead) ∷ []) (scale q (moved S (s.0).tail))) s.2 e.normal_form) in
+        let f : IsNormalSum (presentation o) (comparison o) n ((1, r.0) ∷ []) (scale q (moved S (s.0).tail))
+        = subst (λ t. IsNormalSum (presentation o) (comparison o) n ((1, t) ∷ []) (scale q (moved S (s.0).tail))) (sym s.3.tree_is)
+        (subst (λ k. IsNormalSum (presentation o) (comparison o) k ((1, S (s.0).lead) ∷ []) (scale q (moved S (s.0).tail))) s.2 e.normal_form) in
         form_of_same o well_formed n ((1, r.0) ∷ []) (scale q (moved S (s.0).tail)) r.1 f s.3.tail_is s.3.reduced
 
     ruled : Pairs (λ r s. order r.0 s.0 ≡ Less) rules → AreInOrder (IsMinimal (presentation o) (comparison o) n) (map (λ r. r.0) rules) × AllByRecursion (λ r. IsForm o n ((1, r.0) ∷ []) r.1) rules

@@ -77,7 +77,7 @@ held_certificates d given N cert elements holds =
     let f = well_formed_over_field o given in
     let shown = members d given cert elements in (
       certify (BlockShows d) p f.sound f.proper (comparison o) (order_in o) N cert shown holds,
-      undivided_are_normal (BlockShows d) p f.sound f.wide f.proper f.not_zero o.order N cert shown holds,
+      undivided_are_normal (BlockShows d) p f.sound f.wide f.proper f.not_zero (comparison o) (order_in o) N cert shown holds,
     )
 
 pub one_fault : OneFaultOverDocuments

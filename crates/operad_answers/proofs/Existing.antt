@@ -20,7 +20,8 @@ use Rattle.operad_answers.specs.OrderedPresentations.{OrderedPresentation, prese
 use Rattle.operad_answers.specs.Parts.{line, part_text, AreParts, AreInOrder}
 use Rattle.operad_answers.specs.Texts.{Sum, EachWith, queries, IsNormalPart, IsBasisPart, IsBasisOfQuotient, IsForm, IsAnswer, IsFormsText, IsNormalText, rule_text}
 use Rattle.operad_answers.specs.Laws.{TextsExist, NormalTextsAreBases}
-use Rattle.operad_answers.proofs.Ordered.{sorted, in_order, those_of_order, all_members}
+use Rattle.symmetric_sums.proofs.TreeLists.{sorted, all_members}
+use Rattle.operad_answers.proofs.Ordered.{in_order, those_of_order}
 use Rattle.operad_answers.proofs.Forms.{has_form}
 use Rattle.operad_answers.proofs.WellFormed.{well_formed_over_field, order_in}
 
@@ -53,7 +54,6 @@ module _ (o : OrderedPresentation) (well_formed : IsWellFormed o) where
       let those = those_of_order (IsNormalTree (presentation o) (comparison o) n) h.trees h.are_normal in
       record {
         trees = h.trees;
-        labelled = all_members (IsLabelled o.generators n) h.trees (λ t m. ((h.are_normal.all t).0 m).labelled);
         sorted = all_members (IsSorted (parts (presentation o))) h.trees (λ t m. ((h.are_normal.all t).0 m).sorted);
         ascending = h.are_normal.ascending;
         independent = independent (presentation o) field (comparison o) (order_in o) n h.trees those;

@@ -15,8 +15,7 @@ use Rattle.shuffle_reductions.proofs.Standing.{has_all, has_same}
 use Rattle.operad_ideals.specs.Presentations.{Presentation}
 use Rattle.operad_ideals.specs.Ideals.{InIdeal}
 use Rattle.operad_ideals.proofs.Ideals.{ideal_zero, ideal-same}
-use Rattle.shuffle_transfer.specs.NormalTrees.{IsNormalTree}
-use Rattle.shuffle_completion.specs.ReducedBases.{IsNormalFormOf}
+use Rattle.shuffle_transfer.specs.NormalTrees.{IsNormalTree, IsNormalSum}
 use Rattle.shuffle_completion.proofs.Laws.{normal_forms_decide}
 use Rattle.shuffle_completion.proofs.Existence.{some_form, normal_trees}
 use Rattle.symmetric_trees.specs.Generators.{parts_at}
@@ -28,8 +27,10 @@ use Rattle.presentation_text.specs.SumText.{IsPrintable, sum_text}
 use Rattle.presentation_text.proofs.PrintedSums.{read_back}
 use Rattle.operad_answers.specs.OrderedPresentations.{OrderedPresentation, presentation, comparison, IsWellFormed}
 use Rattle.operad_answers.specs.Texts.{Sum, IsForm, IsAnswer}
-use Rattle.operad_answers.proofs.Collected.{reduced_stands, read_out, read_same, read_reduced, less_same}
-use Rattle.operad_answers.proofs.Ordered.{sorted, in_order}
+use Rattle.symmetric_sums.proofs.ReducedSums.{less_same, read_out, read_same, read_reduced}
+use Rattle.operad_answers.proofs.Collected.{reduced_stands}
+use Rattle.symmetric_sums.proofs.TreeLists.{sorted}
+use Rattle.operad_answers.proofs.Ordered.{in_order}
 use Rattle.operad_answers.proofs.WellFormed.{well_formed_over_field, order_in, prime_above}
 
 module _ (o : OrderedPresentation) (well_formed : IsWellFormed o) where
@@ -111,7 +112,7 @@ module _ (o : OrderedPresentation) (well_formed : IsWellFormed o) where
 
   -- ---- normal forms that are the same, and reduced
 
-  pub form_of_same : (n : ℕ) (e f h : Sum) → IsNormalFormOf (presentation o) (comparison o) n e f → Same tree_discrete (presentation o).q h f → IsReduced o.field (parts_at o.generators) h → IsForm o n e h
+  pub form_of_same : (n : ℕ) (e f h : Sum) → IsNormalSum (presentation o) (comparison o) n e f → Same tree_discrete (presentation o).q h f → IsReduced o.field (parts_at o.generators) h → IsForm o n e h
   form_of_same n e f h a same r = record {
     normal_form = record {
       normal = AllTerms-imp (StandsIn (presentation o).q h) (IsNormalTree (presentation o) (comparison o) n) h

@@ -12,7 +12,7 @@ use Rattle.labelled_trees.specs.Equality.{tree_discrete}
 use Rattle.operad_ideals.proofs.Ideals.{ideal_zero, ideal-same}
 use Rattle.shuffle_bases.specs.Elements.{Element}
 use Rattle.shuffle_transfer.specs.Labels.{symmetric_tree}
-use Rattle.shuffle_completion.specs.ReducedBases.{IsMinimal, IsNormalFormOf, IsReducedBasis, IsReducedElement}
+use Rattle.shuffle_completion.specs.ReducedBases.{IsMinimal, IsReducedBasis, IsReducedElement}
 use Rattle.shuffle_completion.proofs.Laws.{complete_is_reduced, normal_forms_decide}
 use Rattle.shuffle_completion.proofs.Passing.{sorted_back}
 use Rattle.shuffle_completion.proofs.Existence.{complete_through}
@@ -21,8 +21,9 @@ use Rattle.symmetric_sums.specs.Collecting.{Pairs}
 use Rattle.operad_answers.specs.OrderedPresentations.{OrderedPresentation, presentation, comparison, IsWellFormed}
 use Rattle.operad_answers.specs.Parts.{AreParts}
 use Rattle.operad_answers.specs.Texts.{Sum, IsForm, IsBasisPart, IsBasisText, IsRuleOf, IsRulePart, IsTextOfReducedBasis}
-use Rattle.operad_answers.proofs.Ordered.{Ascending, each_member}
+use Rattle.symmetric_sums.proofs.TreeLists.{Ascending, each_member}
 use Rattle.operad_answers.proofs.WellFormed.{well_formed_over_field, order_in}
+use Rattle.shuffle_transfer.specs.NormalTrees.{IsNormalSum}
 
 abbrev Rule : Type 0
 Rule = Tree ℕ × Sum
@@ -52,9 +53,9 @@ module _ (o : OrderedPresentation) (well_formed : IsWellFormed o) (N : ℕ) (ele
   rule_is : (n : ℕ) (r : Rule) (g : Element) → Mem g elements → g.arity ≡ n → r.0 ≡ S g.lead → IsForm o n ((1, r.0) ∷ []) r.1 → IsRuleOf o g r
   rule_is n r g m arity tree form =
       let e : IsReducedElement (presentation o) (comparison o) g = (basis.each g m).2 in
-      let own : IsNormalFormOf (presentation o) (comparison o) n ((1, r.0) ∷ []) (scale q (moved S g.tail))
-      = subst (λ t. IsNormalFormOf (presentation o) (comparison o) n ((1, t) ∷ []) (scale q (moved S g.tail))) (sym tree)
-      (subst (λ k. IsNormalFormOf (presentation o) (comparison o) k ((1, S g.lead) ∷ []) (scale q (moved S g.tail))) arity e.normal_form) in
+      let own : IsNormalSum (presentation o) (comparison o) n ((1, r.0) ∷ []) (scale q (moved S g.tail))
+      = subst (λ t. IsNormalSum (presentation o) (comparison o) n ((1, t) ∷ []) (scale q (moved S g.tail))) (sym tree)
+      (subst (λ k. IsNormalSum (presentation o) (comparison o) k ((1, S g.lead) ∷ []) (scale q (moved S g.tail))) arity e.normal_form) in
       record {
         tree_is = tree;
         tail_is = (normal_forms_decide (presentation o) well_formed.sound (comparison o) (order_in o) n ((1, r.0) ∷ []) ((1, r.0) ∷ []) r.1 (scale q (moved S g.tail)) form.normal_form own).0

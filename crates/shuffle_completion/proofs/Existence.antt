@@ -11,15 +11,17 @@ use Rattle.shuffle_insertions.specs.ShuffleTrees.{IsShuffleTree}
 use Rattle.shuffle_insertions.specs.Orders.{IsTreeOrder}
 use Rattle.shuffle_bases.specs.Elements.{Element, IsLess, AreMonic}
 use Rattle.shuffle_reductions.proofs.Laws.{chains_end, elements_extend_themselves}
-use Rattle.operad_ideals.specs.Presentations.{Presentation, arity_of}
+use Rattle.operad_ideals.specs.Presentations.{Presentation, parts, arity_of}
 use Rattle.shuffle_transfer.specs.Labels.{labels, inputs_of, symmetric_tree}
 use Rattle.shuffle_transfer.specs.Transfer.{shuffled}
 use Rattle.shuffle_transfer.specs.Certified.{setting}
-use Rattle.shuffle_transfer.specs.NormalTrees.{normal_list, IsNormalTree, IsIndependent, IsSpanning}
+use Rattle.shuffle_transfer.specs.NormalTrees.{normal_list, IsNormalTree, HasLabelledTrees, IsIndependent, IsSpanning, IsNormalSum, IsNormalForm}
+use Rattle.symmetric_sums.proofs.ReducedSums.{reduction}
+use Rattle.shuffle_transfer.proofs.NormalForms.{rest_same}
 use Rattle.shuffle_transfer.proofs.Labels.{are_labels}
 use Rattle.shuffle_transfer.proofs.Spanning.{all_shuffles}
 use Rattle.shuffle_completion.specs.Completion.{IsCompletedThrough, IsTailReduced, AreTailsReduced}
-use Rattle.shuffle_completion.specs.ReducedBases.{IsNormalFormOf, IsReducedBasis}
+use Rattle.shuffle_completion.specs.ReducedBases.{IsReducedBasis}
 use Rattle.shuffle_completion.proofs.Laws.{starts, arity_begins, arity_ends, complete_is_reduced, listing_is_normal, forms_by_chains}
 use Rattle.shuffle_completion.proofs.Passing.{normal_zero}
 use Rattle.shuffle_completion.specs.Existence.{IsOverField, AreThose}
@@ -101,15 +103,16 @@ module _ (p : Presentation) (good : IsOverField p) (compare : Tree ℕ → Tree 
 
   -- ---- normal forms
 
-  pub some_form : (n : ℕ) (e : Sum) → AllTerms e (IsLabelled (arity_of p) n) → (f : Sum) × IsNormalFormOf p compare n e f
+  pub some_form : (n : ℕ) (e : Sum) → AllTerms e (IsLabelled (arity_of p) n) → (f : Sum) × IsNormalForm p compare n e f
   some_form n e v =
       let c = complete_through n in
       let monic = c.1.certified.monic in
-      let r = chains_end (labels p) (setting p compare c.0) (are_labels p good.wide) order monic n (shuffled p e) (all_shuffles p n e v) in (
-        moved (symmetric_tree p) r.1,
-        forms_by_chains p good.sound good.wide compare order c.0 n c.1.certified c.0 (elements_extend_themselves (setting p compare c.0) monic)
-            n (omega arith) e v r.0 r.1 r.2 r.3 r.4,
-      )
+      let r = chains_end (labels p) (setting p compare c.0) (are_labels p good.wide) order monic n (shuffled p e) (all_shuffles p n e v) in
+      let f : Sum = moved (symmetric_tree p) r.1 in
+      let s : IsNormalSum p compare n e f = forms_by_chains p good.sound good.wide compare order c.0 n c.1.certified c.0 (elements_extend_themselves (setting p compare c.0) monic)
+      n (omega arith) e v r.0 r.1 r.2 r.3 r.4 in
+      let k = reduction p.q (parts p) (IsNormalTree p compare n) f s.normal (λ t h. h.sorted) in
+      (k.sum, record { as_sum = record { normal = k.all; rest = rest_same p n e f k.sum k.same s.rest }; collected = k.reduced })
 
   -- ---- normal trees
 
@@ -129,9 +132,12 @@ module _ (p : Presentation) (good : IsOverField p) (compare : Tree ℕ → Tree 
     all_listed : (e : Sum) → AllTerms e (IsNormalTree p compare n) → AllTerms e (λ t. Mem t l)
     all_listed e h = AllTerms-imp (IsNormalTree p compare n) (λ t. Mem t l) e (λ t k. (are.all t).1 k) h
 
+    labelled : HasLabelledTrees p n l
+    labelled t m = ((are.all t).0 m).labelled
+
     pub independent : IsIndependent p n l
-    independent = record { distinct = are.once; zero = λ e h m. normal_zero p good.sound compare order n e (all_normal e h) m }
+    independent = record { labelled = labelled; distinct = are.once; zero = λ e h m. normal_zero p good.sound compare order n e (all_normal e h) m }
 
     pub spanning : IsSpanning p n l
     unfolding scale
-    spanning t h = let f = some_form n ((1, t) ∷ []) (h, tt) in (f.0, all_listed f.0 f.1.normal, f.1.rest)
+    spanning = record { labelled = labelled; spans = λ t h. let f = some_form n ((1, t) ∷ []) (h, tt) in (f.0, all_listed f.0 f.1.as_sum.normal, f.1.as_sum.rest) }

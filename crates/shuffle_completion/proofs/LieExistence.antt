@@ -9,12 +9,16 @@ use Rattle.shuffle_insertions.specs.Orders.{IsTreeOrder}
 use Rattle.shuffle_bases.specs.Elements.{Element}
 use Rattle.operad_ideals.specs.Presentations.{Relation, Presentation, IsProper}
 use Rattle.shuffle_transfer.specs.Labels.{inputs_of}
-use Rattle.shuffle_transfer.specs.NormalTrees.{by_path, compare, IsNormalTree, IsIndependent, IsSpanning}
+use Rattle.shuffle_transfer.specs.NormalTrees.{by_path, compare, IsNormalTree, IsIndependent, IsSpanning, IsNormalForm}
 use Rattle.shuffle_transfer.proofs.NormalTrees.{order_of}
 use Rattle.shuffle_transfer.proofs.Jacobi.{jacobi_relation, lie, wide, sound}
 use Rattle.shuffle_completion.specs.Completion.{IsCompletedThrough}
-use Rattle.shuffle_completion.specs.ReducedBases.{IsMinimal, IsNormalFormOf}
+use Rattle.shuffle_completion.specs.ReducedBases.{IsMinimal}
 use Rattle.shuffle_completion.specs.Existence.{HasInverses, IsOverField, AreThose}
+use mathlib.Core.List.{◌++◌}
+use Rattle.modular_sums.specs.Sums.{scale}
+use Rattle.operad_ideals.specs.Ideals.{InIdeal}
+use Rattle.shuffle_completion.proofs.Laws.{normal_forms_decide}
 use Rattle.shuffle_completion.proofs.ExistenceLaws.{elements_exist, forms_exist, trees_exist, trees_are_a_basis, minimal_exist}
 
 abbrev pub modulo_three : Presentation
@@ -47,8 +51,12 @@ through_four : (elements : List Element) × IsCompletedThrough modulo_three cmp 
 through_four = elements_exist modulo_three over_field cmp order 4
 
 -- the relation has a normal form
-relation_form : (f : List (ℕ × Tree ℕ)) × IsNormalFormOf modulo_three cmp 3 jacobi_relation.terms f
+relation_form : (f : List (ℕ × Tree ℕ)) × IsNormalForm modulo_three cmp 3 jacobi_relation.terms f
 relation_form = forms_exist modulo_three over_field cmp order 3 jacobi_relation.terms (sound jacobi_relation (inl refl))
+
+-- which is one with itself, so the relation less itself is in the ideal
+nothing_left : InIdeal modulo_three 3 (jacobi_relation.terms ++ scale 2 jacobi_relation.terms)
+nothing_left = (normal_forms_decide modulo_three sound cmp order 3 jacobi_relation.terms jacobi_relation.terms relation_form.0 relation_form.0 relation_form.1 relation_form.1).1 refl
 
 normal_trees : (l : List (Tree ℕ)) × AreThose (IsNormalTree modulo_three cmp 3) l
 normal_trees = trees_exist modulo_three over_field cmp order 3

@@ -1,7 +1,7 @@
 //! The completion of a presentation, arity by arity, and reduced bases. Definitions and laws, without code.
 #![tactic(auto)]
 
-ghost use Rattle.shuffle_completion.specs.Laws.{ArityBegins, ArityEnds, CompleteIsReduced, CompletionStarts, FormsByChains, ListingIsNormal, NormalFormsDecide, OneReducedBasis, OrderDoesNotMatter, TaskEndsInElement, TaskEndsInZero};
+ghost use Rattle.shuffle_completion.specs.Laws.{ArityBegins, ArityEnds, CompleteIsReduced, CompletionStarts, FormsByChains, ListingIsNormal, NormalFormsDecide, NormalSumsDecide, OneReducedBasis, OrderDoesNotMatter, TaskEndsInElement, TaskEndsInZero};
 ghost use Rattle.shuffle_completion.specs.Existence.{CompleteElementsExist, MinimalTreesExist, NormalFormsExist, NormalTreesAreABasis, NormalTreesExist};
 
 /// Law: the empty list is complete through arity 1.
@@ -49,14 +49,15 @@ pub fn listing_is_normal()
     ensures law { ListingIsNormal }
 {}
 
-/// Law: the last sum of a finished chain, passed back, is a normal form modulo the ideal.
+/// Law: the last sum of a finished chain, passed back, is the normal form, as a sum.
 pub fn forms_by_chains()
     ensures law { FormsByChains }
 {}
 
-/// Law: two elements have the same normal forms exactly where their difference is in the ideal.
+/// Law: two elements have one normal form exactly where their difference is in the ideal.
 pub fn normal_forms_decide()
-    ensures law { NormalFormsDecide }
+    ensures sums { NormalSumsDecide }
+    ensures forms { NormalFormsDecide }
 {}
 
 /// Law: for each arity there are complete elements through it.

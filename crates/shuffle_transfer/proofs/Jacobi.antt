@@ -36,7 +36,8 @@ use Rattle.operad_ideals.specs.HoleInstances.{InHoleIdeal}
 use Rattle.operad_ideals.proofs.ArityOne.{only_zero}
 use Rattle.operad_ideals.proofs.HoleInstances.{ideals_are_one}
 use Rattle.shuffle_transfer.proofs.TransferLaw.{labelled-renamed, transfer_law}
-use Rattle.shuffle_transfer.proofs.NormalForms.{normal_trees_listed}
+use Rattle.shuffle_transfer.proofs.NormalForms.{normal_forms_by_lists, normal_trees_listed}
+use Rattle.shuffle_transfer.proofs.NormalTrees.{order_of}
 
 -- l(l(1,2),3) + l(l(2,3),1) + l(l(3,1),2)
 abbrev pub jacobi_relation : Relation
@@ -211,7 +212,13 @@ pub relation_in_ideal : InIdeal lie 3 jacobi_relation.terms
 relation_in_ideal = (lie_transfer jacobi_relation.terms (sound jacobi_relation (inl refl))).1 the_relation
 
 pub lie_normal : (n : ℕ) → n ≤ 4 → NormalLaw lie (compare lie by_path) n (normal_list lie (jacobi ∷ []) n)
-lie_normal = normal_trees_listed lie sound wide (omega arith) by_path (jacobi ∷ []) 4 certified
+lie_normal n le =
+    let k = normal_trees_listed lie sound wide (omega arith) (compare lie by_path) (order_of lie by_path) (jacobi ∷ []) 4 certified n le in
+    k.1 (normal_list lie (jacobi ∷ []) n) k.0
+
+-- the same from what the list is
+lie_by_list : NormalLaw lie (compare lie by_path) 3 (normal_list lie (jacobi ∷ []) 3)
+lie_by_list = let k = lie_normal 3 (omega arith) in normal_forms_by_lists lie (compare lie by_path) 3 (normal_list lie (jacobi ∷ []) 3) k.normal k.independent k.spanning
 
 -- the normal trees of arity 3: l(l(1,3),2) and l(1,l(2,3))
 pub two_normal : normal_list lie (jacobi ∷ []) 3 ≡ t2 ∷ (t3 ∷ [])

@@ -93,6 +93,8 @@ module _ (c : Given) (n : ℕ) (le : n ≤ c.most) where
       let forms = all_forms p n e v in
       h.leads_none (moved S e) (all_labelled p n e v) (span_ideal c n le (moved S e) (all_labelled p n e v) (subst (InSpan (setting_of c) n) (sym forms) m))
       (record {
+        labelled = h.labelled;
+        sorted = h.sorted;
         there = subst (λ l. Alike p.q (coef tree_discrete l (F t)) 0 → ⊥) (sym forms) lead.there;
         above = λ s w less. subst (λ l. Alike p.q (coef tree_discrete l s) 0) (sym forms) (lead.above s w less);
       })

@@ -2,7 +2,7 @@
 #![tactic(auto)]
 
 ghost use Rattle.shuffle_transfer.specs.Laws.{AllOrderings, Back, Forth, FramesBack, Kernel, LabelsAreWords, Spelling};
-ghost use Rattle.shuffle_transfer.specs.NormalLaws.{NormalTreesListed};
+ghost use Rattle.shuffle_transfer.specs.NormalLaws.{NormalFormsByLists, NormalTreesListed};
 ghost use Rattle.shuffle_transfer.specs.Transfer.{Transfer};
 ghost use Rattle.shuffle_transfer.specs.OtherLeaves.{OtherLeaves};
 ghost use Rattle.shuffle_transfer.specs.RelabelledIdeals.{IdealIsRelabelled};
@@ -36,8 +36,14 @@ pub fn frames_back()
     ensures law { FramesBack }
 {}
 
-/// Law: for elements certified through an arity, the trees that no leading tree divides are the normal trees, independent
-/// and spanning modulo the ideal; each element has one normal form, and congruent elements have the same.
+/// Law: over an independent and spanning list of the normal trees each element has one normal form, the combination that the
+/// list gives, collected; and congruent elements have the same.
+pub fn normal_forms_by_lists()
+    ensures law { NormalFormsByLists }
+{}
+
+/// Law: for elements certified through an arity, the trees that no leading tree divides are the normal trees, and each list of
+/// these is independent and spanning modulo the ideal.
 pub fn normal_trees_listed()
     ensures law { NormalTreesListed }
 {}

@@ -10,7 +10,9 @@ pub mod Members
 pub mod Numberings
 pub mod OneForms
 pub mod PlacedIdeals
+pub mod ReducedSums
 pub mod SpelledTerms
 pub mod SymmetryRules
+pub mod TreeLists
 pub mod UseMembers
 pub mod Weights

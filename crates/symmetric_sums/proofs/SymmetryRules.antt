@@ -2,15 +2,10 @@
 use Rattle.std.proofs.Common.{◌≡◌, ◌≢◌, ℕ, zero, suc, ◌+◌, ◌-◌, ◌<◌, ◌≤◌, Some, None, List, [], ◌∷◌, length, map, refl, ap, ap₂, sym, ◌∙◌, subst, arith, inl, inr, ⊎_elim, lt-ltb, le-ltb}
 use Rattle.std.specs.List.{range_with_len}
 use Rattle.std.proofs.lemmas.Bool.Decides.{nat_tests}
-use native.Mathlib.Decide.{ℕ_discrete}
-use Rattle.labelled_trees.specs.Trees.{Tree, leaf, node, more, row, width}
-use Rattle.labelled_trees.specs.Leaves.{one_if, occurs_row}
-use Rattle.labelled_trees.specs.Labelled as labelled
-use Rattle.labelled_trees.proofs.Leaves.{one_if-yes, one_if-no, at_row}
+use Rattle.labelled_trees.specs.Trees.{Tree, leaf, node, more, row}
 use Rattle.operad_ideals.specs.Laws.{arity}
 use Rattle.operad_ideals.specs.Parts.{Part, Kind, symmetric, skew, free, Sign, Turns, InOnePart}
 use Rattle.operad_ideals.specs.Rules.{numbered, exchanged_at}
-use Rattle.operad_ideals.proofs.Exchanged.{numbered_within, width-exchanged, sum_row-exchanged, fits_row-exchanged}
 use Rattle.operad_ideals.proofs.Corollas.{numbered-numbered, exchanged-numbered, numbered-fits, exchanged-fits}
 use Rattle.operad_ideals.proofs.SortedLists.{tested}
 use Rattle.std.proofs.lemmas.List.Elements.{All-from_recursion}
