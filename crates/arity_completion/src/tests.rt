@@ -2,10 +2,10 @@ ghost use Rattle.std.specs.Prelude.{◌≡◌, ◌<◌, ℕ, IfOk};
 ghost use Rattle.std.specs.List.{All};
 ghost use Rattle.modular_sums.specs.Sums.{AllTerms};
 ghost use Rattle.shuffle_insertions.specs.ShuffleTrees.{IsShuffleTree};
-ghost use Rattle.shuffle_passage.specs.Passage.{over};
 ghost use Rattle.shuffle_transfer.specs.Labels.{inputs_of};
 ghost use Rattle.shuffle_trees.specs.LabelLists.{arity_in};
 ghost use Rattle.arity_completion.specs.Trails.{IsPlaced};
+ghost use Rattle.symmetric_trees.specs.Generators.{generators_of};
 
 use crate::{Start, entry_for};
 use cofactor_log::{Entry, Log};
@@ -83,7 +83,7 @@ fn lie_log(alloc: Global) -> Result<Log, Fail>
 
 // The shuffle form of a tree with three leaves.
 fn shuffle(alloc: Global, log: &Log, text: &str) -> Result<STree, Fail>
-    ensures shuffle { IfOk result (IsShuffleTree (inputs_of (over log.now.gens)) 3) }
+    ensures shuffle { IfOk result (IsShuffleTree (inputs_of (generators_of log.now.gens)) 3) }
 {
     let spelled = tree(alloc, text)?;
     let table = log.table();
@@ -99,7 +99,7 @@ fn shuffle(alloc: Global, log: &Log, text: &str) -> Result<STree, Fail>
 fn jacobi(alloc: Global, log: &Log) -> Result<Items<(u32, STree)>, Fail>
     requires field { log.now.field ≡ 101 }
     ensures residues { IfOk result (All (λ x. (0 < x.0) × (x.0 < log.now.field))) }
-    ensures trees { IfOk result (λ terms. AllTerms terms (IsShuffleTree (inputs_of (over log.now.gens)) 3)) }
+    ensures trees { IfOk result (λ terms. AllTerms terms (IsShuffleTree (inputs_of (generators_of log.now.gens)) 3)) }
 {
     let first = shuffle(alloc, log, "l(l(1,2),3)")?;
     let second = shuffle(alloc, log, "l(l(1,3),2)")?;
@@ -113,7 +113,7 @@ fn jacobi(alloc: Global, log: &Log) -> Result<Items<(u32, STree)>, Fail>
 
 // A shelf for the labels of the log.
 fn shelf_of(alloc: Global, log: &Log) -> Result<Shelf, Fail>
-    ensures labels { IfOk result (λ shelf. (l : ℕ) → arity_in shelf.labels l ≡ inputs_of (over log.now.gens) l) }
+    ensures labels { IfOk result (λ shelf. (l : ℕ) → arity_in shelf.labels l ≡ inputs_of (generators_of log.now.gens) l) }
     ensures most { IfOk result (λ shelf. shelf.most ≡ 3) }
 {
     let labels = labels_of(alloc, log.table())?;
@@ -122,7 +122,7 @@ fn shelf_of(alloc: Global, log: &Log) -> Result<Shelf, Fail>
 
 // Twice the only element is subtracted, at the whole of a tree.
 fn cofactor(alloc: Global, log: &Log, shelf: &mut Shelf) -> Result<Cofactor, Fail>
-    requires labels { (l : ℕ) → arity_in shelf.old.labels l ≡ inputs_of (over log.now.gens) l }
+    requires labels { (l : ℕ) → arity_in shelf.old.labels l ≡ inputs_of (generators_of log.now.gens) l }
     requires most { shelf.old.most ≡ 3 }
     ensures placed { IfOk result (IsPlaced shelf.new 1) }
     ensures labels { shelf.new.labels ≡ shelf.old.labels }
@@ -153,7 +153,7 @@ fn is_whole(item: &Instance, coef: u32, rule: Rule) -> bool {
 // The entry of the Jacobi identity as three times a relation less the step.
 fn entry(alloc: Global, log: &Log, shelf: &Shelf, step: Cofactor) -> Result<Entry, Fail>
     requires field { log.now.field ≡ 101 }
-    requires labels { (l : ℕ) → arity_in shelf.now.labels l ≡ inputs_of (over log.now.gens) l }
+    requires labels { (l : ℕ) → arity_in shelf.now.labels l ≡ inputs_of (generators_of log.now.gens) l }
     requires placed { IsPlaced shelf.now 1 step }
 {
     let start = Start {

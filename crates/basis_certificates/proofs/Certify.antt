@@ -46,10 +46,10 @@ Sum = List (ℕ × Tree ℕ)
 abbrev laws : (q : ℕ) → SumLaw (Tree ℕ) tree_discrete q
 laws q = sum_law (Tree ℕ) tree_discrete q
 
-module _ {C : Type 0} (Shown : List (ℕ × Tree ℕ) → C → Type 0) (p : Presentation) (sound : IsSound p) (proper : IsProper p) (cmp : Tree ℕ → Tree ℕ → Ordering) (order : IsTreeOrder (inputs_of p) cmp)
+module _ {C : Type 0} (Shown : List (ℕ × Tree ℕ) → C → Type 0) (p : Presentation) (sound : IsSound p) (proper : IsProper p) (cmp : Tree ℕ → Tree ℕ → Ordering) (order : IsTreeOrder (inputs_of p.generators) cmp)
     (elems : List (ElemEntry C)) (members : ShowMembers Shown p elems) (good : AreGood (IsGoodElem p cmp Shown) [] elems) where
   abbrev F : Tree ℕ → Tree ℕ
-  F = shuffle_form p
+  F = shuffle_form p.generators
 
   abbrev E : ElemEntry C → Element
   E = shuffle_element p cmp
@@ -110,7 +110,7 @@ module _ {C : Type 0} (Shown : List (ℕ × Tree ℕ) → C → Type 0) (p : Pre
     member = mem_map E fit.entry elems (nth_mem elems r.number fit.entry fit.named);
     tree = F r.tree;
     set = r.set;
-    valid = subst (λ k. IsShuffleTree (inputs_of p) k (F r.tree)) e (form_valid p r.tree fit.spelled);
+    valid = subst (λ k. IsShuffleTree (inputs_of p.generators) k (F r.tree)) e (form_valid p r.tree fit.spelled);
     place = fit.place;
   }
 
@@ -167,24 +167,24 @@ module _ {C : Type 0} (Shown : List (ℕ × Tree ℕ) → C → Type 0) (p : Pre
           moved (insert (frame_at first t)) (shuffled p (element_in (nth elems i))) ++ scale p.q (moved (insert (frame_at second t)) (shuffled p (element_in (nth elems j))))
 
       found : (i j : ℕ) (t : Tree ℕ) (first second : List ℕ) → IsCommonMultiple p N elems (named p i j t first second)
-          → Uses (leaf_count (symmetric_tree p t)) (λ u. cmp u (F (symmetric_tree p t)) ≡ Less) (s_sum i j (F (symmetric_tree p t)) first second)
+          → Uses (leaf_count (symmetric_tree p.generators t)) (λ u. cmp u (F (symmetric_tree p.generators t)) ≡ Less) (s_sum i j (F (symmetric_tree p.generators t)) first second)
       found i j t first second h =
           let row = every (named p i j t first second) h in
           subst (λ z. Uses (leaf_count z.tree) (λ u. cmp u (F z.tree) ≡ Less) (s_element_at p elems z)) row.2 (row_reduces row.0 row.1)
 
       -- the tree stands for the shuffle tree, so what is a sum of insertions below the one is one below the other
-      found_there : (i j m : ℕ) (t : Tree ℕ) (first second : List ℕ) → IsCommonMultiple p N elems (named p i j t first second) → leaf_count (symmetric_tree p t) ≡ m → F (symmetric_tree p t) ≡ t
+      found_there : (i j m : ℕ) (t : Tree ℕ) (first second : List ℕ) → IsCommonMultiple p N elems (named p i j t first second) → leaf_count (symmetric_tree p.generators t) ≡ m → F (symmetric_tree p.generators t) ≡ t
           → Uses m (λ u. cmp u t ≡ Less) (s_sum i j t first second)
       found_there i j m t first second h arity form =
           subst (λ k. Uses k (λ u. cmp u t ≡ Less) (s_sum i j t first second)) arity
-          (subst (λ z. Uses (leaf_count (symmetric_tree p t)) (λ u. cmp u z ≡ Less) (s_sum i j z first second)) form (found i j t first second h))
+          (subst (λ z. Uses (leaf_count (symmetric_tree p.generators t)) (λ u. cmp u z ≡ Less) (s_sum i j z first second)) form (found i j t first second h))
 
       at_multiple : (m : ℕ) → m ≤ N → (i j : ℕ) (x y : ElemEntry C) → nth elems i ≡ Some x → nth elems j ≡ Some y → i ≤ j → (t : Tree ℕ) (first second : List ℕ)
           → IsMultiple m (F x.lead) (F y.lead) t first second → ReducesBelow s m t (s_element p.q (E x) (E y) t first second)
       at_multiple m le i j x y ex ey ij t first second mult =
           let mx : Mem x elems = nth_mem elems i x ex in
           let my : Mem y elems = nth_mem elems j y ey in
-          let v : IsShuffleTree (inputs_of p) m t = multiple_valid p x.lead y.lead (entry_good x mx).lead.spelled (entry_good y my).lead.spelled m t first second mult in
+          let v : IsShuffleTree (inputs_of p.generators) m t = multiple_valid p x.lead y.lead (entry_good x mx).lead.spelled (entry_good y my).lead.spelled m t first second mult in
           let c : Uses m (λ u. cmp u t ≡ Less) (s_sum i j t first second)
           = found_there i j m t first second (common_of_form p N elems i j x y ex ey ij (entry_good x mx).lead.spelled (entry_good y my).lead.spelled m le t first second mult) (back_arity p m t v) (form_back p m t v) in
           of_uses m x y mx my t first second
@@ -239,7 +239,7 @@ module _ {C : Type 0} (Shown : List (ℕ × Tree ℕ) → C → Type 0) (p : Pre
             (entry_there (record { number = k.0; permutation = v }) (record { relation = r; named = k.1; has_terms = λ z. cc (e, z); few = le; permutes = ((all_orderings r.arity).2 v).0 o }))
 
 -- the elements of a certificate that holds through N are certified through N
-pub certify : {C : Type 0} (Shown : List (ℕ × Tree ℕ) → C → Type 0) (p : Presentation) → IsSound p → IsProper p → (cmp : Tree ℕ → Tree ℕ → Ordering) → IsTreeOrder (inputs_of p) cmp
+pub certify : {C : Type 0} (Shown : List (ℕ × Tree ℕ) → C → Type 0) (p : Presentation) → IsSound p → IsProper p → (cmp : Tree ℕ → Tree ℕ → Ordering) → IsTreeOrder (inputs_of p.generators) cmp
     → (N : ℕ) (cert : Certificate C) → ShowMembers Shown p cert.elems → CertificateHolds Shown p cmp N cert → IsCertified p cmp (shuffle_elements p cmp cert.elems) N
 certify Shown p sound proper cmp order N cert members holds = record {
   monic = monic Shown p sound proper cmp order cert.elems members holds.elems;

@@ -40,7 +40,7 @@ module _ {C : Type 0} (p : Presentation) (cmp : Tree ℕ → Tree ℕ → Orderi
       (dec_members (λ y. y.lead ≡ x.lead → ⊥) (λ y. dec_not (tree_discrete y.lead x.lead)) earlier)))
 
   pub dec_has_unit : Dec (HasUnit p x)
-  dec_has_unit = dec_alike p.q (coef tree_discrete (shuffled p x.element) (shuffle_form p x.lead)) 1
+  dec_has_unit = dec_alike p.q (coef tree_discrete (shuffled p x.element) (shuffle_form p.generators x.lead)) 1
 
 -- ---- reductions
 
@@ -51,12 +51,12 @@ module _ {C : Type 0} (p : Presentation) (elems : List (ElemEntry C)) where
       go : ((x : ElemEntry C) × (nth elems r.number ≡ Some x)) ⊎ ((x : ElemEntry C) → nth elems r.number ≡ Some x → ⊥) → Dec (IsFit p elems r)
       go (inr n) = no (λ h. n h.entry h.named)
       go (inl x) = dec_by (λ h. record { entry = x.0; named = x.1; spelled = h.0; place = h.1 })
-          (λ h. (h.spelled, let e : h.entry ≡ x.0 = cc (h.named, x.1) in subst (λ y. IsPlace (shuffle_form p r.tree) r.set (shuffle_form p y.lead)) e h.place))
-          (dec_both (dec_spelled p r.tree) (dec_place (shuffle_form p r.tree) r.set (shuffle_form p x.0.lead)))
+          (λ h. (h.spelled, let e : h.entry ≡ x.0 = cc (h.named, x.1) in subst (λ y. IsPlace (shuffle_form p.generators r.tree) r.set (shuffle_form p.generators y.lead)) e h.place))
+          (dec_both (dec_spelled p r.tree) (dec_place (shuffle_form p.generators r.tree) r.set (shuffle_form p.generators x.0.lead)))
 
 pub dec_below : (p : Presentation) (cmp : Tree ℕ → Tree ℕ → Ordering) (t : Tree ℕ) (r : Red) → Dec (IsBelow p cmp t r)
 dec_below p cmp t r = dec_by (λ h. record { smaller = h.0; one_arity = h.1 }) (λ h. (h.smaller, h.one_arity))
-    (dec_both (dec_less (cmp (shuffle_form p r.tree) (shuffle_form p t))) (ℕ_discrete (leaf_count r.tree) (leaf_count t)))
+    (dec_both (dec_less (cmp (shuffle_form p.generators r.tree) (shuffle_form p.generators t))) (ℕ_discrete (leaf_count r.tree) (leaf_count t)))
 
 -- ---- small common multiples
 
@@ -78,7 +78,7 @@ multiple_discrete m k = same_multiple m k (ℕ_discrete m.one k.one) (ℕ_discre
 
 module _ {C : Type 0} (p : Presentation) (N : ℕ) (elems : List (ElemEntry C)) where
   abbrev F : Tree ℕ → Tree ℕ
-  F = shuffle_form p
+  F = shuffle_form p.generators
 
   pub dec_common : (m : Multiple) → Dec (IsCommonMultiple p N elems m)
   dec_common m = go (look_up elems m.one) (look_up elems m.other)
@@ -105,10 +105,10 @@ module _ {C : Type 0} (p : Presentation) (N : ℕ) (elems : List (ElemEntry C)) 
   -- the leading tree of an entry in shuffle form
   abbrev form_in : Option (ElemEntry C) → Tree ℕ
   form_in None = leaf 0
-  form_in (Some x) = shuffle_form p x.lead
+  form_in (Some x) = shuffle_form p.generators x.lead
 
   abbrev named : ℕ → ℕ → Tree ℕ × List ℕ × List ℕ → Multiple
-  named i j t = record { one = i; other = j; tree = symmetric_tree p t.0; first = t.1; second = t.2 }
+  named i j t = record { one = i; other = j; tree = symmetric_tree p.generators t.0; first = t.1; second = t.2 }
 
   abbrev numbers : List ℕ
   numbers = upto (length elems)

@@ -64,7 +64,7 @@ module _ {C : Type 0} (p : Presentation) where
   member_of (f ∷ gs) (y ∷ xs) h x (inl e) = (f, inl refl, subst (IsElemOf p f) (sym e) h.0)
   member_of (f ∷ gs) (y ∷ xs) h x (inr m) = let k = member_of gs xs h.1 x m in (k.0, inr k.1, k.2)
 
-  pub leads_of : (elements : List Element) (elems : List (ElemEntry C)) → AreElemsOf p elements elems → map (λ x. x.lead) elems ≡ map (λ g. symmetric_tree p g.lead) elements
+  pub leads_of : (elements : List Element) (elems : List (ElemEntry C)) → AreElemsOf p elements elems → map (λ x. x.lead) elems ≡ map (λ g. symmetric_tree p.generators g.lead) elements
   leads_of [] [] h = refl
   leads_of [] (y ∷ xs) h = absurd h
   leads_of (f ∷ gs) [] h = absurd h
@@ -76,12 +76,12 @@ module _ {C : Type 0} (p : Presentation) (cmp : Tree ℕ → Tree ℕ → Orderi
   s = setting p cmp elements
 
   abbrev F : Tree ℕ → Tree ℕ
-  F = shuffle_form p
+  F = shuffle_form p.generators
 
   abbrev T : Tree ℕ → Tree ℕ
-  T = symmetric_tree p
+  T = symmetric_tree p.generators
 
-  pub lead_valid : (g : Element) → Mem g elements → IsShuffleTree (inputs_of p) g.arity g.lead
+  pub lead_valid : (g : Element) → Mem g elements → IsShuffleTree (inputs_of p.generators) g.arity g.lead
   lead_valid g m = (monic.each g m).lead_valid
 
   -- the shuffle form of an entry's tree is the leading tree
@@ -91,7 +91,7 @@ module _ {C : Type 0} (p : Presentation) (cmp : Tree ℕ → Tree ℕ → Orderi
   -- ---- reductions
 
   -- the element of an entry inserted in the tree of a shuffle tree is the element in shuffle form inserted there
-  same_insertion : (n : ℕ) (k : ℕ) (g : Element) → nth elements k ≡ Some g → (t : Tree ℕ) → IsShuffleTree (inputs_of p) n t → (u : Tree ℕ) → u ≡ T t → (set : List ℕ)
+  same_insertion : (n : ℕ) (k : ℕ) (g : Element) → nth elements k ≡ Some g → (t : Tree ℕ) → IsShuffleTree (inputs_of p.generators) n t → (u : Tree ℕ) → u ≡ T t → (set : List ℕ)
       → Same tree_discrete p.q (insertion_of p elems k u set) (inserted g t set)
   same_insertion n k g e t v u is set =
       let x = entry_of p elements elems are k g e in
@@ -136,8 +136,8 @@ module _ {C : Type 0} (p : Presentation) (cmp : Tree ℕ → Tree ℕ → Orderi
   -- ---- rows
 
   module _ (N : ℕ) where
-    tree_valid : (m : Multiple) (k : IsMultipleOfLeads p cmp elements N m) → IsShuffleTree (inputs_of p) k.arity k.tree
-    tree_valid m k = multiples_fit (inputs_of p) k.one.arity k.other.arity k.arity k.one.lead k.other.lead k.tree m.first m.second
+    tree_valid : (m : Multiple) (k : IsMultipleOfLeads p cmp elements N m) → IsShuffleTree (inputs_of p.generators) k.arity k.tree
+    tree_valid m k = multiples_fit (inputs_of p.generators) k.one.arity k.other.arity k.arity k.one.lead k.other.lead k.tree m.first m.second
         (lead_valid k.one (nth_mem elements m.one k.one k.one_named)) (lead_valid k.other (nth_mem elements m.other k.other k.other_named)) k.multiple
 
     multiple_tree : (m : Multiple) (k : IsMultipleOfLeads p cmp elements N m) → F m.tree ≡ k.tree

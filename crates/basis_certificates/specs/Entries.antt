@@ -29,13 +29,13 @@ module _ (p : Presentation) where
 
   -- the shuffle form of the element, inserted at the place in the shuffle form of the tree: each of its trees stands there in turn
   abbrev pub inserted_at : List (ℕ × Tree ℕ) → Tree ℕ → List ℕ → List (ℕ × Tree ℕ)
-  inserted_at e t set = moved (insert (frame_at set (shuffle_form p t))) (shuffled p e)
+  inserted_at e t set = moved (insert (frame_at set (shuffle_form p.generators t))) (shuffled p e)
 
 -- ---- entries for elements
 
 -- The leading tree has coefficient 1.
 abbrev pub HasUnit : {C : Type 0} → Presentation → ElemEntry C → Type 0
-HasUnit p x = Alike p.q (coef tree_discrete (shuffled p x.element) (shuffle_form p x.lead)) 1
+HasUnit p x = Alike p.q (coef tree_discrete (shuffled p x.element) (shuffle_form p.generators x.lead)) 1
 
 module _ {C : Type 0} (p : Presentation) (cmp : Tree ℕ → Tree ℕ → Ordering) where
   -- The tree of the entry is a sorted spelling, it is the leading tree of the element, and it leads no earlier entry.
@@ -61,7 +61,7 @@ module _ {C : Type 0} (p : Presentation) (elems : List (ElemEntry C)) where
     pub entry : ElemEntry C
     pub named : nth elems r.number ≡ Some entry
     pub spelled : IsSpelled p r.tree
-    pub place : IsPlace (shuffle_form p r.tree) r.set (shuffle_form p entry.lead)
+    pub place : IsPlace (shuffle_form p.generators r.tree) r.set (shuffle_form p.generators entry.lead)
 
   -- the element of the entry with this number, inserted at the place
   abbrev pub insertion_of : ℕ → Tree ℕ → List ℕ → List (ℕ × Tree ℕ)
@@ -89,7 +89,7 @@ module _ {C : Type 0} (p : Presentation) (N : ℕ) (elems : List (ElemEntry C)) 
     pub in_order : m.one ≤ m.other
     pub spelled : IsSpelled p m.tree
     pub few : leaf_count m.tree ≤ N
-    pub multiple : IsMultiple (leaf_count m.tree) (shuffle_form p one.lead) (shuffle_form p other.lead) (shuffle_form p m.tree) m.first m.second
+    pub multiple : IsMultiple (leaf_count m.tree) (shuffle_form p.generators one.lead) (shuffle_form p.generators other.lead) (shuffle_form p.generators m.tree) m.first m.second
 
   -- Each small common multiple of arity at most N has an entry.
   abbrev pub HasEveryRow : List RowEntry → Type 0
@@ -97,7 +97,7 @@ module _ {C : Type 0} (p : Presentation) (N : ℕ) (elems : List (ElemEntry C)) 
 
 -- The tree of the reduction is smaller, and has the same arity.
 pub record IsBelow (p : Presentation) (cmp : Tree ℕ → Tree ℕ → Ordering) (t : Tree ℕ) (r : Red) : Type 0 where
-  pub smaller : cmp (shuffle_form p r.tree) (shuffle_form p t) ≡ Less
+  pub smaller : cmp (shuffle_form p.generators r.tree) (shuffle_form p.generators t) ≡ Less
   pub one_arity : leaf_count r.tree ≡ leaf_count t
 
 -- The reduction is fit, and its tree is below t.

@@ -20,7 +20,7 @@ use Rattle.basis_certificates.specs.Entries.{IsRelabelling, HasEveryRelabel}
 
 -- the entry is for the element g: it has the trees for the leading tree and, up to sameness, for the whole element
 pub record IsElemOf {C : Type 0} (p : Presentation) (g : Element) (x : ElemEntry C) : Type 0 where
-  pub lead : x.lead ≡ symmetric_tree p g.lead
+  pub lead : x.lead ≡ symmetric_tree p.generators g.lead
   pub labelled : AllTerms x.element (IsLabelled (arity_of p) g.arity)
   pub element : Same tree_discrete p.q (shuffled p x.element) (terms g)
 
@@ -36,7 +36,7 @@ module _ (p : Presentation) (cmp : Tree ℕ → Tree ℕ → Ordering) (elements
   pub record IsRedOf {n : ℕ} (u : ℕ × Insertion (setting p cmp elements) n) (r : Red) : Type 0 where
     pub coefficient : Alike p.q r.coefficient u.0
     pub number : nth elements r.number ≡ Some u.1.of
-    pub tree : r.tree ≡ symmetric_tree p u.1.tree
+    pub tree : r.tree ≡ symmetric_tree p.generators u.1.tree
     pub set : r.set ≡ u.1.set
 
   -- the reductions are for a sum of numbers times insertions, one for each, in their order
@@ -56,7 +56,7 @@ module _ (p : Presentation) (cmp : Tree ℕ → Tree ℕ → Ordering) (elements
     pub arity : ℕ
     pub few : arity ≤ N
     pub tree : Tree ℕ
-    pub tree_is : m.tree ≡ symmetric_tree p tree
+    pub tree_is : m.tree ≡ symmetric_tree p.generators tree
     pub multiple : IsMultiple arity one.lead other.lead tree m.first m.second
 
   -- the entry is for a small common multiple at which the S-element reduces, with the reductions for that

@@ -68,11 +68,11 @@ shows e h same = record {
 -- ---- the certificate
 
 abbrev pub LieCertificate : Type 0
-LieCertificate = (cert : Certificate (List Step)) × IsWritten lie (compare lie by_path) (jacobi ∷ []) 4 cert
+LieCertificate = (cert : Certificate (List Step)) × IsWritten lie (compare lie.generators by_path) (jacobi ∷ []) 4 cert
     × ((x : ElemEntry (List Step)) → Mem x cert.elems → (x.cofactors ≡ step_one ∷ []))
 
 pub lie_certificate : LieCertificate
-lie_certificate = let k = has_certificate (λ g. step_one ∷ []) lie (compare lie by_path) (jacobi ∷ []) 4 certified in (k.0, k.1, λ x m. (k.2 x m).2)
+lie_certificate = let k = has_certificate (λ g. step_one ∷ []) lie (compare lie.generators by_path) (jacobi ∷ []) 4 certified in (k.0, k.1, λ x m. (k.2 x m).2)
 
 one_shown : (x : ElemEntry (List Step)) → Mem x lie_certificate.0.elems → BlockShows lie_document x.element x.cofactors
 one_shown x m =

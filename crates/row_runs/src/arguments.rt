@@ -1,7 +1,7 @@
 ghost use Rattle.std.specs.Prelude.{ℕ, IfOk};
 ghost use Rattle.shuffle_insertions.specs.ShuffleTrees.{IsShuffleTree};
-ghost use Rattle.shuffle_passage.specs.Passage.{over};
 ghost use Rattle.shuffle_transfer.specs.Labels.{inputs_of};
+ghost use Rattle.symmetric_trees.specs.Generators.{generators_of};
 
 use crate::fail::RowFail;
 use presentation_text::{AskKind, Document};
@@ -32,7 +32,7 @@ pub fn tree(document: &Document, at: usize) -> Result<&Tree, RowFail> {
 
 /// The shuffle form of a tree; `Refused` where its leaves aren't 1 to some number.
 pub fn form(alloc: Global, table: &GenTable, tree: &Tree) -> Result<STree, RowFail>
-    ensures shuffle { IfOk result (λ form. (n : ℕ) × IsShuffleTree (inputs_of (over table.now)) n form) }
+    ensures shuffle { IfOk result (λ form. (n : ℕ) × IsShuffleTree (inputs_of (generators_of table.now)) n form) }
 {
     match arity_of(tree, table) {
         Some(_) => {
@@ -45,7 +45,7 @@ pub fn form(alloc: Global, table: &GenTable, tree: &Tree) -> Result<STree, RowFa
 
 /// The shuffle form of the tree of the question at a place.
 pub fn shuffle_tree(alloc: Global, document: &Document, at: usize) -> Result<STree, RowFail>
-    ensures shuffle { IfOk result (λ form. (n : ℕ) × IsShuffleTree (inputs_of (over document.now.gens)) n form) }
+    ensures shuffle { IfOk result (λ form. (n : ℕ) × IsShuffleTree (inputs_of (generators_of document.now.gens)) n form) }
 {
     form(alloc, &document.gens, tree(document, at)?)
 }

@@ -144,7 +144,7 @@ chosen_digits l v h (begin x {r = r} {v = w} p k) =
 
 -- the generator and the word of the label with a number
 pub label_at : (p : Presentation) (g : ℕ) (ds : List ℕ) → g < length p.generators → AreDigits (bounds_of (parts p g)) 0 ds
-    → letter p (first_label p.generators g + word_number (bounds_of (parts p g)) 0 ds) ≡ lettered g (chosen 0 (upto (arity_of p g)) ds)
+    → letter p.generators (first_label p.generators g + word_number (bounds_of (parts p g)) 0 ds) ≡ lettered g (chosen 0 (upto (arity_of p g)) ds)
 label_at p g ds l h =
     let k = word_number (bounds_of (parts p g)) 0 ds in
     let none = lettered (length p.generators) [] in
@@ -155,14 +155,14 @@ label_at p g ds l h =
     ∙ word_at (bounds_of (parts p g)) 0 (upto (arity_of p g)) ds [] (length-upto (arity_of p g) ∙ sym (length-bounds (parts p g))) h)
 
 pub label_of_word : (p : Presentation) (g : ℕ) (w : List ℕ) → g < length p.generators → IsOrdering (arity_of p g) w → parts_rise (parts p g) w ≡ true
-    → label p g w ≡ first_label p.generators g + word_number (bounds_of (parts p g)) 0 (digits w)
+    → label p.generators g w ≡ first_label p.generators g + word_number (bounds_of (parts p g)) 0 (digits w)
 label_of_word p g w l o h =
     let ds = word_digits (parts p g) w o.length_is h in
     let at = label_at p g (digits w) l ds in
     let n = first_label p.generators g + word_number (bounds_of (parts p g)) 0 (digits w) in
-    let own : (gen p n ≡ g) × (word p n ≡ w) = (ap (λ x. x.gen) at, ap (λ x. x.word) at ∙ chosen_digits (upto (arity_of p g)) w (upto_rises (arity_of p g)) (ordering_permutes (arity_of p g) w o)) in
+    let own : (gen p.generators n ≡ g) × (word p.generators n ≡ w) = (ap (λ x. x.gen) at, ap (λ x. x.word) at ∙ chosen_digits (upto (arity_of p g)) w (upto_rises (arity_of p g)) (ordering_permutes (arity_of p g) w o)) in
     let law = ((labels_are_words p).of_label n (number_below 0 p.generators g (word_number (bounds_of (parts p g)) 0 (digits w)) l (word_number-below (bounds_of (parts p g)) 0 (digits w) ds))).1 in
-    sym (ap₂ (label p) own.0 own.1) ∙ law
+    sym (ap₂ (label p.generators) own.0 own.1) ∙ law
 
 -- ---- the label of keys
 
@@ -188,7 +188,7 @@ sorted_ranks ps ks =
 
 -- The label of a generator with the ranks of different keys, from the keys sorted within its parts.
 pub label_of_keys : (p : Presentation) (g : ℕ) (ks : List ℕ) → g < length p.generators → length ks ≡ arity_of p g → Apart (λ n. n) ks
-    → label p g (ranks ks) ≡ first_label p.generators g + word_number (bounds_of (parts p g)) 0 (digits (sort_parts (λ n. n) (parts p g) ks))
+    → label p.generators g (ranks ks) ≡ first_label p.generators g + word_number (bounds_of (parts p g)) 0 (digits (sort_parts (λ n. n) (parts p g) ks))
 label_of_keys p g ks l e apart =
     let ps = parts p g in
     let own : IsOrdering (length ks) (ranks ks) = subst (λ v. IsOrdering (length ks) (ranks v)) (map-id ks) (ranks_ordering (λ n. n) ks apart) in
@@ -243,10 +243,10 @@ digits_number (b ∷ bs) below n h =
 
 -- The generator and the word of a label, from its number among the words of the generator.
 pub letter_of_number : (p : Presentation) (g n : ℕ) → g < length p.generators → n < endings (bounds_of (parts p g)) 0
-    → (gen p (first_label p.generators g + n) ≡ g) × (word p (first_label p.generators g + n) ≡ chosen 0 (upto (arity_of p g)) (digits_of (bounds_of (parts p g)) 0 n))
+    → (gen p.generators (first_label p.generators g + n) ≡ g) × (word p.generators (first_label p.generators g + n) ≡ chosen 0 (upto (arity_of p g)) (digits_of (bounds_of (parts p g)) 0 n))
 letter_of_number p g n l h =
     let k = digits_number (bounds_of (parts p g)) 0 n h in
-    let at = ap (λ m. letter p (first_label p.generators g + m)) (sym k.1) ∙ label_at p g (digits_of (bounds_of (parts p g)) 0 n) l k.0 in
+    let at = ap (λ m. letter p.generators (first_label p.generators g + m)) (sym k.1) ∙ label_at p g (digits_of (bounds_of (parts p g)) 0 n) l k.0 in
     (ap (λ x. x.gen) at, ap (λ x. x.word) at)
 
 map-without : {X Y : Type 0} (f : X → Y) (l : List X) (d : ℕ) → map f (without l d) ≡ without (map f l) d

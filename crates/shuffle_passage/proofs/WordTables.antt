@@ -107,12 +107,12 @@ first_label-most gens (suc i) table l =
 
 -- the generator of a label that lies among those of its words
 pub gen_is : (gens : List Generator) (i l : ℕ) → i < length gens → first_label (generators_of gens) i ≤ l → l < first_label (generators_of gens) i + endings (bounds_of (parts_at gens i)) 0
-    → i ≡ gen (over gens) l
+    → i ≡ gen (generators_of gens) l
 gen_is gens i l in_range low high =
     let first = first_label (generators_of gens) i in
     let back : first + (l - first) ≡ l = omega (arith, low) in
     let k = letter_of_number (over gens) i (l - first) (let n = length-generators gens in omega (arith, n, in_range)) (omega (arith, low, high)) in
-    sym k.0 ∙ ap (gen (over gens)) back
+    sym k.0 ∙ ap (gen (generators_of gens)) back
 
 -- the list of words so far, with those of one generator more
 pub words-more : (words after whole : List Words) (first count : ℕ) (bounds : List Bool) (g : Generator) (gens rest : List Generator) → gens ≡ g ∷ rest → bounds ≡ bounds_in g → count ≡ endings bounds 0

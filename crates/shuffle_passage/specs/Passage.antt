@@ -16,15 +16,15 @@ over generators = record { q = 0; generators = generators_of generators; relatio
 
 -- The list has the arity of each label of a table: as many labels as there are words of generators, numbered as these are.
 pub record AreLabelsOf (generators : List Generator) (arities : List ℕ) : Type 0 where
-  pub count : length arities ≡ labels (over generators)
-  pub arities_are : (l : ℕ) → arity_in arities l ≡ inputs_of (over generators) l
+  pub count : length arities ≡ labels (over generators).generators
+  pub arities_are : (l : ℕ) → arity_in arities l ≡ inputs_of (over generators).generators l
 
 -- The tree s is the shuffle form of the sorted spelling of t, with the sign of that spelling; the way back gives the sorted spelling.
 pub record IsFormOf (generators : List Generator) (t : Tree ℕ) (sign : Sign) (s : Tree ℕ) : Type 0 where
   pub sorted : Tree ℕ
   pub spelling : IsSpelling generators t sign sorted
-  pub form : s ≡ shuffle_form (over generators) sorted
-  pub back : symmetric_tree (over generators) s ≡ sorted
+  pub form : s ≡ shuffle_form (over generators).generators sorted
+  pub back : symmetric_tree (over generators).generators s ≡ sorted
 
 -- A labelled tree has one shuffle form, with one sign.
 abbrev pub OneShuffleForm : Type 0

@@ -143,10 +143,10 @@ pub fn words_of(alloc: Global, table: &GenTable) -> Result<Items<Words>, AllocEr
 // The index of the generator of a label.
 pub fn generator_of(table: &GenTable, words: &[Words], label: u16) -> u16
     requires words { words.now ≡ words_from 0 table.now }
-    requires label { label < labels (over table.now) }
+    requires label { label < labels (generators_of table.now) }
     ensures held { result < length table.now }
     ensures few { length (spec.bounds_of (parts_at table.now result)) ≤ 6 }
-    ensures generator { result ≡ gen (over table.now) label }
+    ensures generator { result ≡ gen (generators_of table.now) label }
     ensures first { spec.first_label (generators_of table.now) result ≤ label }
     ensures end { label < spec.first_label (generators_of table.now) result + spec.endings (spec.bounds_of (parts_at table.now result)) 0 }
 {

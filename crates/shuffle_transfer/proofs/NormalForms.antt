@@ -30,7 +30,7 @@ module _ (c : Given) (n : ℕ) (le : n ≤ c.most) where
   In = InIdeal c.presentation n
 
   abbrev list : List (Tree ℕ)
-  list = normal_list c.presentation c.elements n
+  list = normal_list c.presentation.generators c.elements n
 
   abbrev Form : E → E → Type 0
   Form = IsNormalForm c.presentation n list
@@ -61,7 +61,7 @@ module _ (c : Given) (n : ℕ) (le : n ≤ c.most) where
   gone : (e : E) → In (e ++ scale q e)
   gone e = ideal-same c.presentation n (e ++ scale q e) [] (same_gone tree_discrete q e) (ideal_zero c.presentation n)
 
-  pub law : 0 < c.presentation.q → NormalLaw c.presentation c.compare n (normal_list c.presentation c.elements n)
+  pub law : 0 < c.presentation.q → NormalLaw c.presentation c.compare n (normal_list c.presentation.generators c.elements n)
   law prime = record {
     normal = λ t. (λ m. of_normal c n le t (listed_normal c n le t m), λ h. normal_listed c n le t (to_normal c n le t prime h));
     independent = independent_list;
@@ -73,4 +73,4 @@ module _ (c : Given) (n : ℕ) (le : n ≤ c.most) where
 
 pub normal_trees_listed : NormalTreesListed
 normal_trees_listed p sound wide prime order elements N certified n le =
-    law record { presentation = p; sound = sound; wide = wide; compare = compare p order; order = order_of p order; elements = elements; most = N; certified = certified } n le prime
+    law record { presentation = p; sound = sound; wide = wide; compare = compare p.generators order; order = order_of p.generators order; elements = elements; most = N; certified = certified } n le prime

@@ -24,5 +24,5 @@ pub record NormalLaw (p : Presentation) (cmp : Tree ℕ → Tree ℕ → Orderin
 
 -- Elements that are certified through N for one of the four orders: in each arity up to N their listing has these properties.
 abbrev pub NormalTreesListed : Type 0
-NormalTreesListed = (p : Presentation) → IsSound p → IsWide p → 0 < p.q → (order : OneOrder) (elements : List Element) (N : ℕ) → IsCertified p (compare p order) elements N
-    → (n : ℕ) → n ≤ N → NormalLaw p (compare p order) n (normal_list p elements n)
+NormalTreesListed = (p : Presentation) → IsSound p → IsWide p → 0 < p.q → (order : OneOrder) (elements : List Element) (N : ℕ) → IsCertified p (compare p.generators order) elements N
+    → (n : ℕ) → n ≤ N → NormalLaw p (compare p.generators order) n (normal_list p.generators elements n)

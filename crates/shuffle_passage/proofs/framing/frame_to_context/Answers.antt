@@ -10,12 +10,12 @@ use Rattle.shuffle_passage.proofs.framing.frame_to_context.Goals as goal
 pub returns-clause-hole : goal.returns-clause-hole
 returns-clause-hole c =
     let p = over c.args.table.now in
-    ap (occurs 0) (c.in_ok-context.ensures.tree ∙ ap (symmetric_tree p) c.context.ensures.context)
-    ∙ (frames_back p c.args.frame.now (leaf 0) c.requires.context tt).0 ∙ c.context.ensures.valid.context
+    ap (occurs 0) (c.in_ok-context.ensures.tree ∙ ap (symmetric_tree p.generators) c.context.ensures.context)
+    ∙ (frames_back p.generators c.args.frame.now (leaf 0) c.requires.context tt).0 ∙ c.context.ensures.valid.context
 
 pub returns-clause-filled : goal.returns-clause-filled
 returns-clause-filled c x h =
     let p = over c.args.table.now in
-    let context = c.in_ok-context.ensures.tree ∙ ap (symmetric_tree p) c.context.ensures.context in
-    let inputs = c.in_ok-inputs.ensures ∙ ap (map (symmetric_tree p)) c.inputs.ensures.inputs in
-    ap₂ (λ d us. placed d us (symmetric_tree p x)) context inputs ∙ (frames_back p c.args.frame.now x c.requires.context h).1
+    let context = c.in_ok-context.ensures.tree ∙ ap (symmetric_tree p.generators) c.context.ensures.context in
+    let inputs = c.in_ok-inputs.ensures ∙ ap (map (symmetric_tree p.generators)) c.inputs.ensures.inputs in
+    ap₂ (λ d us. placed d us (symmetric_tree p.generators x)) context inputs ∙ (frames_back p.generators c.args.frame.now x c.requires.context h).1
