@@ -74,10 +74,10 @@ module _ (m : ℕ) (generators : List Generator) (rels earlier : List (List Term
     is_frame : frame_at c.place (tree_at shelf.trees c.host) ≡ frame_at x.1.set x.1.tree
     is_frame = ap₂ frame_at of.place of.host
 
-    is_placed : moved (in_place item) (element item.rule) ≡ moved (placed_back p (frame_at x.1.set x.1.tree)) (element item.rule)
+    is_placed : moved (in_place item) (element item.rule) ≡ moved (placed_back p.generators (frame_at x.1.set x.1.tree)) (element item.rule)
     is_placed =
         ap₂ (λ (k : Tree ℕ) (inputs : List (Tree ℕ)). moved (placed k inputs) (element item.rule)) u.context u.inputs
-        ∙ ap (λ (f : Frame). moved (placed_back p f) (element item.rule)) is_frame
+        ∙ ap (λ (f : Frame). moved (placed_back p.generators f) (element item.rule)) is_frame
 
     pub step_stands : StandsFor p n (moved (in_place item) (element item.rule)) (value_of x.1)
     step_stands = subst (λ l. StandsFor p n l (value_of x.1)) (sym is_placed) (insertions_law p compare elements order monic n x.1 (λ _. element item.rule) stands)

@@ -148,8 +148,8 @@ module _ (n : ℕ) (t : Tree ℕ) (set : List ℕ) (h : IsHost n t set) where
   pub host_valid : IsShuffleTree (inputs_of lie.generators) n t
   host_valid = (listed (labels lie.generators) (inputs_of lie.generators) (are_labels lie wide) n).0.only t (has_by_mem tree_discrete (all_trees (labels lie.generators) (inputs_of lie.generators) n) t h.among)
 
-  host_spelled : IsSpelled lie t
-  host_spelled = subst (IsSpelled lie) h.back (back_spelled lie n t host_valid)
+  host_spelled : IsSpelled lie.generators t
+  host_spelled = subst (IsSpelled lie.generators) h.back (back_spelled lie n t host_valid)
 
   host_place : IsPlace (shuffle_form lie.generators t) set t1
   host_place = subst (λ u. IsPlace u set t1) (sym h.form) (((places_listed t1 t tt).0 set).0 (has_by_mem word_discrete (places t1 1 t) set h.place))
@@ -158,7 +158,7 @@ pub form_t1 : shuffle_form lie.generators t1 ≡ t1
 unfolding word_discrete same_cons letter_discrete same_letter ℕ_discrete
 form_t1 = refl
 
-pub fit : (n c : ℕ) (t : Tree ℕ) (set : List ℕ) → IsHost n t set → IsFit lie elems (red c t set)
+pub fit : (n c : ℕ) (t : Tree ℕ) (set : List ℕ) → IsHost n t set → IsFit lie.generators elems (red c t set)
 fit n c t set h = record { entry = elem; named = refl; spelled = host_spelled n t set h; place = subst (IsPlace (shuffle_form lie.generators t) set) (sym form_t1) (host_place n t set h) }
 
 pub host_t1 : IsHost 3 t1 top_two
@@ -185,7 +185,7 @@ hosts = (
 -- ---- the element
 
 labelled_at : (n : ℕ) (t : Tree ℕ) → has_by tree_discrete (all_trees (labels lie.generators) (inputs_of lie.generators) n) t ≡ true → symmetric_tree lie.generators t ≡ t → leaf_count t ≡ n → IsLabelled (arity_of lie) n t
-labelled_at n t h e k = subst (λ m. IsLabelled (arity_of lie) m t) k (subst (IsSpelled lie) e (back_spelled lie n t
+labelled_at n t h e k = subst (λ m. IsLabelled (arity_of lie) m t) k (subst (IsSpelled lie.generators) e (back_spelled lie n t
     ((listed (labels lie.generators) (inputs_of lie.generators) (are_labels lie wide) n).0.only t (has_by_mem tree_discrete (all_trees (labels lie.generators) (inputs_of lie.generators) n) t h)))).labelled
 
 pub element_labelled : AllTerms elem.element (IsLabelled (arity_of lie) 3)
@@ -225,10 +225,10 @@ good_elem = record { lead = has_lead; unit = ap (λ k. k % 101) unit_of; shown =
 
 -- ---- the row
 
-row_red : (c : ℕ) (t : Tree ℕ) (set : List ℕ) → IsHost 4 t set → cmp (shuffle_form lie.generators t) (shuffle_form lie.generators comb) ≡ Less → leaf_count t ≡ 4 → IsRowRed lie cmp elems comb (red c t set)
+row_red : (c : ℕ) (t : Tree ℕ) (set : List ℕ) → IsHost 4 t set → cmp (shuffle_form lie.generators t) (shuffle_form lie.generators comb) ≡ Less → leaf_count t ≡ 4 → IsRowRed lie.generators cmp elems comb (red c t set)
 row_red c t set h less k = record { fit = fit 4 c t set h; below = record { smaller = less; one_arity = k } }
 
-row_reds : AllByRecursion (IsRowRed lie cmp elems comb) row.reds
+row_reds : AllByRecursion (IsRowRed lie.generators cmp elems comb) row.reds
 unfolding word_discrete same_cons letter_discrete same_letter ℕ_discrete
 row_reds = (
   row_red 100 u1 lower_two hosts.0 refl refl,
@@ -248,7 +248,7 @@ row_adds_up : Same tree_discrete 100 (s_element_at lie elems the_multiple) (sum_
 unfolding word_discrete same_cons letter_discrete same_letter ℕ_discrete tree_discrete tree_discrete_by row_discrete_by same_leaf same_node same_more coef scale
 row_adds_up = same_if_agree tree_discrete 100 (s_element_at lie elems the_multiple) (sum_of lie elems row.reds) refl
 
-pub is_common : IsCommonMultiple lie 4 elems the_multiple
+pub is_common : IsCommonMultiple lie.generators 4 elems the_multiple
 is_common = record {
   one = elem;
   other = elem;
@@ -353,7 +353,7 @@ only_entry k x e =
     let f : Some elem ≡ Some x = subst (λ i. nth elems i ≡ Some x) one e in
     (one, cc f)
 
-only_multiple : (m : Multiple) → IsCommonMultiple lie 4 elems m → the_multiple ≡ m
+only_multiple : (m : Multiple) → IsCommonMultiple lie.generators 4 elems m → the_multiple ≡ m
 only_multiple m h =
     let x = only_entry m.one h.one h.one_named in
     let y = only_entry m.other h.other h.other_named in
@@ -371,7 +371,7 @@ only_multiple m h =
     ∙ ap (λ z. record { one = m.one; other = m.other; tree = m.tree; first = z; second = lower_two }) (sym (ap (λ (z : Triple). z.1) t))
     ∙ ap (λ z. record { one = m.one; other = m.other; tree = m.tree; first = m.first; second = z }) (sym (ap (λ (z : Triple). z.2) t))
 
-pub every_row : HasEveryRow lie 4 elems (row ∷ [])
+pub every_row : HasEveryRow lie.generators 4 elems (row ∷ [])
 every_row m h = (row, inl refl, only_multiple m h)
 
 only_relation : (k : ℕ) (r : Relation) → nth lie.relations k ≡ Some r → (k ≡ 1) × (r ≡ jacobi_relation)

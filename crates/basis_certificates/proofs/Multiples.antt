@@ -18,15 +18,15 @@ module _ (p : Presentation) where
   abbrev pub named : ℕ → ℕ → Tree ℕ → List ℕ → List ℕ → Multiple
   named i j t first second = record { one = i; other = j; tree = symmetric_tree p.generators t; first = first; second = second }
 
-  pub multiple_valid : (a b : Tree ℕ) → IsSpelled p a → IsSpelled p b → (n : ℕ) (t : Tree ℕ) (first second : List ℕ)
+  pub multiple_valid : (a b : Tree ℕ) → IsSpelled p.generators a → IsSpelled p.generators b → (n : ℕ) (t : Tree ℕ) (first second : List ℕ)
       → IsMultiple n (shuffle_form p.generators a) (shuffle_form p.generators b) t first second → IsShuffleTree (inputs_of p.generators) n t
   multiple_valid a b ha hb n t first second h =
       multiples_fit (inputs_of p.generators) (leaf_count a) (leaf_count b) n (shuffle_form p.generators a) (shuffle_form p.generators b) t first second (form_valid p a ha) (form_valid p b hb) h
 
   module _ {C : Type 0} (N : ℕ) (elems : List (ElemEntry C)) where
-    pub common_of_form : (i j : ℕ) (x y : ElemEntry C) → nth elems i ≡ Some x → nth elems j ≡ Some y → i ≤ j → IsSpelled p x.lead → IsSpelled p y.lead
+    pub common_of_form : (i j : ℕ) (x y : ElemEntry C) → nth elems i ≡ Some x → nth elems j ≡ Some y → i ≤ j → IsSpelled p.generators x.lead → IsSpelled p.generators y.lead
         → (n : ℕ) → n ≤ N → (t : Tree ℕ) (first second : List ℕ) → IsMultiple n (shuffle_form p.generators x.lead) (shuffle_form p.generators y.lead) t first second
-        → IsCommonMultiple p N elems (named i j t first second)
+        → IsCommonMultiple p.generators N elems (named i j t first second)
     common_of_form i j x y ex ey ij hx hy n le t first second mult =
         let v : IsShuffleTree (inputs_of p.generators) n t = multiple_valid x.lead y.lead hx hy n t first second mult in
         record {
@@ -45,7 +45,7 @@ module _ (p : Presentation) where
     pub every_row_by_forms : (rows : List RowEntry)
         → ((i j : ℕ) (x y : ElemEntry C) → nth elems i ≡ Some x → nth elems j ≡ Some y → i ≤ j → (n : ℕ) → n ≤ N → (t : Tree ℕ) (first second : List ℕ)
         → IsMultiple n (shuffle_form p.generators x.lead) (shuffle_form p.generators y.lead) t first second → (r : RowEntry) × Mem r rows × (r.at ≡ named i j t first second))
-        → HasEveryRow p N elems rows
+        → HasEveryRow p.generators N elems rows
     every_row_by_forms rows every m h =
         subst (λ t. (r : RowEntry) × Mem r rows × (r.at ≡ record { one = m.one; other = m.other; tree = t; first = m.first; second = m.second })) (spelled_back p m.tree h.spelled)
         (every m.one m.other h.one h.other h.one_named h.other_named h.in_order (leaf_count m.tree) h.few (shuffle_form p.generators m.tree) m.first m.second h.multiple)

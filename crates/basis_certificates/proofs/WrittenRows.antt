@@ -101,7 +101,7 @@ module _ {C : Type 0} (p : Presentation) (cmp : Tree ℕ → Tree ℕ → Orderi
       subst (λ o. Same tree_discrete p.q (moved (insert (frame_at set (F u))) (shuffled p (element_in o))) (inserted g t set)) (sym x.1)
       (subst (λ z. Same tree_discrete p.q (moved (insert (frame_at set z)) (shuffled p x.0.element)) (inserted g t set)) (sym form) a)
 
-  fit_of : (n : ℕ) (u : ℕ × Insertion s n) (r : Red) → IsRedOf p cmp elements u r → IsFit p elems r
+  fit_of : (n : ℕ) (u : ℕ × Insertion s n) (r : Red) → IsRedOf p cmp elements u r → IsFit p.generators elems r
   fit_of n u r h =
       let x = entry_of p elements elems are r.number u.1.of h.number in
       let form : F r.tree ≡ u.1.tree = ap F h.tree ∙ form_back p n u.1.tree u.1.valid in
@@ -109,7 +109,7 @@ module _ {C : Type 0} (p : Presentation) (cmp : Tree ℕ → Tree ℕ → Orderi
       record {
         entry = x.0;
         named = x.1;
-        spelled = subst (IsSpelled p) (sym h.tree) (back_spelled p n u.1.tree u.1.valid);
+        spelled = subst (IsSpelled p.generators) (sym h.tree) (back_spelled p n u.1.tree u.1.valid);
         place = subst (λ t. IsPlace t r.set (F x.0.lead)) (sym form) (subst (IsPlace u.1.tree r.set) (sym lead) (subst (λ l. IsPlace u.1.tree l u.1.of.lead) (sym h.set) u.1.place));
       }
 
@@ -136,17 +136,17 @@ module _ {C : Type 0} (p : Presentation) (cmp : Tree ℕ → Tree ℕ → Orderi
   -- ---- rows
 
   module _ (N : ℕ) where
-    tree_valid : (m : Multiple) (k : IsMultipleOfLeads p cmp elements N m) → IsShuffleTree (inputs_of p.generators) k.arity k.tree
+    tree_valid : (m : Multiple) (k : IsMultipleOfLeads p.generators elements N m) → IsShuffleTree (inputs_of p.generators) k.arity k.tree
     tree_valid m k = multiples_fit (inputs_of p.generators) k.one.arity k.other.arity k.arity k.one.lead k.other.lead k.tree m.first m.second
         (lead_valid k.one (nth_mem elements m.one k.one k.one_named)) (lead_valid k.other (nth_mem elements m.other k.other k.other_named)) k.multiple
 
-    multiple_tree : (m : Multiple) (k : IsMultipleOfLeads p cmp elements N m) → F m.tree ≡ k.tree
+    multiple_tree : (m : Multiple) (k : IsMultipleOfLeads p.generators elements N m) → F m.tree ≡ k.tree
     multiple_tree m k = ap F k.tree_is ∙ form_back p k.arity k.tree (tree_valid m k)
 
-    multiple_arity : (m : Multiple) (k : IsMultipleOfLeads p cmp elements N m) → leaf_count m.tree ≡ k.arity
+    multiple_arity : (m : Multiple) (k : IsMultipleOfLeads p.generators elements N m) → leaf_count m.tree ≡ k.arity
     multiple_arity m k = ap leaf_count k.tree_is ∙ back_arity p k.arity k.tree (tree_valid m k)
 
-    pub common : (m : Multiple) → IsMultipleOfLeads p cmp elements N m → IsCommonMultiple p N elems m
+    pub common : (m : Multiple) → IsMultipleOfLeads p.generators elements N m → IsCommonMultiple p.generators N elems m
     common m k =
         let x = entry_of p elements elems are m.one k.one k.one_named in
         let y = entry_of p elements elems are m.other k.other k.other_named in
@@ -158,7 +158,7 @@ module _ {C : Type 0} (p : Presentation) (cmp : Tree ℕ → Tree ℕ → Orderi
           one_named = x.1;
           other_named = y.1;
           in_order = k.in_order;
-          spelled = subst (IsSpelled p) (sym k.tree_is) (back_spelled p k.arity k.tree (tree_valid m k));
+          spelled = subst (IsSpelled p.generators) (sym k.tree_is) (back_spelled p k.arity k.tree (tree_valid m k));
           few = subst (λ n. n ≤ N) (sym (multiple_arity m k)) k.few;
           multiple = subst (λ n. IsMultiple n (F x.0.lead) (F y.0.lead) (F m.tree) m.first m.second) (sym (multiple_arity m k))
               (subst (λ t. IsMultiple k.arity (F x.0.lead) (F y.0.lead) t m.first m.second) (sym (multiple_tree m k))
@@ -166,7 +166,7 @@ module _ {C : Type 0} (p : Presentation) (cmp : Tree ℕ → Tree ℕ → Orderi
               (subst (λ l. IsMultiple k.arity k.one.lead l k.tree m.first m.second) (sym fy) k.multiple)));
         }
 
-    pub of_common : (m : Multiple) → IsCommonMultiple p N elems m → IsMultipleOfLeads p cmp elements N m
+    pub of_common : (m : Multiple) → IsCommonMultiple p.generators N elems m → IsMultipleOfLeads p.generators elements N m
     of_common m k =
         let g = element_of p elements elems are m.one k.one k.one_named in
         let h = element_of p elements elems are m.other k.other k.other_named in
@@ -187,7 +187,7 @@ module _ {C : Type 0} (p : Presentation) (cmp : Tree ℕ → Tree ℕ → Orderi
         }
 
     row_reds : (n : ℕ) (t : Tree ℕ) (w : Tree ℕ) → F w ≡ t → leaf_count w ≡ n → (uses : List (ℕ × Insertion s n)) (reds : List Red)
-        → AllTerms uses (λ i. IsLess s i.tree t) → AreRedsOf p cmp elements uses reds → AllByRecursion (IsRowRed p cmp elems w) reds
+        → AllTerms uses (λ i. IsLess s i.tree t) → AreRedsOf p cmp elements uses reds → AllByRecursion (IsRowRed p.generators cmp elems w) reds
     row_reds n t w e a [] [] l h = tt
     row_reds n t w e a [] (r ∷ rs) l h = absurd h
     row_reds n t w e a (u ∷ us) [] l h = absurd h
@@ -225,7 +225,7 @@ module _ {C : Type 0} (p : Presentation) (cmp : Tree ℕ → Tree ℕ → Orderi
 
     -- ---- relations
 
-    relabel_reds : (n : ℕ) (uses : List (ℕ × Insertion s n)) (reds : List Red) → AreRedsOf p cmp elements uses reds → AllByRecursion (IsRelabelRed p elems n) reds
+    relabel_reds : (n : ℕ) (uses : List (ℕ × Insertion s n)) (reds : List Red) → AreRedsOf p cmp elements uses reds → AllByRecursion (IsRelabelRed p.generators elems n) reds
     relabel_reds n [] [] h = tt
     relabel_reds n [] (r ∷ rs) h = absurd h
     relabel_reds n (u ∷ us) [] h = absurd h

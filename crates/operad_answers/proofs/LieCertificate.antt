@@ -95,7 +95,7 @@ element_steps x m = subst (λ (steps : List Step). All (λ (step : Step). IsElem
     (All-from_recursion (λ (step : Step). IsElement generators (terms_of step.element)) (step_one ∷ []) (subst (IsElement generators) (sym element_is) element_labelled, tt))
 
 -- so the sorted spellings that l(l(1,2),3) doesn't divide are the normal trees
-pub lie_listed : (n : ℕ) → n ≤ 4 → (trees : List (Tree ℕ)) × ((t : Tree ℕ) → Mem t trees ↔ IsUndivided (presentation (written lie_document)) lie_certificate.0.elems n t)
+pub lie_listed : (n : ℕ) → n ≤ 4 → (trees : List (Tree ℕ)) × ((t : Tree ℕ) → Mem t trees ↔ IsUndivided (presentation (written lie_document)).generators lie_certificate.0.elems n t)
     × NormalLaw (presentation (written lie_document)) (comparison (written lie_document)) n trees
 lie_listed = (held_certificates lie_document formed 4 lie_certificate.0 element_steps lie_holds).1
 
