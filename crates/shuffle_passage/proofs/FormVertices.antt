@@ -12,7 +12,6 @@ use Rattle.labelled_trees.proofs.ProgramTrees.{tree_of-node}
 use Rattle.operad_ideals.specs.Parts.{Sign, times}
 use Rattle.operad_ideals.specs.Laws.{arity}
 use Rattle.operad_ideals.specs.Sorting.{sort_by, sort_parts, parts_sign, spelled_sign, spelled_sign_row, spelled_row}
-use Rattle.operad_ideals.specs.Presentations.{arity_of}
 use Rattle.operad_ideals.specs.Spelling.{least_leaf}
 use Rattle.operad_ideals.proofs.SortedLists.{Apart, apart-map, apart-unmap, map-sort_by}
 use Rattle.operad_ideals.proofs.Spellings.{least_leaves-spelled_row}
@@ -25,7 +24,6 @@ use Rattle.shuffle_transfer.proofs.Signs.{keys-form}
 use Rattle.symmetric_trees.specs.Generators.{parts_at, generators_of}
 use Rattle.symmetric_trees.specs.declared.generators.Generator.{Generator}
 use Rattle.shuffle_passage.specs.Words.{bounds_of, first_label, word_number, digits}
-use Rattle.shuffle_passage.specs.Passage.{over}
 use Rattle.shuffle_passage.specs.Branches.{forms_of, least_leaves}
 use Rattle.shuffle_passage.specs.declared.branch.Branch.{Branch}
 use Rattle.shuffle_passage.proofs.LabelNumbers.{label_of_keys}
@@ -66,9 +64,9 @@ module _ (gens : List Generator) (g : ℕ) (ts : List program.Tree) (bs : List B
       → sorted ≡ sort_by (λ (b : Branch). b.least) bs → node l (row (forms_of sorted)) ≡ shuffle_form (generators_of gens) (tree_of (Node g ts))
   form_vertex l sorted held size l_is s =
       let n = length-generators gens in
-      let many : length (least_leaves bs) ≡ arity_of (over gens) g = length-map bs (λ (b : Branch). b.least) ∙ count_branches ∙ size in
+      let many : length (least_leaves bs) ≡ arity (parts_at gens) g = length-map bs (λ (b : Branch). b.least) ∙ count_branches ∙ size in
       let own : l ≡ label (generators_of gens) g (ranks (map least (form_row (label (generators_of gens)) (row (map tree_of ts))))) =
-      l_is ∙ sym (label_of_keys (over gens) g (least_leaves bs) (omega (arith, n, held)) many leaves_apart) ∙ ap (λ ks. label (generators_of gens) g (ranks ks)) leaves_are in
+      l_is ∙ sym (label_of_keys (generators_of gens) g (least_leaves bs) (omega (arith, n, held)) many leaves_apart) ∙ ap (λ ks. label (generators_of gens) g (ranks ks)) leaves_are in
       ap₂ (λ m us. node m (row us)) own
       (ap forms_of s ∙ map-sort_by (λ (b : Branch). tree_of b.tree) (λ (b : Branch). b.least) least (λ (b : Branch). b.least_is) bs ∙ ap (sort_by least) forms_are)
       ∙ ap (shuffle_form (generators_of gens)) (sym (tree_of-node g ts))

@@ -19,7 +19,7 @@ use Rattle.symmetric_trees.specs.Trees.{IsLabelled}
 use Rattle.symmetric_trees.specs.declared.generators.Generator.{Generator}
 use Rattle.symmetric_trees.specs.declared.spelling.Sign.{Sign}
 use Rattle.symmetric_trees.specs.declared.spelling.Sign.TheVariants.{Plus, Minus}
-use Rattle.shuffle_passage.specs.Passage.{over, IsFormOf, OneShuffleForm}
+use Rattle.shuffle_passage.specs.Passage.{IsFormOf, OneShuffleForm}
 use Rattle.shuffle_trees.proofs.ListedTrees.{fits_wide}
 
 -- the shuffle form of a labelled tree is a shuffle tree over the labels
@@ -53,11 +53,11 @@ form_of gens n t sign s h e f =
 -- the tree of a shuffle tree is sorted
 pub back_sorted : (gens : List Generator) (s : Tree ℕ) → IsValid s → Fits (inputs_of (generators_of gens)) s → IsSorted (parts_at gens) (symmetric_tree (generators_of gens) s)
 back_sorted gens s v f =
-    let p = over gens in
-    let t = symmetric_tree p.generators s in
-    let b = back_of p.generators s v.rising f in
-    let once : (i : ℕ) → occurs i t ≤ 1 = λ i. omega (arith, occurs_of p.generators s v.rising f i, v.once i) in
-    let same : t ≡ spelled (parts_at gens) t = ap (symmetric_tree p.generators) (sym b.form_is) ∙ spelled_is p.generators t b.fits once in
+    let generators = generators_of gens in
+    let t = symmetric_tree generators s in
+    let b = back_of generators s v.rising f in
+    let once : (i : ℕ) → occurs i t ≤ 1 = λ i. omega (arith, occurs_of generators s v.rising f i, v.once i) in
+    let same : t ≡ spelled (parts_at gens) t = ap (symmetric_tree generators) (sym b.form_is) ∙ spelled_is generators t b.fits once in
     subst (IsSorted (parts_at gens)) (sym same) (is_sorted_spelled (parts_at gens) t b.fits once)
 
 -- and it has that shuffle form, with the sign plus

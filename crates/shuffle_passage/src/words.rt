@@ -3,7 +3,6 @@ ghost use Rattle.symmetric_trees.specs.Generators.{generators_of, kind_of, part_
 ghost use Rattle.shuffle_transfer.specs.Labels.{gen, labels};
 ghost use Rattle.shuffle_passage.specs.Words as spec;
 ghost use Rattle.shuffle_passage.specs.WordTables.{words_from};
-ghost use Rattle.shuffle_passage.specs.Passage.{over};
 
 use sqlite_items::Items;
 use std::alloc::{AllocError, Global};

@@ -89,7 +89,7 @@ letter_at d zero (x ∷ l) = x
 letter_at d (suc i) (x ∷ l) = letter_at d i l
 
 module _ (generators : List (List Part)) where
-  -- Labels are the places of letters, counted from 0; there are so many.
+  -- Labels are the places of the letters of a list of generators, counted from 0; there are so many.
   abbrev pub labels : ℕ
   labels = length (letters 0 generators)
 
