@@ -49,8 +49,8 @@ basis = subst (IsBasis lie 3) two_normal record {
   spanning = (lie_normal 3 (omega arith)).spanning;
 }
 
-normal : HasNormalTrees lie (compare lie by_path) 3 trees
-normal = subst (HasNormalTrees lie (compare lie by_path) 3) two_normal (listing_has_normal_trees lie sound wide (omega arith) (compare lie by_path) (order_of lie by_path) (jacobi ∷ []) 4 certified 3 (omega arith))
+normal : HasNormalTrees lie (compare lie.generators by_path) 3 trees
+normal = subst (HasNormalTrees lie (compare lie.generators by_path) 3) two_normal (listing_has_normal_trees lie sound wide (omega arith) (compare lie.generators by_path) (order_of lie.generators by_path) (jacobi ∷ []) 4 certified 3 (omega arith))
 
 -- ---- the relation
 
@@ -136,7 +136,7 @@ trace_ones = identity_counts lie 3 trees basis
 -- so on every basis
 on_every_basis : (c : List ℕ) (r : ℕ) → Mem c (three ∷ (two_one ∷ (ones ∷ []))) → IsTrace lie 3 (type_permutation c) trees r
     → (k : List (Tree ℕ)) → IsBasis lie 3 k → IsTrace lie 3 (type_permutation c) k r
-on_every_basis c r m tr = (normal_trees_give_trace lie sound wide (omega arith) (compare lie by_path) (order_of lie by_path) (jacobi ∷ []) 4 certified 3 (omega arith) trees normal).1 (type_permutation c) (is_type c m) r tr
+on_every_basis c r m tr = (normal_trees_give_trace lie sound wide (omega arith) (compare lie.generators by_path) (order_of lie.generators by_path) (jacobi ∷ []) 4 certified 3 (omega arith) trees normal).1 (type_permutation c) (is_type c m) r tr
 
 pub lie_characters : (k : List (Tree ℕ)) → IsBasis lie 3 k
     → IsTrace lie 3 (type_permutation three) k 100 × IsTrace lie 3 (type_permutation two_one) k 0 × IsTrace lie 3 (type_permutation ones) k 2
@@ -171,14 +171,14 @@ pub lie_relabelled : InIdeal lie 3 (relabelled swap jacobi_relation.terms)
 lie_relabelled = ideal_is_relabelled lie 3 swap (((all_orderings 3).2 swap).0 (inr (inl refl))) jacobi_relation.terms relation_in_ideal
 
 abbrev brackets : Setting
-brackets = setting lie (compare lie by_path) (jacobi ∷ [])
+brackets = setting lie (compare lie.generators by_path) (jacobi ∷ [])
 
-two_free : free_trees (labels lie) brackets 3 ≡ trees
+two_free : free_trees (labels lie.generators) brackets 3 ≡ trees
 unfolding ℕ_discrete tree_discrete tree_discrete_by row_discrete_by same_leaf same_node same_more
 two_free = refl
 
 free : (t : Tree ℕ) → Mem t trees → IsFreeTree brackets 3 t
-free t m = ((all_listed (labels lie) brackets (are_labels lie wide) certified.monic 3).1 t).0 (subst (Mem t) (sym two_free) m)
+free t m = ((all_listed (labels lie.generators) brackets (are_labels lie wide) certified.monic 3).1 t).0 (subst (Mem t) (sym two_free) m)
 
 -- what is a multiple of the relation's shuffle form is in the span
 in_span : (c : ℕ) (e : List (ℕ × Tree ℕ)) → Same tree_discrete 100 e (scale c (shuffled lie (relabelled (1 ∷ (2 ∷ (3 ∷ []))) jacobi_relation.terms))) → InSpan brackets 3 e
@@ -210,12 +210,12 @@ shuffle_rows = (
 pub lie_by_shuffle_rows : (k : List (Tree ℕ)) → IsBasis lie 3 k → IsTrace lie 3 (type_permutation three) k 100
 unfolding word_discrete same_cons letter_discrete same_letter ℕ_discrete tree_discrete tree_discrete_by row_discrete_by same_leaf same_node same_more coef three_rows
 lie_by_shuffle_rows k b =
-    shuffle_rows_give_trace lie sound wide (omega arith) (compare lie by_path) (order_of lie by_path) (jacobi ∷ []) 4 certified 3 (omega arith) trees normal (type_permutation three) (is_type three (inl refl)) three_rows shuffle_rows k b
+    shuffle_rows_give_trace lie sound wide (omega arith) (compare lie.generators by_path) (order_of lie.generators by_path) (jacobi ∷ []) 4 certified 3 (omega arith) trees normal (type_permutation three) (is_type three (inl refl)) three_rows shuffle_rows k b
 
 -- the first of these rows, passed back
-lie_passed : IsCombination lie 3 trees ((1, acted (type_permutation three) t2) ∷ []) (moved (symmetric_tree lie) ((100, t2) ∷ ((100, t3) ∷ [])))
+lie_passed : IsCombination lie 3 trees ((1, acted (type_permutation three) t2) ∷ []) (moved (symmetric_tree lie.generators) ((100, t2) ∷ ((100, t3) ∷ [])))
 unfolding three_rows
-lie_passed = (shuffle_forms_pass_back lie sound wide (omega arith) (compare lie by_path) (order_of lie by_path) (jacobi ∷ []) 4 certified 3 (omega arith) trees normal ((1, acted (type_permutation three) t2) ∷ []) ((100, t2) ∷ ((100, t3) ∷ []))
+lie_passed = (shuffle_forms_pass_back lie sound wide (omega arith) (compare lie.generators by_path) (order_of lie.generators by_path) (jacobi ∷ []) 4 certified 3 (omega arith) trees normal ((1, acted (type_permutation three) t2) ∷ []) ((100, t2) ∷ ((100, t3) ∷ []))
     (labelled-acted (arity_of lie) 3 (type_permutation three) (is_type three (inl refl)) t2 (basis.independent.labelled t2 (inl refl)), tt) shuffle_rows.0).0
 
 -- ---- a permutation that is none of a cycle type

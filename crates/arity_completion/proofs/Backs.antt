@@ -20,9 +20,8 @@ use Rattle.shuffle_transfer.specs.Labels.{inputs_of, shuffle_form, symmetric_tre
 use Rattle.shuffle_transfer.specs.Transfer.{shuffled}
 use Rattle.shuffle_transfer.proofs.Forth.{spelling, back_law}
 use Rattle.shuffle_transfer.proofs.Spanning.{all_forms, all_labelled}
-use Rattle.shuffle_passage.specs.Passage.{over}
 use Rattle.symmetric_trees.specs.Trees as table
-use Rattle.symmetric_trees.specs.Generators.{parts_at}
+use Rattle.symmetric_trees.specs.Generators.{parts_at, generators_of}
 use Rattle.symmetric_trees.specs.declared.generators.Generator.{Generator}
 use Rattle.symmetric_sums.specs.Collected.{IsCollected}
 use Rattle.symmetric_sums.specs.Membership.{presentation_of}
@@ -33,15 +32,15 @@ use Rattle.arity_completion.specs.Uses.{IsElementFor}
 -- ---- collected forms
 
 module _ (p : Presentation) where
-  spelled_forms : (n : ℕ) (e : List (ℕ × Tree ℕ)) → AllTerms e (IsLabelled (arity_of p) n) → shuffled p e ≡ moved (shuffle_form p) (spelled_sum p.q (parts p) e)
+  spelled_forms : (n : ℕ) (e : List (ℕ × Tree ℕ)) → AllTerms e (IsLabelled (arity_of p) n) → shuffled p e ≡ moved (shuffle_form p.generators) (spelled_sum p.q (parts p) e)
   spelled_forms n [] h = refl
-  spelled_forms n (x ∷ e) h = ap₂ (λ (y : Tree ℕ) (l : List (ℕ × Tree ℕ)). (x.0 * residue_of p.q (spelled_sign (parts p) x.1), y) ∷ l) (sym (spelling p n x.1 h.0).1) (spelled_forms n e h.1)
+  spelled_forms n (x ∷ e) h = ap₂ (λ (y : Tree ℕ) (l : List (ℕ × Tree ℕ)). (x.0 * residue_of p.q (spelled_sign (parts p) x.1), y) ∷ l) (sym (spelling p.generators n x.1 h.0).1) (spelled_forms n e h.1)
 
-  sorted_forms : (f : List (ℕ × Tree ℕ)) → AllByRecursion (λ (x : ℕ × Tree ℕ). IsSorted (parts p) x.1) f → shuffled p f ≡ moved (shuffle_form p) f
+  sorted_forms : (f : List (ℕ × Tree ℕ)) → AllByRecursion (λ (x : ℕ × Tree ℕ). IsSorted (parts p) x.1) f → shuffled p f ≡ moved (shuffle_form p.generators) f
   sorted_forms [] h = refl
   sorted_forms (x ∷ f) h =
       let one : x.0 * residue_of p.q (spelled_sign (parts p) x.1) ≡ x.0 = ap (λ s. x.0 * residue_of p.q s) (sorted_spelling (parts p) x.1 h.0).1 ∙ omega arith in
-      ap₂ (λ (c : ℕ) (l : List (ℕ × Tree ℕ)). (c, shuffle_form p x.1) ∷ l) one (sorted_forms f h.1)
+      ap₂ (λ (c : ℕ) (l : List (ℕ × Tree ℕ)). (c, shuffle_form p.generators x.1) ∷ l) one (sorted_forms f h.1)
 
   -- an element and its collected form have the same shuffle form
   pub collected_same : (q n : ℕ) (e f : List (ℕ × Tree ℕ)) → p.q ≡ q - 1 → AllTerms e (IsLabelled (arity_of p) n) → IsCollected q (parts p) e f → Same tree_discrete p.q (shuffled p f) (shuffled p e)
@@ -49,7 +48,7 @@ module _ (p : Presentation) where
       let sorted = recursion_from_All (λ (x : ℕ × Tree ℕ). IsSorted (parts p) x.1) f c.reduced.sorted in
       let same : Same tree_discrete p.q f (spelled_sum p.q (parts p) e) = subst (λ m. Same tree_discrete m f (spelled_sum m (parts p) e)) (sym z) c.same in
       λ t. ap (λ l. coef tree_discrete l t % suc p.q) (sorted_forms f sorted)
-      ∙ Same-moved tree_discrete tree_discrete p.q (shuffle_form p) f (spelled_sum p.q (parts p) e) same t
+      ∙ Same-moved tree_discrete tree_discrete p.q (shuffle_form p.generators) f (spelled_sum p.q (parts p) e) same t
       ∙ ap (λ l. coef tree_discrete l t % suc p.q) (sym (spelled_forms n e h))
 
 -- ---- sums whose terms were passed back
@@ -64,31 +63,31 @@ behind (x ∷ l) = l
 
 module _ (m : ℕ) (gens : List Generator) (n : ℕ) where
   abbrev back : Tree ℕ → Tree ℕ
-  back = symmetric_tree (over gens)
+  back = symmetric_tree (generators_of gens)
 
-  labels_back : (sum : List Term) (l : List (ℕ × Tree ℕ)) → terms_of sum ≡ moved (symmetric_tree (over gens)) l → AllTerms l (IsShuffleTree (inputs_of (over gens)) n)
+  labels_back : (sum : List Term) (l : List (ℕ × Tree ℕ)) → terms_of sum ≡ moved (symmetric_tree (generators_of gens)) l → AllTerms l (IsShuffleTree (inputs_of (generators_of gens)) n)
       → AllByRecursion (λ (t : Term). table.IsLabelled gens n (tree_of t.tree)) sum
   labels_back [] l e h = tt
   labels_back (t ∷ sum) [] e h = absurd (cc e)
   labels_back (t ∷ sum) (x ∷ l) e h =
-      (subst (table.IsLabelled gens n) (sym (ap (λ k. (first k).1) e)) (back_law (over gens) n x.1 h.0).0, labels_back sum l (ap behind e) h.1)
+      (subst (table.IsLabelled gens n) (sym (ap (λ k. (first k).1) e)) (back_law (generators_of gens) n x.1 h.0).0, labels_back sum l (ap behind e) h.1)
 
-  small_back : (sum : List Term) (l : List (ℕ × Tree ℕ)) → terms_of sum ≡ moved (symmetric_tree (over gens)) l → AllByRecursion (λ (x : ℕ × Tree ℕ). (0 < x.0) × (x.0 < m)) l
+  small_back : (sum : List Term) (l : List (ℕ × Tree ℕ)) → terms_of sum ≡ moved (symmetric_tree (generators_of gens)) l → AllByRecursion (λ (x : ℕ × Tree ℕ). (0 < x.0) × (x.0 < m)) l
       → AllByRecursion (λ (t : Term). t.coef < m) sum
   small_back [] l e h = tt
   small_back (t ∷ sum) [] e h = absurd (cc e)
   small_back (t ∷ sum) (x ∷ l) e h = (subst (λ c. c < m) (sym (ap (λ k. (first k).0) e)) h.0.1, small_back sum l (ap behind e) h.1)
 
-  pub are_labelled : (sum : List Term) (l : List (ℕ × Tree ℕ)) → terms_of sum ≡ moved (symmetric_tree (over gens)) l → AllTerms l (IsShuffleTree (inputs_of (over gens)) n) → All (λ (t : Term). table.IsLabelled gens n (tree_of t.tree)) sum
+  pub are_labelled : (sum : List Term) (l : List (ℕ × Tree ℕ)) → terms_of sum ≡ moved (symmetric_tree (generators_of gens)) l → AllTerms l (IsShuffleTree (inputs_of (generators_of gens)) n) → All (λ (t : Term). table.IsLabelled gens n (tree_of t.tree)) sum
   are_labelled sum l e h = All-from_recursion (λ (t : Term). table.IsLabelled gens n (tree_of t.tree)) sum (labels_back sum l e h)
 
-  pub are_fit : (sum : List Term) (l : List (ℕ × Tree ℕ)) → terms_of sum ≡ moved (symmetric_tree (over gens)) l → AllTerms l (IsShuffleTree (inputs_of (over gens)) n) → All (λ (t : Term). table.Fits gens (tree_of t.tree)) sum
+  pub are_fit : (sum : List Term) (l : List (ℕ × Tree ℕ)) → terms_of sum ≡ moved (symmetric_tree (generators_of gens)) l → AllTerms l (IsShuffleTree (inputs_of (generators_of gens)) n) → All (λ (t : Term). table.Fits gens (tree_of t.tree)) sum
   are_fit sum l e h k d less = (are_labelled sum l e h k d less).fits
 
-  pub have_arity : (sum : List Term) (l : List (ℕ × Tree ℕ)) → terms_of sum ≡ moved (symmetric_tree (over gens)) l → AllTerms l (IsShuffleTree (inputs_of (over gens)) n) → HaveArity n sum
+  pub have_arity : (sum : List Term) (l : List (ℕ × Tree ℕ)) → terms_of sum ≡ moved (symmetric_tree (generators_of gens)) l → AllTerms l (IsShuffleTree (inputs_of (generators_of gens)) n) → HaveArity n sum
   have_arity sum l e h k d less = numbered_of_labelled (are_labelled sum l e h k d less)
 
-  pub have_residues : (sum : List Term) (l : List (ℕ × Tree ℕ)) → terms_of sum ≡ moved (symmetric_tree (over gens)) l → All (λ (x : ℕ × Tree ℕ). (0 < x.0) × (x.0 < m)) l → HaveResidues m sum
+  pub have_residues : (sum : List Term) (l : List (ℕ × Tree ℕ)) → terms_of sum ≡ moved (symmetric_tree (generators_of gens)) l → All (λ (x : ℕ × Tree ℕ). (0 < x.0) × (x.0 < m)) l → HaveResidues m sum
   have_residues sum l e h = All-from_recursion (λ (t : Term). t.coef < m) sum (small_back sum l e (recursion_from_All (λ (x : ℕ × Tree ℕ). (0 < x.0) × (x.0 < m)) l h))
 
 -- the first terms
@@ -110,8 +109,8 @@ back_more f l i x sum next less at is n = n ∙ ap (λ k. k ++ (x.0, f x.1) ∷ 
   go (y ∷ l) zero less at = ap (λ (z : ℕ × Tree ℕ). (z.0, f z.1) ∷ []) at
   go (y ∷ l) (suc i) less at = ap (λ k. (y.0, f y.1) ∷ k) (go l i (omega (arith, less)) at)
 
-pub element_law : (m : ℕ) (gens : List Generator) (rels : List (List Term)) (k : ℕ) (l : List (ℕ × Tree ℕ)) (sum element : List Term) → AllTerms l (IsShuffleTree (inputs_of (over gens)) k)
-    → terms_of sum ≡ moved (symmetric_tree (over gens)) l → IsCollected m (parts_at gens) (terms_of sum) (terms_of element) → HaveResidues m element
+pub element_law : (m : ℕ) (gens : List Generator) (rels : List (List Term)) (k : ℕ) (l : List (ℕ × Tree ℕ)) (sum element : List Term) → AllTerms l (IsShuffleTree (inputs_of (generators_of gens)) k)
+    → terms_of sum ≡ moved (symmetric_tree (generators_of gens)) l → IsCollected m (parts_at gens) (terms_of sum) (terms_of element) → HaveResidues m element
     → ((n : ℕ) → HaveArity n sum → All (λ (t : Term). table.IsLabelled gens n (tree_of t.tree)) element) → IsElementFor m gens rels l element
 element_law m gens rels k l sum element valid is c small labelled = record {
   fits = record { residues = small; trees = λ i d less. (labelled k (have_arity m gens k sum l is valid) i d less).fits };
@@ -139,7 +138,7 @@ taken_all (x ∷ l) (suc i) less = ap (λ k. x ∷ k) (taken_all l i (omega (ari
 
 -- the same of what `collected` answers, for a field and a table that are these
 pub collected_element : {E : Type 0} (m field : ℕ) (gens found : List Generator) (rels : List (List Term)) (k : ℕ) (l : List (ℕ × Tree ℕ)) (sum : List Term) → field ≡ m → found ≡ gens
-    → AllTerms l (IsShuffleTree (inputs_of (over gens)) k) → terms_of sum ≡ moved (symmetric_tree (over gens)) l
+    → AllTerms l (IsShuffleTree (inputs_of (generators_of gens)) k) → terms_of sum ≡ moved (symmetric_tree (generators_of gens)) l
     → (answer : Result (List Term) E) → IfOk answer (λ form. IsCollected field (parts_at found) (terms_of sum) (terms_of form)) → IfOk answer (HaveResidues field)
     → ((n : ℕ) → HaveArity n sum → IfOk answer (All (λ (t : Term). table.IsLabelled found n (tree_of t.tree)))) → IfOk answer (IsElementFor m gens rels l)
 collected_element m field gens found rels k l sum f t valid is (Ok form) c small labelled =

@@ -42,10 +42,11 @@ use Rattle.logged_steps.proofs.Valid.{valid_law}
 use Rattle.arity_completion.specs.Trails.{AreEntriesOf, taken}
 use Rattle.arity_completion.specs.Uses.{AddUpTo, IsStepUse, AreUsesOf}
 use Rattle.arity_completion.proofs.Adding.{add_none, add_one, add_same, same_multiples, scale_both}
+use Rattle.symmetric_trees.specs.Generators.{generators_of}
 
 module _ (m : ℕ) (generators : List Generator) (rels earlier : List (List Term)) (shelf : Shelf) (numbers : List ℕ) (factor : ℕ)
     (compare : Tree ℕ → Tree ℕ → Ordering) (elements : List Element) (n : ℕ) (prime : 1 < m)
-    (order : IsTreeOrder (inputs_of (presentation_of m generators rels)) compare) (monic : AreMonic (setting (presentation_of m generators rels) compare elements))
+    (order : IsTreeOrder (inputs_of (generators_of generators)) compare) (monic : AreMonic (setting (presentation_of m generators rels) compare elements))
     (entries : AreEntriesOf (presentation_of m generators rels) earlier numbers elements) where
   abbrev p : Presentation
   p = presentation_of m generators rels
@@ -73,10 +74,10 @@ module _ (m : ℕ) (generators : List Generator) (rels earlier : List (List Term
     is_frame : frame_at c.place (tree_at shelf.trees c.host) ≡ frame_at x.1.set x.1.tree
     is_frame = ap₂ frame_at of.place of.host
 
-    is_placed : moved (in_place item) (element item.rule) ≡ moved (placed_back p (frame_at x.1.set x.1.tree)) (element item.rule)
+    is_placed : moved (in_place item) (element item.rule) ≡ moved (placed_back p.generators (frame_at x.1.set x.1.tree)) (element item.rule)
     is_placed =
         ap₂ (λ (k : Tree ℕ) (inputs : List (Tree ℕ)). moved (placed k inputs) (element item.rule)) u.context u.inputs
-        ∙ ap (λ (f : Frame). moved (placed_back p f) (element item.rule)) is_frame
+        ∙ ap (λ (f : Frame). moved (placed_back p.generators f) (element item.rule)) is_frame
 
     pub step_stands : StandsFor p n (moved (in_place item) (element item.rule)) (value_of x.1)
     step_stands = subst (λ l. StandsFor p n l (value_of x.1)) (sym is_placed) (insertions_law p compare elements order monic n x.1 (λ _. element item.rule) stands)
@@ -96,8 +97,8 @@ module _ (m : ℕ) (generators : List Generator) (rels earlier : List (List Term
     as_many : length item.inputs ≡ x.1.of.arity
     as_many =
         let at = place_frames.0 n x.1.tree x.1.set x.1.of.lead x.1.valid.shuffle x.1.place in
-        sym (length-map item.inputs tree_of) ∙ ap length u.inputs ∙ ap (λ (f : Frame). length (map (symmetric_tree p) f.inputs)) is_frame
-        ∙ length-map (frame_at x.1.set x.1.tree).inputs (symmetric_tree p) ∙ at.2.as_many
+        sym (length-map item.inputs tree_of) ∙ ap length u.inputs ∙ ap (λ (f : Frame). length (map (symmetric_tree p.generators) f.inputs)) is_frame
+        ∙ length-map (frame_at x.1.set x.1.tree).inputs (symmetric_tree p.generators) ∙ at.2.as_many
         ∙ one_size at.0 x.1.of.arity x.1.of.lead at.1 (monic.each x.1.of x.1.member).lead_valid.shuffle
 
     pub step_good : IsGoodUse m generators rels earlier n item

@@ -21,6 +21,7 @@ use Rattle.cofactor_log.specs.declared.entry.Entry.{Entry}
 use Rattle.arity_completion.specs.Trails.{IsStart, all_started, taken, AreEntriesOf}
 use Rattle.arity_completion.specs.Uses.{IsElementFor, UsesAddUp}
 use Rattle.arity_completion.specs.declared.uses.Start.{Start}
+use Rattle.symmetric_trees.specs.Generators.{generators_of}
 
 -- The entry's element is that of the terms. Over each list of monic elements for which the entries with the numbers stand: where the
 -- terms, of arity n, are the factor times the starts less what the steps subtract, the entry keeps the rule and its element stands for them.
@@ -29,11 +30,11 @@ pub record IsEntryFor (m : ℕ) (generators : List Generator) (rels earlier : Li
   pub element : IsElementFor m generators rels terms entry.element
   pub uses : UsesAddUp m generators rels earlier shelf numbers starts cofactors factor entry.uses
   pub kept : (compare : Tree ℕ → Tree ℕ → Ordering) (elements : List Element) (n : ℕ)
-      → IsTreeOrder (inputs_of (presentation_of m generators rels)) compare → AreMonic (setting (presentation_of m generators rels) compare elements)
+      → IsTreeOrder (inputs_of (generators_of generators)) compare → AreMonic (setting (presentation_of m generators rels) compare elements)
       → AreEntriesOf (presentation_of m generators rels) earlier numbers elements
       → All (IsStart m generators rels earlier n) starts
       → (steps : List (ℕ × Insertion (setting (presentation_of m generators rels) compare elements) n))
       → AreOf (setting (presentation_of m generators rels) compare elements) n shelf steps cofactors
-      → AllTerms terms (IsShuffleTree (inputs_of (presentation_of m generators rels)) n)
+      → AllTerms terms (IsShuffleTree (inputs_of (generators_of generators)) n)
       → Same tree_discrete (m - 1) (scale factor (all_started m generators rels earlier starts ++ taken steps)) terms
       → IsKept m generators rels earlier entry

@@ -13,7 +13,7 @@ use Rattle.shuffle_transfer.specs.Certified.{setting}
 use Rattle.shuffle_transfer.specs.Labels.{inputs_of}
 use Rattle.shuffle_transfer.specs.Orderings.{IsOrdering, entry}
 use Rattle.symmetric_sums.specs.Uses.{CitesElement}
-use Rattle.symmetric_trees.specs.Generators.{parts_at}
+use Rattle.symmetric_trees.specs.Generators.{parts_at, generators_of}
 use Rattle.symmetric_trees.specs.declared.generators.Generator.{Generator}
 use Rattle.symmetric_sums.specs.Collected.{IsReduced}
 use Rattle.symmetric_sums.specs.Instances.{rule_element}
@@ -40,14 +40,14 @@ abbrev pub ReducedRowsAreKept : Type 0
 ReducedRowsAreKept = (m : ℕ) (generators : List Generator) (rels earlier : List (List Term)) (shelf : Shelf) (numbers : List ℕ) (starts : List Start) (cofactors : List Cofactor) (factor : ℕ)
     (last : List (ℕ × Tree ℕ)) (entry : Entry) → IsEntryFor m generators rels earlier shelf numbers starts cofactors factor last entry
     → (compare : Tree ℕ → Tree ℕ → Ordering) (elements : List Element) (n : ℕ)
-    → IsTreeOrder (inputs_of (presentation_of m generators rels)) compare → AreMonic (setting (presentation_of m generators rels) compare elements)
+    → IsTreeOrder (inputs_of (generators_of generators)) compare → AreMonic (setting (presentation_of m generators rels) compare elements)
     → AreEntriesOf (presentation_of m generators rels) earlier numbers elements
     → All (IsStart m generators rels earlier n) starts
     → (before steps : List (ℕ × Insertion (setting (presentation_of m generators rels) compare elements) n))
     → AreOf (setting (presentation_of m generators rels) compare elements) n shelf (before ++ steps) cofactors
     → (alone row rest : List (ℕ × Tree ℕ)) → Same tree_discrete (m - 1) (alone ++ row) (all_started m generators rels earlier starts ++ taken before)
     → IsChain (setting (presentation_of m generators rels) compare elements) n row steps rest
-    → AllTerms last (IsShuffleTree (inputs_of (presentation_of m generators rels)) n) → Same tree_discrete (m - 1) last (scale factor (alone ++ rest))
+    → AllTerms last (IsShuffleTree (inputs_of (generators_of generators)) n) → Same tree_discrete (m - 1) last (scale factor (alone ++ rest))
     → IsKept m generators rels earlier entry × StandsFor (presentation_of m generators rels) n (terms_of entry.element) last
 
 -- Where a reduced element stands for a row that a chain leads to nothing, the entry with the uses of the chain's cofactors, times -1, keeps the rule.
@@ -56,7 +56,7 @@ DifferencesAreKept = (m : ℕ) (generators : List Generator) (rels earlier : Lis
     → UsesAddUp m generators rels earlier shelf numbers [] cofactors (m - 1) entry.uses
     → FitsOver m generators entry.element → IsReduced m (parts_at generators) (terms_of entry.element)
     → (compare : Tree ℕ → Tree ℕ → Ordering) (elements : List Element) (n : ℕ)
-    → IsTreeOrder (inputs_of (presentation_of m generators rels)) compare → AreMonic (setting (presentation_of m generators rels) compare elements)
+    → IsTreeOrder (inputs_of (generators_of generators)) compare → AreMonic (setting (presentation_of m generators rels) compare elements)
     → AreEntriesOf (presentation_of m generators rels) earlier numbers elements
     → (steps : List (ℕ × Insertion (setting (presentation_of m generators rels) compare elements) n))
     → AreOf (setting (presentation_of m generators rels) compare elements) n shelf steps cofactors

@@ -14,8 +14,7 @@ use Rattle.shuffle_places.specs.Places.{frame_at}
 use Rattle.shuffle_bases.specs.Elements.{Element, AreMonic, Insertion}
 use Rattle.shuffle_transfer.specs.Certified.{setting}
 use Rattle.shuffle_transfer.specs.Labels.{inputs_of, symmetric_tree}
-use Rattle.shuffle_passage.specs.Passage.{over}
-use Rattle.symmetric_trees.specs.Generators.{parts_at}
+use Rattle.symmetric_trees.specs.Generators.{parts_at, generators_of}
 use Rattle.symmetric_trees.specs.declared.generators.Generator.{Generator}
 use Rattle.symmetric_sums.specs.Collected.{IsReduced}
 use Rattle.symmetric_sums.specs.Membership.{presentation_of}
@@ -47,8 +46,8 @@ pub record IsStepUse (m : ℕ) (generators : List Generator) (shelf : Shelf) (nu
   pub coef : Alike (m - 1) item.coef (factor * ((m - 1) * c.coef))
   pub rule : item.rule ≡ Step (slice_index numbers c.element)
   pub hole : IsContext (tree_of item.context)
-  pub context : tree_of item.context ≡ symmetric_tree (over generators) (frame_at c.place (tree_at shelf.trees c.host)).hole
-  pub inputs : map tree_of item.inputs ≡ map (symmetric_tree (over generators)) (frame_at c.place (tree_at shelf.trees c.host)).inputs
+  pub context : tree_of item.context ≡ symmetric_tree (generators_of generators) (frame_at c.place (tree_at shelf.trees c.host)).hole
+  pub inputs : map tree_of item.inputs ≡ map (symmetric_tree (generators_of generators)) (frame_at c.place (tree_at shelf.trees c.host)).inputs
 
 -- the second list has such uses of the items of the first, in order
 abbrev pub AreUsesOf : {A : Type 0} → (A → Instance → Type 0) → List A → List Instance → Type 0
@@ -71,7 +70,7 @@ pub record AddUpTo (m : ℕ) (generators : List Generator) (rels earlier : List 
 abbrev pub UsesAddUp : ℕ → List Generator → List (List Term) → List (List Term) → Shelf → List ℕ → List Start → List Cofactor → ℕ → List Instance → Type 0
 UsesAddUp m generators rels earlier shelf numbers starts cofactors factor uses =
     (compare : Tree ℕ → Tree ℕ → Ordering) (elements : List Element) (n : ℕ)
-    → IsTreeOrder (inputs_of (presentation_of m generators rels)) compare → AreMonic (setting (presentation_of m generators rels) compare elements)
+    → IsTreeOrder (inputs_of (generators_of generators)) compare → AreMonic (setting (presentation_of m generators rels) compare elements)
     → AreEntriesOf (presentation_of m generators rels) earlier numbers elements
     → All (IsStart m generators rels earlier n) starts
     → (steps : List (ℕ × Insertion (setting (presentation_of m generators rels) compare elements) n))
@@ -84,4 +83,4 @@ UsesAddUp m generators rels earlier shelf numbers starts cofactors factor uses =
 pub record IsElementFor (m : ℕ) (generators : List Generator) (rels : List (List Term)) (terms : List (ℕ × Tree ℕ)) (element : List Term) : Type 0 where
   pub fits : FitsOver m generators element
   pub reduced : IsReduced m (parts_at generators) (terms_of element)
-  pub stands : (n : ℕ) → AllTerms terms (IsShuffleTree (inputs_of (presentation_of m generators rels)) n) → StandsFor (presentation_of m generators rels) n (terms_of element) terms
+  pub stands : (n : ℕ) → AllTerms terms (IsShuffleTree (inputs_of (generators_of generators)) n) → StandsFor (presentation_of m generators rels) n (terms_of element) terms

@@ -4,11 +4,11 @@ ghost use Rattle.modular_sums.specs.Sums.{AllTerms};
 ghost use Rattle.shuffle_insertions.specs.ShuffleTrees.{IsShuffleTree};
 ghost use Rattle.shuffle_trees.specs.LabelLists.{arity_in};
 ghost use Rattle.shuffle_transfer.specs.Labels.{inputs_of};
-ghost use Rattle.shuffle_passage.specs.Passage.{over};
 ghost use Rattle.cofactor_log.specs.Entries.{elements_of};
 ghost use Rattle.arity_completion.specs.Entries.{IsEntryFor};
 ghost use Rattle.arity_completion.specs.Trails.{IsPlaced};
 ghost use Rattle.arity_completion.specs.Uses.{IsElementFor, UsesAddUp};
+ghost use Rattle.symmetric_trees.specs.Generators.{generators_of};
 
 use crate::{Start, symmetric_element, uses_of};
 use cofactor_log::{Entry, Log};
@@ -31,10 +31,10 @@ pub fn entry_for(
     terms: &[(u32, STree)],
 ) -> Result<Entry, AllocError>
     requires factor { factor < log.now.field }
-    requires labels { (l : ℕ) → arity_in shelf.now.labels l ≡ inputs_of (over log.now.gens) l }
+    requires labels { (l : ℕ) → arity_in shelf.now.labels l ≡ inputs_of (generators_of log.now.gens) l }
     requires placed { All (IsPlaced shelf.now (length entries.now)) cofactors.now }
     requires residues { All (λ x. (0 < x.0) × (x.0 < log.now.field)) terms.now }
-    requires trees { (n : ℕ) × AllTerms terms.now (IsShuffleTree (inputs_of (over log.now.gens)) n) }
+    requires trees { (n : ℕ) × AllTerms terms.now (IsShuffleTree (inputs_of (generators_of log.now.gens)) n) }
     ensures entry { IfOk result (IsEntryFor log.now.field log.now.gens log.now.rels (elements_of log.now.entries) shelf.now entries.now starts.now cofactors.now factor terms.now) }
 {
     Ok(Entry {

@@ -3,12 +3,12 @@ ghost use Rattle.labelled_trees.specs.Meaning.{tree_of};
 ghost use Rattle.labelled_trees.specs.Trees.{leaf};
 ghost use Rattle.std.specs.List.{All};
 ghost use Rattle.shuffle_transfer.specs.Labels.{inputs_of};
-ghost use Rattle.shuffle_passage.specs.Passage.{over};
 ghost use Rattle.shuffle_trees.specs.LabelLists.{arity_in};
 ghost use Rattle.shuffle_sums.specs.Shelves.{IsShelf};
 ghost use Rattle.cofactor_log.specs.Entries.{elements_of};
 ghost use Rattle.arity_completion.specs.Trails.{IsPlaced};
 ghost use Rattle.arity_completion.specs.Uses.{AreUsesOf, IsStartUse, IsStepUse, UsesAddUp};
+ghost use Rattle.symmetric_trees.specs.Generators.{generators_of};
 
 use cofactor_log::Log;
 use division::Cofactor;
@@ -64,7 +64,7 @@ fn step_use(
     cofactor: &Cofactor,
 ) -> Result<Instance, AllocError>
     requires factor { factor < log.now.field }
-    requires labels { (l : ℕ) → arity_in shelf.now.labels l ≡ inputs_of (over log.now.gens) l }
+    requires labels { (l : ℕ) → arity_in shelf.now.labels l ≡ inputs_of (generators_of log.now.gens) l }
     requires placed { IsPlaced shelf.now (length entries.now) cofactor.now }
     ensures { IfOk result (IsStepUse log.now.field log.now.gens shelf.now entries.now factor cofactor.now) }
 {
@@ -91,7 +91,7 @@ fn step_uses(
     cofactors: &[Cofactor],
 ) -> Result<Items<Instance>, AllocError>
     requires factor { factor < log.now.field }
-    requires labels { (l : ℕ) → arity_in shelf.now.labels l ≡ inputs_of (over log.now.gens) l }
+    requires labels { (l : ℕ) → arity_in shelf.now.labels l ≡ inputs_of (generators_of log.now.gens) l }
     requires placed { All (IsPlaced shelf.now (length entries.now)) cofactors.now }
     ensures { IfOk result (AreUsesOf (IsStepUse log.now.field log.now.gens shelf.now entries.now factor) cofactors.now) }
 {
@@ -115,7 +115,7 @@ pub fn uses_of(
     factor: u32,
 ) -> Result<Items<Instance>, AllocError>
     requires factor { factor < log.now.field }
-    requires labels { (l : ℕ) → arity_in shelf.now.labels l ≡ inputs_of (over log.now.gens) l }
+    requires labels { (l : ℕ) → arity_in shelf.now.labels l ≡ inputs_of (generators_of log.now.gens) l }
     requires placed { All (IsPlaced shelf.now (length entries.now)) cofactors.now }
     ensures uses { IfOk result (UsesAddUp log.now.field log.now.gens log.now.rels (elements_of log.now.entries) shelf.now entries.now starts.now cofactors.now factor) }
 {

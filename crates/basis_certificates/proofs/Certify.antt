@@ -46,10 +46,10 @@ Sum = List (ℕ × Tree ℕ)
 abbrev laws : (q : ℕ) → SumLaw (Tree ℕ) tree_discrete q
 laws q = sum_law (Tree ℕ) tree_discrete q
 
-module _ {C : Type 0} (Shown : List (ℕ × Tree ℕ) → C → Type 0) (p : Presentation) (sound : IsSound p) (proper : IsProper p) (cmp : Tree ℕ → Tree ℕ → Ordering) (order : IsTreeOrder (inputs_of p) cmp)
+module _ {C : Type 0} (Shown : List (ℕ × Tree ℕ) → C → Type 0) (p : Presentation) (sound : IsSound p) (proper : IsProper p) (cmp : Tree ℕ → Tree ℕ → Ordering) (order : IsTreeOrder (inputs_of p.generators) cmp)
     (elems : List (ElemEntry C)) (members : ShowMembers Shown p elems) (good : AreGood (IsGoodElem p cmp Shown) [] elems) where
   abbrev F : Tree ℕ → Tree ℕ
-  F = shuffle_form p
+  F = shuffle_form p.generators
 
   abbrev E : ElemEntry C → Element
   E = shuffle_element p cmp
@@ -104,23 +104,23 @@ module _ {C : Type 0} (Shown : List (ℕ × Tree ℕ) → C → Type 0) (p : Pre
     pub all : AllTerms uses (λ i. Q i.tree)
     pub adds_up : Same tree_discrete p.q e (expand value_of uses)
 
-  insertion_for : (n : ℕ) (r : Red) → IsFit p elems r → leaf_count r.tree ≡ n → Insertion s n
+  insertion_for : (n : ℕ) (r : Red) → IsFit p.generators elems r → leaf_count r.tree ≡ n → Insertion s n
   insertion_for n r fit e = record {
     of = E fit.entry;
     member = mem_map E fit.entry elems (nth_mem elems r.number fit.entry fit.named);
     tree = F r.tree;
     set = r.set;
-    valid = subst (λ k. IsShuffleTree (inputs_of p) k (F r.tree)) e (form_valid p r.tree fit.spelled);
+    valid = subst (λ k. IsShuffleTree (inputs_of p.generators) k (F r.tree)) e (form_valid p r.tree fit.spelled);
     place = fit.place;
   }
 
-  same_value : (n : ℕ) (r : Red) (fit : IsFit p elems r) (e : leaf_count r.tree ≡ n) → Same tree_discrete p.q (insertion_of p elems r.number r.tree r.set) (value_of (insertion_for n r fit e))
+  same_value : (n : ℕ) (r : Red) (fit : IsFit p.generators elems r) (e : leaf_count r.tree ≡ n) → Same tree_discrete p.q (insertion_of p elems r.number r.tree r.set) (value_of (insertion_for n r fit e))
   unfolding insertion_for
   same_value n r fit e =
       subst (λ o. Same tree_discrete p.q (moved (insert (frame_at r.set (F r.tree))) (shuffled p (element_in o))) (inserted (E fit.entry) (F r.tree) r.set)) (sym fit.named)
       (λ t. sym (same_inserted fit.entry (nth_mem elems r.number fit.entry fit.named) (F r.tree) r.set t))
 
-  uses_of : (n : ℕ) (Q : Tree ℕ → Type 0) (reds : List Red) → AllByRecursion (λ r. IsFit p elems r × (leaf_count r.tree ≡ n) × Q (F r.tree)) reds → Uses n Q (sum_of p elems reds)
+  uses_of : (n : ℕ) (Q : Tree ℕ → Type 0) (reds : List Red) → AllByRecursion (λ r. IsFit p.generators elems r × (leaf_count r.tree ≡ n) × Q (F r.tree)) reds → Uses n Q (sum_of p elems reds)
   unfolding expand insertion_for
   uses_of n Q [] h = record { uses = []; all = tt; adds_up = λ t. refl }
   uses_of n Q (r ∷ reds) h =
@@ -142,8 +142,8 @@ module _ {C : Type 0} (Shown : List (ℕ × Tree ℕ) → C → Type 0) (p : Pre
         let k = uses_of (leaf_count x.at.tree) (λ u. cmp u (F x.at.tree) ≡ Less) x.reds (each_red x.reds h.reds) in
         record { uses = k.uses; all = k.all; adds_up = λ t. h.adds_up t ∙ k.adds_up t }
       where
-        each_red : (reds : List Red) → AllByRecursion (IsRowRed p cmp elems x.at.tree) reds
-            → AllByRecursion (λ r. IsFit p elems r × (leaf_count r.tree ≡ leaf_count x.at.tree) × (cmp (F r.tree) (F x.at.tree) ≡ Less)) reds
+        each_red : (reds : List Red) → AllByRecursion (IsRowRed p.generators cmp elems x.at.tree) reds
+            → AllByRecursion (λ r. IsFit p.generators elems r × (leaf_count r.tree ≡ leaf_count x.at.tree) × (cmp (F r.tree) (F x.at.tree) ≡ Less)) reds
         each_red [] h = tt
         each_red (r ∷ reds) h = ((h.0.fit, h.0.below.one_arity, h.0.below.smaller), each_red reds h.1)
 
@@ -160,31 +160,31 @@ module _ {C : Type 0} (Shown : List (ℕ × Tree ℕ) → C → Type 0) (p : Pre
             (same_inserted x mx t first)
             ((laws p.q).same_scaled p.q (inserted (E y) t second) (moved (insert (frame_at second t)) (shuffled p y.element)) (same_inserted y my t second))
 
-    module _ (every : HasEveryRow p N elems rows) where
+    module _ (every : HasEveryRow p.generators N elems rows) where
       -- the S-element of the elements of two entries there
       abbrev s_sum : ℕ → ℕ → Tree ℕ → List ℕ → List ℕ → Sum
       s_sum i j t first second =
           moved (insert (frame_at first t)) (shuffled p (element_in (nth elems i))) ++ scale p.q (moved (insert (frame_at second t)) (shuffled p (element_in (nth elems j))))
 
-      found : (i j : ℕ) (t : Tree ℕ) (first second : List ℕ) → IsCommonMultiple p N elems (named p i j t first second)
-          → Uses (leaf_count (symmetric_tree p t)) (λ u. cmp u (F (symmetric_tree p t)) ≡ Less) (s_sum i j (F (symmetric_tree p t)) first second)
+      found : (i j : ℕ) (t : Tree ℕ) (first second : List ℕ) → IsCommonMultiple p.generators N elems (named p i j t first second)
+          → Uses (leaf_count (symmetric_tree p.generators t)) (λ u. cmp u (F (symmetric_tree p.generators t)) ≡ Less) (s_sum i j (F (symmetric_tree p.generators t)) first second)
       found i j t first second h =
           let row = every (named p i j t first second) h in
           subst (λ z. Uses (leaf_count z.tree) (λ u. cmp u (F z.tree) ≡ Less) (s_element_at p elems z)) row.2 (row_reduces row.0 row.1)
 
       -- the tree stands for the shuffle tree, so what is a sum of insertions below the one is one below the other
-      found_there : (i j m : ℕ) (t : Tree ℕ) (first second : List ℕ) → IsCommonMultiple p N elems (named p i j t first second) → leaf_count (symmetric_tree p t) ≡ m → F (symmetric_tree p t) ≡ t
+      found_there : (i j m : ℕ) (t : Tree ℕ) (first second : List ℕ) → IsCommonMultiple p.generators N elems (named p i j t first second) → leaf_count (symmetric_tree p.generators t) ≡ m → F (symmetric_tree p.generators t) ≡ t
           → Uses m (λ u. cmp u t ≡ Less) (s_sum i j t first second)
       found_there i j m t first second h arity form =
           subst (λ k. Uses k (λ u. cmp u t ≡ Less) (s_sum i j t first second)) arity
-          (subst (λ z. Uses (leaf_count (symmetric_tree p t)) (λ u. cmp u z ≡ Less) (s_sum i j z first second)) form (found i j t first second h))
+          (subst (λ z. Uses (leaf_count (symmetric_tree p.generators t)) (λ u. cmp u z ≡ Less) (s_sum i j z first second)) form (found i j t first second h))
 
       at_multiple : (m : ℕ) → m ≤ N → (i j : ℕ) (x y : ElemEntry C) → nth elems i ≡ Some x → nth elems j ≡ Some y → i ≤ j → (t : Tree ℕ) (first second : List ℕ)
           → IsMultiple m (F x.lead) (F y.lead) t first second → ReducesBelow s m t (s_element p.q (E x) (E y) t first second)
       at_multiple m le i j x y ex ey ij t first second mult =
           let mx : Mem x elems = nth_mem elems i x ex in
           let my : Mem y elems = nth_mem elems j y ey in
-          let v : IsShuffleTree (inputs_of p) m t = multiple_valid p x.lead y.lead (entry_good x mx).lead.spelled (entry_good y my).lead.spelled m t first second mult in
+          let v : IsShuffleTree (inputs_of p.generators) m t = multiple_valid p x.lead y.lead (entry_good x mx).lead.spelled (entry_good y my).lead.spelled m t first second mult in
           let c : Uses m (λ u. cmp u t ≡ Less) (s_sum i j t first second)
           = found_there i j m t first second (common_of_form p N elems i j x y ex ey ij (entry_good x mx).lead.spelled (entry_good y my).lead.spelled m le t first second mult) (back_arity p m t v) (form_back p m t v) in
           of_uses m x y mx my t first second
@@ -219,7 +219,7 @@ module _ {C : Type 0} (Shown : List (ℕ × Tree ℕ) → C → Type 0) (p : Pre
         let k = uses_of r.arity (λ u. Unit {0}) x.reds (each_red r.arity x.reds h.reds) in
         record { relation = r; named = h.relabelling.named; spanned = record { uses = k.uses; adds_up = λ t. h.adds_up t ∙ k.adds_up t } }
       where
-        each_red : (n : ℕ) (reds : List Red) → AllByRecursion (IsRelabelRed p elems n) reds → AllByRecursion (λ r. IsFit p elems r × (leaf_count r.tree ≡ n) × Unit {0}) reds
+        each_red : (n : ℕ) (reds : List Red) → AllByRecursion (IsRelabelRed p.generators elems n) reds → AllByRecursion (λ r. IsFit p.generators elems r × (leaf_count r.tree ≡ n) × Unit {0}) reds
         each_red n [] h = tt
         each_red n (r ∷ reds) h = ((h.0.fit, h.0.one_arity, tt), each_red n reds h.1)
 
@@ -239,7 +239,7 @@ module _ {C : Type 0} (Shown : List (ℕ × Tree ℕ) → C → Type 0) (p : Pre
             (entry_there (record { number = k.0; permutation = v }) (record { relation = r; named = k.1; has_terms = λ z. cc (e, z); few = le; permutes = ((all_orderings r.arity).2 v).0 o }))
 
 -- the elements of a certificate that holds through N are certified through N
-pub certify : {C : Type 0} (Shown : List (ℕ × Tree ℕ) → C → Type 0) (p : Presentation) → IsSound p → IsProper p → (cmp : Tree ℕ → Tree ℕ → Ordering) → IsTreeOrder (inputs_of p) cmp
+pub certify : {C : Type 0} (Shown : List (ℕ × Tree ℕ) → C → Type 0) (p : Presentation) → IsSound p → IsProper p → (cmp : Tree ℕ → Tree ℕ → Ordering) → IsTreeOrder (inputs_of p.generators) cmp
     → (N : ℕ) (cert : Certificate C) → ShowMembers Shown p cert.elems → CertificateHolds Shown p cmp N cert → IsCertified p cmp (shuffle_elements p cmp cert.elems) N
 certify Shown p sound proper cmp order N cert members holds = record {
   monic = monic Shown p sound proper cmp order cert.elems members holds.elems;

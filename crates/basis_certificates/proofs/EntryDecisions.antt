@@ -40,23 +40,23 @@ module _ {C : Type 0} (p : Presentation) (cmp : Tree ℕ → Tree ℕ → Orderi
       (dec_members (λ y. y.lead ≡ x.lead → ⊥) (λ y. dec_not (tree_discrete y.lead x.lead)) earlier)))
 
   pub dec_has_unit : Dec (HasUnit p x)
-  dec_has_unit = dec_alike p.q (coef tree_discrete (shuffled p x.element) (shuffle_form p x.lead)) 1
+  dec_has_unit = dec_alike p.q (coef tree_discrete (shuffled p x.element) (shuffle_form p.generators x.lead)) 1
 
 -- ---- reductions
 
 module _ {C : Type 0} (p : Presentation) (elems : List (ElemEntry C)) where
-  pub dec_fit : (r : Red) → Dec (IsFit p elems r)
+  pub dec_fit : (r : Red) → Dec (IsFit p.generators elems r)
   dec_fit r = go (look_up elems r.number)
     where
-      go : ((x : ElemEntry C) × (nth elems r.number ≡ Some x)) ⊎ ((x : ElemEntry C) → nth elems r.number ≡ Some x → ⊥) → Dec (IsFit p elems r)
+      go : ((x : ElemEntry C) × (nth elems r.number ≡ Some x)) ⊎ ((x : ElemEntry C) → nth elems r.number ≡ Some x → ⊥) → Dec (IsFit p.generators elems r)
       go (inr n) = no (λ h. n h.entry h.named)
       go (inl x) = dec_by (λ h. record { entry = x.0; named = x.1; spelled = h.0; place = h.1 })
-          (λ h. (h.spelled, let e : h.entry ≡ x.0 = cc (h.named, x.1) in subst (λ y. IsPlace (shuffle_form p r.tree) r.set (shuffle_form p y.lead)) e h.place))
-          (dec_both (dec_spelled p r.tree) (dec_place (shuffle_form p r.tree) r.set (shuffle_form p x.0.lead)))
+          (λ h. (h.spelled, let e : h.entry ≡ x.0 = cc (h.named, x.1) in subst (λ y. IsPlace (shuffle_form p.generators r.tree) r.set (shuffle_form p.generators y.lead)) e h.place))
+          (dec_both (dec_spelled p r.tree) (dec_place (shuffle_form p.generators r.tree) r.set (shuffle_form p.generators x.0.lead)))
 
-pub dec_below : (p : Presentation) (cmp : Tree ℕ → Tree ℕ → Ordering) (t : Tree ℕ) (r : Red) → Dec (IsBelow p cmp t r)
+pub dec_below : (p : Presentation) (cmp : Tree ℕ → Tree ℕ → Ordering) (t : Tree ℕ) (r : Red) → Dec (IsBelow p.generators cmp t r)
 dec_below p cmp t r = dec_by (λ h. record { smaller = h.0; one_arity = h.1 }) (λ h. (h.smaller, h.one_arity))
-    (dec_both (dec_less (cmp (shuffle_form p r.tree) (shuffle_form p t))) (ℕ_discrete (leaf_count r.tree) (leaf_count t)))
+    (dec_both (dec_less (cmp (shuffle_form p.generators r.tree) (shuffle_form p.generators t))) (ℕ_discrete (leaf_count r.tree) (leaf_count t)))
 
 -- ---- small common multiples
 
@@ -78,13 +78,13 @@ multiple_discrete m k = same_multiple m k (ℕ_discrete m.one k.one) (ℕ_discre
 
 module _ {C : Type 0} (p : Presentation) (N : ℕ) (elems : List (ElemEntry C)) where
   abbrev F : Tree ℕ → Tree ℕ
-  F = shuffle_form p
+  F = shuffle_form p.generators
 
-  pub dec_common : (m : Multiple) → Dec (IsCommonMultiple p N elems m)
+  pub dec_common : (m : Multiple) → Dec (IsCommonMultiple p.generators N elems m)
   dec_common m = go (look_up elems m.one) (look_up elems m.other)
     where
       go : ((x : ElemEntry C) × (nth elems m.one ≡ Some x)) ⊎ ((x : ElemEntry C) → nth elems m.one ≡ Some x → ⊥)
-          → ((y : ElemEntry C) × (nth elems m.other ≡ Some y)) ⊎ ((y : ElemEntry C) → nth elems m.other ≡ Some y → ⊥) → Dec (IsCommonMultiple p N elems m)
+          → ((y : ElemEntry C) × (nth elems m.other ≡ Some y)) ⊎ ((y : ElemEntry C) → nth elems m.other ≡ Some y → ⊥) → Dec (IsCommonMultiple p.generators N elems m)
       go (inr n) d = no (λ h. n h.one h.one_named)
       go (inl x) (inr n) = no (λ h. n h.other h.other_named)
       go (inl x) (inl y) = dec_by
@@ -105,10 +105,10 @@ module _ {C : Type 0} (p : Presentation) (N : ℕ) (elems : List (ElemEntry C)) 
   -- the leading tree of an entry in shuffle form
   abbrev form_in : Option (ElemEntry C) → Tree ℕ
   form_in None = leaf 0
-  form_in (Some x) = shuffle_form p x.lead
+  form_in (Some x) = shuffle_form p.generators x.lead
 
   abbrev named : ℕ → ℕ → Tree ℕ × List ℕ × List ℕ → Multiple
-  named i j t = record { one = i; other = j; tree = symmetric_tree p t.0; first = t.1; second = t.2 }
+  named i j t = record { one = i; other = j; tree = symmetric_tree p.generators t.0; first = t.1; second = t.2 }
 
   abbrev numbers : List ℕ
   numbers = upto (length elems)
@@ -117,7 +117,7 @@ module _ {C : Type 0} (p : Presentation) (N : ℕ) (elems : List (ElemEntry C)) 
   abbrev candidates : List Multiple
   candidates = flat_map (λ i. flat_map (λ j. flat_map (λ n. map (named i j) (multiples (form_in (nth elems i)) (form_in (nth elems j)) n)) (0 ∷ upto N)) numbers) numbers
 
-  among : (m : Multiple) → IsCommonMultiple p N elems m → Mem m candidates
+  among : (m : Multiple) → IsCommonMultiple p.generators N elems m → Mem m candidates
   among m h =
       let i = nth_within elems m.one h.one h.one_named in
       let j = nth_within elems m.other h.other h.other_named in
@@ -140,13 +140,13 @@ module _ {C : Type 0} (p : Presentation) (N : ℕ) (elems : List (ElemEntry C)) 
       arity_mem (suc n) le = inr (in_upto N (suc n) (omega arith) le)
 
   -- all small common multiples of arity at most N, each once
-  pub all_common : Kept (IsCommonMultiple p N elems) candidates
-  all_common = kept multiple_discrete (IsCommonMultiple p N elems) dec_common candidates
+  pub all_common : Kept (IsCommonMultiple p.generators N elems) candidates
+  all_common = kept multiple_discrete (IsCommonMultiple p.generators N elems) dec_common candidates
 
-  pub common_listed : (m : Multiple) → IsCommonMultiple p N elems m → Mem m all_common.list
+  pub common_listed : (m : Multiple) → IsCommonMultiple p.generators N elems m → Mem m all_common.list
   common_listed m h = all_common.into m (among m h) h
 
-  pub dec_every_row : (rows : List RowEntry) → Dec (HasEveryRow p N elems rows)
+  pub dec_every_row : (rows : List RowEntry) → Dec (HasEveryRow p.generators N elems rows)
   dec_every_row rows = dec_by (λ h m k. h m (common_listed m k)) (λ h m k. h m (all_common.holds m k))
       (dec_members (λ m. (x : RowEntry) × Mem x rows × (x.at ≡ m)) (λ m. dec_some (λ x. x.at ≡ m) (λ x. multiple_discrete x.at m) rows) all_common.list)
 
@@ -208,7 +208,7 @@ module _ (p : Presentation) (N : ℕ) where
       (dec_members (λ m. (x : RelabelEntry) × Mem x relabels × (x.at ≡ m)) (λ m. dec_some (λ x. x.at ≡ m) (λ x. relabelling_discrete x.at m) relabels) all_relabellings.list)
 
 module _ {C : Type 0} (p : Presentation) (N : ℕ) (elems : List (ElemEntry C)) where
-  dec_relabel_red : (n : ℕ) (r : Red) → Dec (IsRelabelRed p elems n r)
+  dec_relabel_red : (n : ℕ) (r : Red) → Dec (IsRelabelRed p.generators elems n r)
   dec_relabel_red n r = dec_by (λ h. record { fit = h.0; one_arity = h.1 }) (λ h. (h.fit, h.one_arity)) (dec_both (dec_fit p elems r) (ℕ_discrete (leaf_count r.tree) n))
 
   abbrev IsNew : List RelabelEntry → RelabelEntry → Type 0
@@ -223,8 +223,8 @@ module _ {C : Type 0} (p : Presentation) (N : ℕ) (elems : List (ElemEntry C)) 
           (λ h. (
             h.new,
             let e : h.relabelling.relation ≡ k.relation = cc (h.relabelling.named, k.named) in
-                subst (λ r. AllByRecursion (IsRelabelRed p elems r.arity) x.reds × Same tree_discrete p.q (shuffled p (relabelled x.at.permutation r.terms)) (sum_of p elems x.reds)) e (h.reds, h.adds_up),
+                subst (λ r. AllByRecursion (IsRelabelRed p.generators elems r.arity) x.reds × Same tree_discrete p.q (shuffled p (relabelled x.at.permutation r.terms)) (sum_of p elems x.reds)) e (h.reds, h.adds_up),
           ))
           (dec_both (dec_members (λ y. y.at ≡ x.at → ⊥) (λ y. dec_not (relabelling_discrete y.at x.at)) earlier)
-          (dec_both (dec_each (IsRelabelRed p elems k.relation.arity) (dec_relabel_red k.relation.arity) x.reds)
+          (dec_both (dec_each (IsRelabelRed p.generators elems k.relation.arity) (dec_relabel_red k.relation.arity) x.reds)
           (dec_same tree_discrete p.q (shuffled p (relabelled x.at.permutation k.relation.terms)) (sum_of p elems x.reds))))

@@ -46,10 +46,10 @@ use Rattle.basis_certificates.proofs.Spellings.{one_form, back_spelled}
 use Rattle.basis_certificates.proofs.Elements.{holds_or_zero}
 
 abbrev pub cmp : Tree ℕ → Tree ℕ → Ordering
-cmp = compare lie by_path
+cmp = compare lie.generators by_path
 
-pub order : IsTreeOrder (inputs_of lie) cmp
-order = order_of lie by_path
+pub order : IsTreeOrder (inputs_of lie.generators) cmp
+order = order_of lie.generators by_path
 
 pub proper : IsProper lie
 proper r (inl e) = subst (λ x. (x.terms ≡ []) ⊎ (2 ≤ x.arity)) (sym e) (inr (omega arith))
@@ -139,27 +139,27 @@ test e c = true
 
 -- a tree that is its own shuffle form, and a place of t1 in it
 pub record IsHost (n : ℕ) (t : Tree ℕ) (set : List ℕ) : Type 0 where
-  pub among : has_by tree_discrete (all_trees (labels lie) (inputs_of lie) n) t ≡ true
-  pub back : symmetric_tree lie t ≡ t
-  pub form : shuffle_form lie t ≡ t
+  pub among : has_by tree_discrete (all_trees (labels lie.generators) (inputs_of lie.generators) n) t ≡ true
+  pub back : symmetric_tree lie.generators t ≡ t
+  pub form : shuffle_form lie.generators t ≡ t
   pub place : has_by word_discrete (places t1 1 t) set ≡ true
 
 module _ (n : ℕ) (t : Tree ℕ) (set : List ℕ) (h : IsHost n t set) where
-  pub host_valid : IsShuffleTree (inputs_of lie) n t
-  host_valid = (listed (labels lie) (inputs_of lie) (are_labels lie wide) n).0.only t (has_by_mem tree_discrete (all_trees (labels lie) (inputs_of lie) n) t h.among)
+  pub host_valid : IsShuffleTree (inputs_of lie.generators) n t
+  host_valid = (listed (labels lie.generators) (inputs_of lie.generators) (are_labels lie wide) n).0.only t (has_by_mem tree_discrete (all_trees (labels lie.generators) (inputs_of lie.generators) n) t h.among)
 
-  host_spelled : IsSpelled lie t
-  host_spelled = subst (IsSpelled lie) h.back (back_spelled lie n t host_valid)
+  host_spelled : IsSpelled lie.generators t
+  host_spelled = subst (IsSpelled lie.generators) h.back (back_spelled lie n t host_valid)
 
-  host_place : IsPlace (shuffle_form lie t) set t1
+  host_place : IsPlace (shuffle_form lie.generators t) set t1
   host_place = subst (λ u. IsPlace u set t1) (sym h.form) (((places_listed t1 t tt).0 set).0 (has_by_mem word_discrete (places t1 1 t) set h.place))
 
-pub form_t1 : shuffle_form lie t1 ≡ t1
+pub form_t1 : shuffle_form lie.generators t1 ≡ t1
 unfolding word_discrete same_cons letter_discrete same_letter ℕ_discrete
 form_t1 = refl
 
-pub fit : (n c : ℕ) (t : Tree ℕ) (set : List ℕ) → IsHost n t set → IsFit lie elems (red c t set)
-fit n c t set h = record { entry = elem; named = refl; spelled = host_spelled n t set h; place = subst (IsPlace (shuffle_form lie t) set) (sym form_t1) (host_place n t set h) }
+pub fit : (n c : ℕ) (t : Tree ℕ) (set : List ℕ) → IsHost n t set → IsFit lie.generators elems (red c t set)
+fit n c t set h = record { entry = elem; named = refl; spelled = host_spelled n t set h; place = subst (IsPlace (shuffle_form lie.generators t) set) (sym form_t1) (host_place n t set h) }
 
 pub host_t1 : IsHost 3 t1 top_two
 unfolding word_discrete same_cons letter_discrete same_letter ℕ_discrete tree_discrete tree_discrete_by row_discrete_by same_leaf same_node same_more
@@ -184,9 +184,9 @@ hosts = (
 
 -- ---- the element
 
-labelled_at : (n : ℕ) (t : Tree ℕ) → has_by tree_discrete (all_trees (labels lie) (inputs_of lie) n) t ≡ true → symmetric_tree lie t ≡ t → leaf_count t ≡ n → IsLabelled (arity_of lie) n t
-labelled_at n t h e k = subst (λ m. IsLabelled (arity_of lie) m t) k (subst (IsSpelled lie) e (back_spelled lie n t
-    ((listed (labels lie) (inputs_of lie) (are_labels lie wide) n).0.only t (has_by_mem tree_discrete (all_trees (labels lie) (inputs_of lie) n) t h)))).labelled
+labelled_at : (n : ℕ) (t : Tree ℕ) → has_by tree_discrete (all_trees (labels lie.generators) (inputs_of lie.generators) n) t ≡ true → symmetric_tree lie.generators t ≡ t → leaf_count t ≡ n → IsLabelled (arity_of lie) n t
+labelled_at n t h e k = subst (λ m. IsLabelled (arity_of lie) m t) k (subst (IsSpelled lie.generators) e (back_spelled lie n t
+    ((listed (labels lie.generators) (inputs_of lie.generators) (are_labels lie wide) n).0.only t (has_by_mem tree_discrete (all_trees (labels lie.generators) (inputs_of lie.generators) n) t h)))).labelled
 
 pub element_labelled : AllTerms elem.element (IsLabelled (arity_of lie) 3)
 unfolding word_discrete same_cons letter_discrete same_letter ℕ_discrete tree_discrete tree_discrete_by row_discrete_by same_leaf same_node same_more
@@ -197,7 +197,7 @@ entry e = record { lead = t1; element = e; cofactors = tt }
 
 -- t1 leads an element of arity 3 in which it stands, and no greater tree
 pub lead_with : (e : List (ℕ × Tree ℕ)) → AllTerms e (IsLabelled (arity_of lie) 3) → AllTerms (shuffled lie e) (λ s. cmp t1 s ≡ Less → ⊥)
-    → (Alike 100 (coef tree_discrete (shuffled lie e) (shuffle_form lie t1)) 0 → ⊥) → HasOwnLeadingTree lie cmp [] (entry e)
+    → (Alike 100 (coef tree_discrete (shuffled lie e) (shuffle_form lie.generators t1)) 0 → ⊥) → HasOwnLeadingTree lie cmp [] (entry e)
 lead_with e labelled below there = record {
   spelled = host_spelled 3 t1 top_two host_t1;
   element_labelled = labelled;
@@ -213,7 +213,7 @@ not_less : AllTerms (shuffled lie elem.element) (λ s. cmp t1 s ≡ Less → ⊥
 unfolding word_discrete same_cons letter_discrete same_letter ℕ_discrete
 not_less = ((λ e. cc e), ((λ e. cc e), ((λ e. cc e), tt)))
 
-unit_of : coef tree_discrete (shuffled lie elem.element) (shuffle_form lie t1) ≡ 1
+unit_of : coef tree_discrete (shuffled lie elem.element) (shuffle_form lie.generators t1) ≡ 1
 unfolding word_discrete same_cons letter_discrete same_letter ℕ_discrete tree_discrete tree_discrete_by row_discrete_by same_leaf same_node same_more coef
 unit_of = refl
 
@@ -225,10 +225,10 @@ good_elem = record { lead = has_lead; unit = ap (λ k. k % 101) unit_of; shown =
 
 -- ---- the row
 
-row_red : (c : ℕ) (t : Tree ℕ) (set : List ℕ) → IsHost 4 t set → cmp (shuffle_form lie t) (shuffle_form lie comb) ≡ Less → leaf_count t ≡ 4 → IsRowRed lie cmp elems comb (red c t set)
+row_red : (c : ℕ) (t : Tree ℕ) (set : List ℕ) → IsHost 4 t set → cmp (shuffle_form lie.generators t) (shuffle_form lie.generators comb) ≡ Less → leaf_count t ≡ 4 → IsRowRed lie.generators cmp elems comb (red c t set)
 row_red c t set h less k = record { fit = fit 4 c t set h; below = record { smaller = less; one_arity = k } }
 
-row_reds : AllByRecursion (IsRowRed lie cmp elems comb) row.reds
+row_reds : AllByRecursion (IsRowRed lie.generators cmp elems comb) row.reds
 unfolding word_discrete same_cons letter_discrete same_letter ℕ_discrete
 row_reds = (
   row_red 100 u1 lower_two hosts.0 refl refl,
@@ -248,7 +248,7 @@ row_adds_up : Same tree_discrete 100 (s_element_at lie elems the_multiple) (sum_
 unfolding word_discrete same_cons letter_discrete same_letter ℕ_discrete tree_discrete tree_discrete_by row_discrete_by same_leaf same_node same_more coef scale
 row_adds_up = same_if_agree tree_discrete 100 (s_element_at lie elems the_multiple) (sum_of lie elems row.reds) refl
 
-pub is_common : IsCommonMultiple lie 4 elems the_multiple
+pub is_common : IsCommonMultiple lie.generators 4 elems the_multiple
 is_common = record {
   one = elem;
   other = elem;
@@ -257,7 +257,7 @@ is_common = record {
   in_order = omega arith;
   spelled = host_spelled 4 comb top_two host_comb;
   few = omega arith;
-  multiple = subst (λ a. IsMultiple 4 a a (shuffle_form lie comb) top_two lower_two) (sym form_t1)
+  multiple = subst (λ a. IsMultiple 4 a a (shuffle_form lie.generators comb) top_two lower_two) (sym form_t1)
       (subst (λ t. IsMultiple 4 t1 t1 t top_two lower_two) (sym host_comb.form) comb_multiple);
 }
 
@@ -353,16 +353,16 @@ only_entry k x e =
     let f : Some elem ≡ Some x = subst (λ i. nth elems i ≡ Some x) one e in
     (one, cc f)
 
-only_multiple : (m : Multiple) → IsCommonMultiple lie 4 elems m → the_multiple ≡ m
+only_multiple : (m : Multiple) → IsCommonMultiple lie.generators 4 elems m → the_multiple ≡ m
 only_multiple m h =
     let x = only_entry m.one h.one h.one_named in
     let y = only_entry m.other h.other h.other_named in
-    let at : IsMultiple (leaf_count m.tree) t1 t1 (shuffle_form lie m.tree) m.first m.second
-    = subst (λ a. IsMultiple (leaf_count m.tree) a t1 (shuffle_form lie m.tree) m.first m.second) form_t1
-    (subst (λ b. IsMultiple (leaf_count m.tree) (shuffle_form lie t1) b (shuffle_form lie m.tree) m.first m.second) form_t1
-    (subst (λ z. IsMultiple (leaf_count m.tree) (shuffle_form lie z.lead) (shuffle_form lie t1) (shuffle_form lie m.tree) m.first m.second) x.1
-    (subst (λ z. IsMultiple (leaf_count m.tree) (shuffle_form lie h.one.lead) (shuffle_form lie z.lead) (shuffle_form lie m.tree) m.first m.second) y.1 h.multiple))) in
-    let t = one_multiple (leaf_count m.tree) h.few (shuffle_form lie m.tree) m.first m.second at in
+    let at : IsMultiple (leaf_count m.tree) t1 t1 (shuffle_form lie.generators m.tree) m.first m.second
+    = subst (λ a. IsMultiple (leaf_count m.tree) a t1 (shuffle_form lie.generators m.tree) m.first m.second) form_t1
+    (subst (λ b. IsMultiple (leaf_count m.tree) (shuffle_form lie.generators t1) b (shuffle_form lie.generators m.tree) m.first m.second) form_t1
+    (subst (λ z. IsMultiple (leaf_count m.tree) (shuffle_form lie.generators z.lead) (shuffle_form lie.generators t1) (shuffle_form lie.generators m.tree) m.first m.second) x.1
+    (subst (λ z. IsMultiple (leaf_count m.tree) (shuffle_form lie.generators h.one.lead) (shuffle_form lie.generators z.lead) (shuffle_form lie.generators m.tree) m.first m.second) y.1 h.multiple))) in
+    let t = one_multiple (leaf_count m.tree) h.few (shuffle_form lie.generators m.tree) m.first m.second at in
     let tree : comb ≡ m.tree
     = one_form lie comb m.tree (host_spelled 4 comb top_two host_comb) h.spelled (host_comb.form ∙ sym (ap (λ (z : Triple). z.0) t)) in
     ap (λ z. record { one = z; other = 1; tree = comb; first = top_two; second = lower_two }) (sym x.0)
@@ -371,7 +371,7 @@ only_multiple m h =
     ∙ ap (λ z. record { one = m.one; other = m.other; tree = m.tree; first = z; second = lower_two }) (sym (ap (λ (z : Triple). z.1) t))
     ∙ ap (λ z. record { one = m.one; other = m.other; tree = m.tree; first = m.first; second = z }) (sym (ap (λ (z : Triple). z.2) t))
 
-pub every_row : HasEveryRow lie 4 elems (row ∷ [])
+pub every_row : HasEveryRow lie.generators 4 elems (row ∷ [])
 every_row m h = (row, inl refl, only_multiple m h)
 
 only_relation : (k : ℕ) (r : Relation) → nth lie.relations k ≡ Some r → (k ≡ 1) × (r ≡ jacobi_relation)

@@ -64,7 +64,7 @@ module _ {C : Type 0} (p : Presentation) where
   member_of (f ∷ gs) (y ∷ xs) h x (inl e) = (f, inl refl, subst (IsElemOf p f) (sym e) h.0)
   member_of (f ∷ gs) (y ∷ xs) h x (inr m) = let k = member_of gs xs h.1 x m in (k.0, inr k.1, k.2)
 
-  pub leads_of : (elements : List Element) (elems : List (ElemEntry C)) → AreElemsOf p elements elems → map (λ x. x.lead) elems ≡ map (λ g. symmetric_tree p g.lead) elements
+  pub leads_of : (elements : List Element) (elems : List (ElemEntry C)) → AreElemsOf p elements elems → map (λ x. x.lead) elems ≡ map (λ g. symmetric_tree p.generators g.lead) elements
   leads_of [] [] h = refl
   leads_of [] (y ∷ xs) h = absurd h
   leads_of (f ∷ gs) [] h = absurd h
@@ -76,12 +76,12 @@ module _ {C : Type 0} (p : Presentation) (cmp : Tree ℕ → Tree ℕ → Orderi
   s = setting p cmp elements
 
   abbrev F : Tree ℕ → Tree ℕ
-  F = shuffle_form p
+  F = shuffle_form p.generators
 
   abbrev T : Tree ℕ → Tree ℕ
-  T = symmetric_tree p
+  T = symmetric_tree p.generators
 
-  pub lead_valid : (g : Element) → Mem g elements → IsShuffleTree (inputs_of p) g.arity g.lead
+  pub lead_valid : (g : Element) → Mem g elements → IsShuffleTree (inputs_of p.generators) g.arity g.lead
   lead_valid g m = (monic.each g m).lead_valid
 
   -- the shuffle form of an entry's tree is the leading tree
@@ -91,7 +91,7 @@ module _ {C : Type 0} (p : Presentation) (cmp : Tree ℕ → Tree ℕ → Orderi
   -- ---- reductions
 
   -- the element of an entry inserted in the tree of a shuffle tree is the element in shuffle form inserted there
-  same_insertion : (n : ℕ) (k : ℕ) (g : Element) → nth elements k ≡ Some g → (t : Tree ℕ) → IsShuffleTree (inputs_of p) n t → (u : Tree ℕ) → u ≡ T t → (set : List ℕ)
+  same_insertion : (n : ℕ) (k : ℕ) (g : Element) → nth elements k ≡ Some g → (t : Tree ℕ) → IsShuffleTree (inputs_of p.generators) n t → (u : Tree ℕ) → u ≡ T t → (set : List ℕ)
       → Same tree_discrete p.q (insertion_of p elems k u set) (inserted g t set)
   same_insertion n k g e t v u is set =
       let x = entry_of p elements elems are k g e in
@@ -101,7 +101,7 @@ module _ {C : Type 0} (p : Presentation) (cmp : Tree ℕ → Tree ℕ → Orderi
       subst (λ o. Same tree_discrete p.q (moved (insert (frame_at set (F u))) (shuffled p (element_in o))) (inserted g t set)) (sym x.1)
       (subst (λ z. Same tree_discrete p.q (moved (insert (frame_at set z)) (shuffled p x.0.element)) (inserted g t set)) (sym form) a)
 
-  fit_of : (n : ℕ) (u : ℕ × Insertion s n) (r : Red) → IsRedOf p cmp elements u r → IsFit p elems r
+  fit_of : (n : ℕ) (u : ℕ × Insertion s n) (r : Red) → IsRedOf p cmp elements u r → IsFit p.generators elems r
   fit_of n u r h =
       let x = entry_of p elements elems are r.number u.1.of h.number in
       let form : F r.tree ≡ u.1.tree = ap F h.tree ∙ form_back p n u.1.tree u.1.valid in
@@ -109,7 +109,7 @@ module _ {C : Type 0} (p : Presentation) (cmp : Tree ℕ → Tree ℕ → Orderi
       record {
         entry = x.0;
         named = x.1;
-        spelled = subst (IsSpelled p) (sym h.tree) (back_spelled p n u.1.tree u.1.valid);
+        spelled = subst (IsSpelled p.generators) (sym h.tree) (back_spelled p n u.1.tree u.1.valid);
         place = subst (λ t. IsPlace t r.set (F x.0.lead)) (sym form) (subst (IsPlace u.1.tree r.set) (sym lead) (subst (λ l. IsPlace u.1.tree l u.1.of.lead) (sym h.set) u.1.place));
       }
 
@@ -136,17 +136,17 @@ module _ {C : Type 0} (p : Presentation) (cmp : Tree ℕ → Tree ℕ → Orderi
   -- ---- rows
 
   module _ (N : ℕ) where
-    tree_valid : (m : Multiple) (k : IsMultipleOfLeads p cmp elements N m) → IsShuffleTree (inputs_of p) k.arity k.tree
-    tree_valid m k = multiples_fit (inputs_of p) k.one.arity k.other.arity k.arity k.one.lead k.other.lead k.tree m.first m.second
+    tree_valid : (m : Multiple) (k : IsMultipleOfLeads p.generators elements N m) → IsShuffleTree (inputs_of p.generators) k.arity k.tree
+    tree_valid m k = multiples_fit (inputs_of p.generators) k.one.arity k.other.arity k.arity k.one.lead k.other.lead k.tree m.first m.second
         (lead_valid k.one (nth_mem elements m.one k.one k.one_named)) (lead_valid k.other (nth_mem elements m.other k.other k.other_named)) k.multiple
 
-    multiple_tree : (m : Multiple) (k : IsMultipleOfLeads p cmp elements N m) → F m.tree ≡ k.tree
+    multiple_tree : (m : Multiple) (k : IsMultipleOfLeads p.generators elements N m) → F m.tree ≡ k.tree
     multiple_tree m k = ap F k.tree_is ∙ form_back p k.arity k.tree (tree_valid m k)
 
-    multiple_arity : (m : Multiple) (k : IsMultipleOfLeads p cmp elements N m) → leaf_count m.tree ≡ k.arity
+    multiple_arity : (m : Multiple) (k : IsMultipleOfLeads p.generators elements N m) → leaf_count m.tree ≡ k.arity
     multiple_arity m k = ap leaf_count k.tree_is ∙ back_arity p k.arity k.tree (tree_valid m k)
 
-    pub common : (m : Multiple) → IsMultipleOfLeads p cmp elements N m → IsCommonMultiple p N elems m
+    pub common : (m : Multiple) → IsMultipleOfLeads p.generators elements N m → IsCommonMultiple p.generators N elems m
     common m k =
         let x = entry_of p elements elems are m.one k.one k.one_named in
         let y = entry_of p elements elems are m.other k.other k.other_named in
@@ -158,7 +158,7 @@ module _ {C : Type 0} (p : Presentation) (cmp : Tree ℕ → Tree ℕ → Orderi
           one_named = x.1;
           other_named = y.1;
           in_order = k.in_order;
-          spelled = subst (IsSpelled p) (sym k.tree_is) (back_spelled p k.arity k.tree (tree_valid m k));
+          spelled = subst (IsSpelled p.generators) (sym k.tree_is) (back_spelled p k.arity k.tree (tree_valid m k));
           few = subst (λ n. n ≤ N) (sym (multiple_arity m k)) k.few;
           multiple = subst (λ n. IsMultiple n (F x.0.lead) (F y.0.lead) (F m.tree) m.first m.second) (sym (multiple_arity m k))
               (subst (λ t. IsMultiple k.arity (F x.0.lead) (F y.0.lead) t m.first m.second) (sym (multiple_tree m k))
@@ -166,7 +166,7 @@ module _ {C : Type 0} (p : Presentation) (cmp : Tree ℕ → Tree ℕ → Orderi
               (subst (λ l. IsMultiple k.arity k.one.lead l k.tree m.first m.second) (sym fy) k.multiple)));
         }
 
-    pub of_common : (m : Multiple) → IsCommonMultiple p N elems m → IsMultipleOfLeads p cmp elements N m
+    pub of_common : (m : Multiple) → IsCommonMultiple p.generators N elems m → IsMultipleOfLeads p.generators elements N m
     of_common m k =
         let g = element_of p elements elems are m.one k.one k.one_named in
         let h = element_of p elements elems are m.other k.other k.other_named in
@@ -187,7 +187,7 @@ module _ {C : Type 0} (p : Presentation) (cmp : Tree ℕ → Tree ℕ → Orderi
         }
 
     row_reds : (n : ℕ) (t : Tree ℕ) (w : Tree ℕ) → F w ≡ t → leaf_count w ≡ n → (uses : List (ℕ × Insertion s n)) (reds : List Red)
-        → AllTerms uses (λ i. IsLess s i.tree t) → AreRedsOf p cmp elements uses reds → AllByRecursion (IsRowRed p cmp elems w) reds
+        → AllTerms uses (λ i. IsLess s i.tree t) → AreRedsOf p cmp elements uses reds → AllByRecursion (IsRowRed p.generators cmp elems w) reds
     row_reds n t w e a [] [] l h = tt
     row_reds n t w e a [] (r ∷ rs) l h = absurd h
     row_reds n t w e a (u ∷ us) [] l h = absurd h
@@ -225,7 +225,7 @@ module _ {C : Type 0} (p : Presentation) (cmp : Tree ℕ → Tree ℕ → Orderi
 
     -- ---- relations
 
-    relabel_reds : (n : ℕ) (uses : List (ℕ × Insertion s n)) (reds : List Red) → AreRedsOf p cmp elements uses reds → AllByRecursion (IsRelabelRed p elems n) reds
+    relabel_reds : (n : ℕ) (uses : List (ℕ × Insertion s n)) (reds : List Red) → AreRedsOf p cmp elements uses reds → AllByRecursion (IsRelabelRed p.generators elems n) reds
     relabel_reds n [] [] h = tt
     relabel_reds n [] (r ∷ rs) h = absurd h
     relabel_reds n (u ∷ us) [] h = absurd h

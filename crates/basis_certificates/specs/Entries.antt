@@ -14,33 +14,34 @@ use Rattle.shuffle_insertions.specs.Frames.{insert}
 use Rattle.shuffle_places.specs.Places.{frame_at, IsPlace}
 use Rattle.shuffle_places.specs.Multiples.{IsMultiple}
 use Rattle.operad_ideals.specs.Spelling.{IsSorted}
-use Rattle.operad_ideals.specs.Presentations.{Relation, Presentation, parts, arity_of}
+use Rattle.operad_ideals.specs.Parts.{Part, parts_of}
+use Rattle.operad_ideals.specs.Laws.{arity}
+use Rattle.operad_ideals.specs.Presentations.{Relation, Presentation, arity_of}
 use Rattle.shuffle_transfer.specs.Orderings.{IsOrdering}
 use Rattle.shuffle_transfer.specs.Labels.{shuffle_form}
 use Rattle.shuffle_transfer.specs.Transfer.{relabelled, shuffled}
 use Rattle.shuffle_transfer.specs.NormalTrees.{IsLead}
 use Rattle.basis_certificates.specs.Certificates.{Red, ElemEntry, Multiple, RowEntry, Relabelling, RelabelEntry, element_in}
 
-module _ (p : Presentation) where
-  -- A sorted spelling: a tree labelled by 1 to the number of its leaves, which is its arity, and sorted.
-  pub record IsSpelled (t : Tree ℕ) : Type 0 where
-    pub labelled : IsLabelled (arity_of p) (leaf_count t) t
-    pub sorted : IsSorted (parts p) t
+-- A sorted spelling: a tree labelled by 1 to the number of its leaves, which is its arity, and sorted.
+pub record IsSpelled (generators : List (List Part)) (t : Tree ℕ) : Type 0 where
+  pub labelled : IsLabelled (arity (parts_of generators)) (leaf_count t) t
+  pub sorted : IsSorted (parts_of generators) t
 
-  -- the shuffle form of the element, inserted at the place in the shuffle form of the tree: each of its trees stands there in turn
-  abbrev pub inserted_at : List (ℕ × Tree ℕ) → Tree ℕ → List ℕ → List (ℕ × Tree ℕ)
-  inserted_at e t set = moved (insert (frame_at set (shuffle_form p t))) (shuffled p e)
+-- the shuffle form of the element, inserted at the place in the shuffle form of the tree: each of its trees stands there in turn
+abbrev pub inserted_at : Presentation → List (ℕ × Tree ℕ) → Tree ℕ → List ℕ → List (ℕ × Tree ℕ)
+inserted_at p e t set = moved (insert (frame_at set (shuffle_form p.generators t))) (shuffled p e)
 
 -- ---- entries for elements
 
 -- The leading tree has coefficient 1.
 abbrev pub HasUnit : {C : Type 0} → Presentation → ElemEntry C → Type 0
-HasUnit p x = Alike p.q (coef tree_discrete (shuffled p x.element) (shuffle_form p x.lead)) 1
+HasUnit p x = Alike p.q (coef tree_discrete (shuffled p x.element) (shuffle_form p.generators x.lead)) 1
 
 module _ {C : Type 0} (p : Presentation) (cmp : Tree ℕ → Tree ℕ → Ordering) where
   -- The tree of the entry is a sorted spelling, it is the leading tree of the element, and it leads no earlier entry.
   pub record HasOwnLeadingTree (earlier : List (ElemEntry C)) (x : ElemEntry C) : Type 0 where
-    pub spelled : IsSpelled p x.lead
+    pub spelled : IsSpelled p.generators x.lead
     pub element_labelled : AllTerms x.element (IsLabelled (arity_of p) (leaf_count x.lead))
     pub leads : IsLead p cmp (leaf_count x.lead) x.element x.lead
     pub new : (y : ElemEntry C) → Mem y earlier → y.lead ≡ x.lead → ⊥
@@ -54,15 +55,15 @@ module _ {C : Type 0} (p : Presentation) (cmp : Tree ℕ → Tree ℕ → Orderi
 
 -- ---- reductions
 
-module _ {C : Type 0} (p : Presentation) (elems : List (ElemEntry C)) where
-  -- The reduction is fit: its number names an entry, its tree is a sorted spelling, and its vertices are a place there whose divisor
-  -- is the leading tree of the entry, both in shuffle form.
-  pub record IsFit (r : Red) : Type 0 where
-    pub entry : ElemEntry C
-    pub named : nth elems r.number ≡ Some entry
-    pub spelled : IsSpelled p r.tree
-    pub place : IsPlace (shuffle_form p r.tree) r.set (shuffle_form p entry.lead)
+-- The reduction is fit: its number names an entry, its tree is a sorted spelling, and its vertices are a place there whose divisor
+-- is the leading tree of the entry, both in shuffle form.
+pub record IsFit {C : Type 0} (generators : List (List Part)) (elems : List (ElemEntry C)) (r : Red) : Type 0 where
+  pub entry : ElemEntry C
+  pub named : nth elems r.number ≡ Some entry
+  pub spelled : IsSpelled generators r.tree
+  pub place : IsPlace (shuffle_form generators r.tree) r.set (shuffle_form generators entry.lead)
 
+module _ {C : Type 0} (p : Presentation) (elems : List (ElemEntry C)) where
   -- the element of the entry with this number, inserted at the place
   abbrev pub insertion_of : ℕ → Tree ℕ → List ℕ → List (ℕ × Tree ℕ)
   insertion_of k t set = inserted_at p (element_in (nth elems k)) t set
@@ -78,7 +79,7 @@ module _ {C : Type 0} (p : Presentation) (elems : List (ElemEntry C)) where
 
 -- ---- entries for small common multiples
 
-module _ {C : Type 0} (p : Presentation) (N : ℕ) (elems : List (ElemEntry C)) where
+module _ {C : Type 0} (generators : List (List Part)) (N : ℕ) (elems : List (ElemEntry C)) where
   -- The numbers name entries for elements in this order, the tree is a sorted spelling of arity at most N, and with its two places it is
   -- a small common multiple of their leading trees, all in shuffle form.
   pub record IsCommonMultiple (m : Multiple) : Type 0 where
@@ -87,31 +88,31 @@ module _ {C : Type 0} (p : Presentation) (N : ℕ) (elems : List (ElemEntry C)) 
     pub one_named : nth elems m.one ≡ Some one
     pub other_named : nth elems m.other ≡ Some other
     pub in_order : m.one ≤ m.other
-    pub spelled : IsSpelled p m.tree
+    pub spelled : IsSpelled generators m.tree
     pub few : leaf_count m.tree ≤ N
-    pub multiple : IsMultiple (leaf_count m.tree) (shuffle_form p one.lead) (shuffle_form p other.lead) (shuffle_form p m.tree) m.first m.second
+    pub multiple : IsMultiple (leaf_count m.tree) (shuffle_form generators one.lead) (shuffle_form generators other.lead) (shuffle_form generators m.tree) m.first m.second
 
   -- Each small common multiple of arity at most N has an entry.
   abbrev pub HasEveryRow : List RowEntry → Type 0
   HasEveryRow rows = (m : Multiple) → IsCommonMultiple m → (x : RowEntry) × Mem x rows × (x.at ≡ m)
 
 -- The tree of the reduction is smaller, and has the same arity.
-pub record IsBelow (p : Presentation) (cmp : Tree ℕ → Tree ℕ → Ordering) (t : Tree ℕ) (r : Red) : Type 0 where
-  pub smaller : cmp (shuffle_form p r.tree) (shuffle_form p t) ≡ Less
+pub record IsBelow (generators : List (List Part)) (cmp : Tree ℕ → Tree ℕ → Ordering) (t : Tree ℕ) (r : Red) : Type 0 where
+  pub smaller : cmp (shuffle_form generators r.tree) (shuffle_form generators t) ≡ Less
   pub one_arity : leaf_count r.tree ≡ leaf_count t
 
 -- The reduction is fit, and its tree is below t.
-pub record IsRowRed {C : Type 0} (p : Presentation) (cmp : Tree ℕ → Tree ℕ → Ordering) (elems : List (ElemEntry C)) (t : Tree ℕ) (r : Red) : Type 0 where
-  pub fit : IsFit p elems r
-  pub below : IsBelow p cmp t r
+pub record IsRowRed {C : Type 0} (generators : List (List Part)) (cmp : Tree ℕ → Tree ℕ → Ordering) (elems : List (ElemEntry C)) (t : Tree ℕ) (r : Red) : Type 0 where
+  pub fit : IsFit generators elems r
+  pub below : IsBelow generators cmp t r
 
 module _ {C : Type 0} (p : Presentation) (cmp : Tree ℕ → Tree ℕ → Ordering) (N : ℕ) (elems : List (ElemEntry C)) where
   -- The entry is good: it is for a small common multiple that no earlier one is for, and the S-element there is the sum of the
   -- reductions, which are below its tree.
   pub record IsGoodRow (earlier : List RowEntry) (x : RowEntry) : Type 0 where
-    pub multiple : IsCommonMultiple p N elems x.at
+    pub multiple : IsCommonMultiple p.generators N elems x.at
     pub new : (y : RowEntry) → Mem y earlier → y.at ≡ x.at → ⊥
-    pub reds : AllByRecursion (IsRowRed p cmp elems x.at.tree) x.reds
+    pub reds : AllByRecursion (IsRowRed p.generators cmp elems x.at.tree) x.reds
     pub adds_up : Same tree_discrete p.q (s_element_at p elems x.at) (sum_of p elems x.reds)
 
 -- ---- entries for relabelled relations
@@ -130,8 +131,8 @@ module _ (p : Presentation) (N : ℕ) where
   HasEveryRelabel relabels = (m : Relabelling) → IsRelabelling m → (x : RelabelEntry) × Mem x relabels × (x.at ≡ m)
 
 -- The reduction is fit, and its tree has this arity.
-pub record IsRelabelRed {C : Type 0} (p : Presentation) (elems : List (ElemEntry C)) (n : ℕ) (r : Red) : Type 0 where
-  pub fit : IsFit p elems r
+pub record IsRelabelRed {C : Type 0} (generators : List (List Part)) (elems : List (ElemEntry C)) (n : ℕ) (r : Red) : Type 0 where
+  pub fit : IsFit generators elems r
   pub one_arity : leaf_count r.tree ≡ n
 
 module _ {C : Type 0} (p : Presentation) (N : ℕ) (elems : List (ElemEntry C)) where
@@ -139,5 +140,5 @@ module _ {C : Type 0} (p : Presentation) (N : ℕ) (elems : List (ElemEntry C)) 
   pub record IsGoodRelabel (earlier : List RelabelEntry) (x : RelabelEntry) : Type 0 where
     pub relabelling : IsRelabelling p N x.at
     pub new : (y : RelabelEntry) → Mem y earlier → y.at ≡ x.at → ⊥
-    pub reds : AllByRecursion (IsRelabelRed p elems relabelling.relation.arity) x.reds
+    pub reds : AllByRecursion (IsRelabelRed p.generators elems relabelling.relation.arity) x.reds
     pub adds_up : Same tree_discrete p.q (shuffled p (relabelled x.at.permutation relabelling.relation.terms)) (sum_of p elems x.reds)

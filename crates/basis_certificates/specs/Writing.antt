@@ -11,6 +11,7 @@ use Rattle.shuffle_places.specs.Multiples.{IsMultiple}
 use Rattle.shuffle_bases.specs.Elements.{Element, terms, Insertion, s_element}
 use Rattle.shuffle_bases.specs.Reductions.{ReducesBelow}
 use Rattle.shuffle_normal_forms.specs.NormalForms.{InSpan}
+use Rattle.operad_ideals.specs.Parts.{Part}
 use Rattle.operad_ideals.specs.Presentations.{Presentation, arity_of}
 use Rattle.shuffle_transfer.specs.Labels.{symmetric_tree}
 use Rattle.shuffle_transfer.specs.Transfer.{relabelled, shuffled}
@@ -20,7 +21,7 @@ use Rattle.basis_certificates.specs.Entries.{IsRelabelling, HasEveryRelabel}
 
 -- the entry is for the element g: it has the trees for the leading tree and, up to sameness, for the whole element
 pub record IsElemOf {C : Type 0} (p : Presentation) (g : Element) (x : ElemEntry C) : Type 0 where
-  pub lead : x.lead ≡ symmetric_tree p g.lead
+  pub lead : x.lead ≡ symmetric_tree p.generators g.lead
   pub labelled : AllTerms x.element (IsLabelled (arity_of p) g.arity)
   pub element : Same tree_discrete p.q (shuffled p x.element) (terms g)
 
@@ -31,12 +32,25 @@ AreElemsOf p [] (x ∷ xs) = ⊥
 AreElemsOf p (g ∷ gs) [] = ⊥
 AreElemsOf p (g ∷ gs) (x ∷ xs) = IsElemOf p g x × AreElemsOf p gs xs
 
+-- a small common multiple, of arity at most N, of the leading trees of two elements with these numbers
+pub record IsMultipleOfLeads (generators : List (List Part)) (elements : List Element) (N : ℕ) (m : Multiple) : Type 0 where
+  pub one : Element
+  pub other : Element
+  pub one_named : nth elements m.one ≡ Some one
+  pub other_named : nth elements m.other ≡ Some other
+  pub in_order : m.one ≤ m.other
+  pub arity : ℕ
+  pub few : arity ≤ N
+  pub tree : Tree ℕ
+  pub tree_is : m.tree ≡ symmetric_tree generators tree
+  pub multiple : IsMultiple arity one.lead other.lead tree m.first m.second
+
 module _ (p : Presentation) (cmp : Tree ℕ → Tree ℕ → Ordering) (elements : List Element) where
   -- the reduction is for a number times an insertion
   pub record IsRedOf {n : ℕ} (u : ℕ × Insertion (setting p cmp elements) n) (r : Red) : Type 0 where
     pub coefficient : Alike p.q r.coefficient u.0
     pub number : nth elements r.number ≡ Some u.1.of
-    pub tree : r.tree ≡ symmetric_tree p u.1.tree
+    pub tree : r.tree ≡ symmetric_tree p.generators u.1.tree
     pub set : r.set ≡ u.1.set
 
   -- the reductions are for a sum of numbers times insertions, one for each, in their order
@@ -46,22 +60,9 @@ module _ (p : Presentation) (cmp : Tree ℕ → Tree ℕ → Ordering) (elements
   AreRedsOf (u ∷ us) [] = ⊥
   AreRedsOf (u ∷ us) (r ∷ rs) = IsRedOf u r × AreRedsOf us rs
 
-  -- a small common multiple, of arity at most N, of the leading trees of two elements with these numbers
-  pub record IsMultipleOfLeads (N : ℕ) (m : Multiple) : Type 0 where
-    pub one : Element
-    pub other : Element
-    pub one_named : nth elements m.one ≡ Some one
-    pub other_named : nth elements m.other ≡ Some other
-    pub in_order : m.one ≤ m.other
-    pub arity : ℕ
-    pub few : arity ≤ N
-    pub tree : Tree ℕ
-    pub tree_is : m.tree ≡ symmetric_tree p tree
-    pub multiple : IsMultiple arity one.lead other.lead tree m.first m.second
-
   -- the entry is for a small common multiple at which the S-element reduces, with the reductions for that
   pub record IsRowOf (N : ℕ) (x : RowEntry) : Type 0 where
-    pub at_multiple : IsMultipleOfLeads N x.at
+    pub at_multiple : IsMultipleOfLeads p.generators elements N x.at
     pub reduces : ReducesBelow (setting p cmp elements) at_multiple.arity at_multiple.tree (s_element p.q at_multiple.one at_multiple.other at_multiple.tree x.at.first x.at.second)
     pub reds : AreRedsOf reduces.uses x.reds
 
@@ -77,7 +78,7 @@ module _ (p : Presentation) (cmp : Tree ℕ → Tree ℕ → Ordering) (elements
     pub elems : AreElemsOf p elements cert.elems
     pub rows : (x : RowEntry) → Mem x cert.rows → IsRowOf N x
     pub rows_once : Distinct (map (λ x. x.at) cert.rows)
-    pub every_row : (m : Multiple) → IsMultipleOfLeads N m → (x : RowEntry) × Mem x cert.rows × (x.at ≡ m)
+    pub every_row : (m : Multiple) → IsMultipleOfLeads p.generators elements N m → (x : RowEntry) × Mem x cert.rows × (x.at ≡ m)
     pub relabels : (x : RelabelEntry) → Mem x cert.relabels → IsRelabelOf N x
     pub relabels_once : Distinct (map (λ x. x.at) cert.relabels)
     pub every_relabel : HasEveryRelabel p N cert.relabels

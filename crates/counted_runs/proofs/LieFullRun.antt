@@ -72,7 +72,7 @@ steps_of = (runs_so_far d 4).1
 
 -- ---- the first relabelled relation is the first element
 
-no_elements : AreIdealElements lie (compare lie by_path) []
+no_elements : AreIdealElements lie (compare lie.generators by_path) []
 no_elements = record { monic = record { each = λ g m. absurd m; apart = λ g h m. absurd m }; in_ideal = λ g m. absurd m }
 
 pub begin : BracketEntry
@@ -86,7 +86,7 @@ unfolding begin
 begin_entry = (entries_come_about d 4 3 begin record { from_two = omega arith; to_most = omega arith; arity_is = refl; ideal_elements = no_elements; chain = λ t. refl }).relation
     completion 1 jacobi_relation first_order refl refl refl refl (ordering first_order (inl refl)) (λ t. refl)
 
-less_than_t1 : (compare lie by_path t2 t1 ≡ Less) × (compare lie by_path t3 t1 ≡ Less)
+less_than_t1 : (compare lie.generators by_path t2 t1 ≡ Less) × (compare lie.generators by_path t3 t1 ≡ Less)
 unfolding ℕ_discrete
 less_than_t1 = (refl, refl)
 
@@ -99,13 +99,13 @@ begin_lead t h = go (three_trees t h.valid)
 
     go : (t ≡ t1) ⊎ ((t ≡ t2) ⊎ (t ≡ t3)) → HasLeadingTree one t
     go (inl e) = (jacobi, inl refl, sym e)
-    go (inr (inl e)) = absurd (not_zero (h.leads.above t1 valid_t1 (subst (λ x. compare lie by_path x t1 ≡ Less) (sym e) less_than_t1.0)))
-    go (inr (inr e)) = absurd (not_zero (h.leads.above t1 valid_t1 (subst (λ x. compare lie by_path x t1 ≡ Less) (sym e) less_than_t1.1)))
+    go (inr (inl e)) = absurd (not_zero (h.leads.above t1 valid_t1 (subst (λ x. compare lie.generators by_path x t1 ≡ Less) (sym e) less_than_t1.0)))
+    go (inr (inr e)) = absurd (not_zero (h.leads.above t1 valid_t1 (subst (λ x. compare lie.generators by_path x t1 ≡ Less) (sym e) less_than_t1.1)))
 
 -- the leading tree of this row is l(l(1,2),3), and no other
 only_lead : (u : Tree ℕ) → IsLastLead begin u → t1 ≡ u
 unfolding begin
-only_lead u h = (last_leads_are_one lie (compare lie by_path) ordered begin).0 t1 u itself h
+only_lead u h = (last_leads_are_one lie (compare lie.generators by_path) ordered begin).0 t1 u itself h
   where
     there : Alike 100 (coef tree_discrete (form_by first_order) t1) 0 → ⊥
     there z = let k = (coefs jacobi_relation refl).0 in absurd (omega (arith, k, z))
@@ -123,9 +123,9 @@ begun = (steps_of 3 [] [] ((runs_so_far d 4).0 3 [])).relation one begin 1 first
 
 -- ---- what is in the span is reduced to 0 by the one element
 
-module _ (n : ℕ) (le : n ≤ 4) (two : 2 ≤ n) (item : Item) (row : Sum) (valid : AllTerms row (IsShuffleTree (inputs_of lie) n)) where
-  reduced_row : End (labels lie) (setting lie (compare lie by_path) one) (are_labels lie wide) ordered certified.monic n row
-  reduced_row = end_of (labels lie) (setting lie (compare lie by_path) one) (are_labels lie wide) ordered certified.monic n row valid
+module _ (n : ℕ) (le : n ≤ 4) (two : 2 ≤ n) (item : Item) (row : Sum) (valid : AllTerms row (IsShuffleTree (inputs_of lie.generators) n)) where
+  reduced_row : End (labels lie.generators) (setting lie (compare lie.generators by_path) one) (are_labels lie wide) ordered certified.monic n row
+  reduced_row = end_of (labels lie.generators) (setting lie (compare lie.generators by_path) one) (are_labels lie wide) ordered certified.monic n row valid
 
   abbrev entry : BracketEntry
   entry = record { arity = n; item = item; elements = one; row = row; steps = reduced_row.uses; last = reduced_row.last }
@@ -136,9 +136,9 @@ module _ (n : ℕ) (le : n ≤ 4) (two : 2 ≤ n) (item : Item) (row : Sum) (val
   entry_finished : HasFinished entry
   entry_finished = reduced_row.finished
 
-  no_lead : InSpan (setting lie (compare lie by_path) one) n row → (t : Tree ℕ) → IsLastLead entry t → ⊥
+  no_lead : InSpan (setting lie (compare lie.generators by_path) one) n row → (t : Tree ℕ) → IsLastLead entry t → ⊥
   no_lead m t h =
-      let z = chains_end_with_zero (labels lie) (setting lie (compare lie by_path) one) (are_labels lie wide) ordered certified.monic 4 n certified.s_elements le row reduced_row.uses reduced_row.last reduced_row.chain reduced_row.finished m in
+      let z = chains_end_with_zero (labels lie.generators) (setting lie (compare lie.generators by_path) one) (are_labels lie wide) ordered certified.monic 4 n certified.s_elements le row reduced_row.uses reduced_row.last reduced_row.chain reduced_row.finished m in
       h.leads.there (z t ∙ ap (λ c. c % 101) (coef_nothing tree_discrete t))
 
 serves : (n : ℕ) → Serves d n one one
@@ -193,10 +193,10 @@ record Grown (run : List BracketEntry) (ws : List (List ℕ)) : Type 0 where
   each : (w : List ℕ) → Mem w ws → HasItem more (item_by w)
   only : (i : Item) → HasItem more i → HasItem run i ⊎ ((w : List ℕ) × Mem w ws × (item_by w ≡ i))
 
-span_by : (w : List ℕ) → Mem w (orderings 3) → InSpan (setting lie (compare lie by_path) one) 3 (form_by w)
+span_by : (w : List ℕ) → Mem w (orderings 3) → InSpan (setting lie (compare lie.generators by_path) one) 3 (form_by w)
 span_by w m = certified.relations jacobi_relation (inl refl) (omega arith) w m
 
-form_trees : (w : List ℕ) → Mem w (orderings 3) → AllTerms (form_by w) (IsShuffleTree (inputs_of lie) 3)
+form_trees : (w : List ℕ) → Mem w (orderings 3) → AllTerms (form_by w) (IsShuffleTree (inputs_of lie.generators) 3)
 form_trees w m = relabelled_trees d 3 jacobi_relation.terms (sound jacobi_relation (inl refl)) w (ordering w m)
 
 abbrev by : (w : List ℕ) → Mem w (orderings 3) → BracketEntry
@@ -287,8 +287,8 @@ only_orders i h = go (after_relations.only i h)
 tail_item : Item
 tail_item = tail_of t1
 
-tail_is_valid : AllTerms jacobi.tail (IsShuffleTree (inputs_of lie) 3)
-tail_is_valid = AllTerms-imp (λ u. IsShuffleTree (inputs_of lie) 3 u × IsLess (setting lie (compare lie by_path) one) u t1) (IsShuffleTree (inputs_of lie) 3) jacobi.tail (λ u h. h.0)
+tail_is_valid : AllTerms jacobi.tail (IsShuffleTree (inputs_of lie.generators) 3)
+tail_is_valid = AllTerms-imp (λ u. IsShuffleTree (inputs_of lie.generators) 3 u × IsLess (setting lie (compare lie.generators by_path) one) u t1) (IsShuffleTree (inputs_of lie.generators) 3) jacobi.tail (λ u h. h.0)
     (certified.monic.each jacobi (inl refl)).tail_valid
 
 tail_entry : BracketEntry
@@ -305,13 +305,13 @@ after_tail = (steps_of 3 one after_relations.more after_relations.so_far).tail t
 -- ---- the S-element of the element with itself
 
 -- by the certificate it is in the span
-row_spans : InSpan (setting lie (compare lie by_path) one) 4 (s_element 100 jacobi jacobi comb top_two lower_two)
+row_spans : InSpan (setting lie (compare lie.generators by_path) one) 4 (s_element 100 jacobi jacobi comb top_two lower_two)
 row_spans =
     let r = certified.s_elements 4 (omega arith) jacobi jacobi (inl (refl, inl refl)) comb top_two lower_two comb_multiple in
     record { uses = r.uses; adds_up = r.adds_up }
 
-pair_trees : AllTerms (s_element 100 jacobi jacobi comb top_two lower_two) (IsShuffleTree (inputs_of lie) 4)
-pair_trees = s_valid (setting lie (compare lie by_path) one) ordered certified.monic 4 jacobi jacobi (inl refl) (inl refl) comb top_two lower_two comb_multiple
+pair_trees : AllTerms (s_element 100 jacobi jacobi comb top_two lower_two) (IsShuffleTree (inputs_of lie.generators) 4)
+pair_trees = s_valid (setting lie (compare lie.generators by_path) one) ordered certified.monic 4 jacobi jacobi (inl refl) (inl refl) comb top_two lower_two comb_multiple
 
 pub the_run : List BracketEntry
 the_run = after_relations.more ++ (tail_entry ∷ [])

@@ -33,18 +33,18 @@ use Rattle.counted_runs.proofs.StoppedRuns.{stopped_runs_short, stopped_chains_s
 use Rattle.counted_runs.proofs.Lie.{bracket, one_question, wide, ordered, valid_t1, none_above, place_t1}
 
 abbrev pub BracketEntry : Type 0
-BracketEntry = Entry lie (compare lie by_path)
+BracketEntry = Entry lie (compare lie.generators by_path)
 
 -- ---- a stopped run: the one question, of which nothing is reduced
 
-pub lie_elements : AreIdealElements lie (compare lie by_path) (jacobi ∷ [])
+pub lie_elements : AreIdealElements lie (compare lie.generators by_path) (jacobi ∷ [])
 lie_elements = record { monic = certified.monic; in_ideal = certified.in_ideal }
 
 unfoldable pub unreduced : BracketEntry
 unreduced = record { arity = 3; item = question 1; elements = jacobi ∷ []; row = (1, t1) ∷ []; steps = []; last = (1, t1) ∷ [] }
 
 -- l(l(1,2),3) is the leading tree of the Jacobi element
-abbrev pub insertion_t1 : Insertion (setting lie (compare lie by_path) (jacobi ∷ [])) 3
+abbrev pub insertion_t1 : Insertion (setting lie (compare lie.generators by_path) (jacobi ∷ [])) 3
 insertion_t1 = record { of = jacobi; member = inl refl; tree = t1; set = top_two; valid = valid_t1; place = place_t1 }
 
 one_isnt_zero : 1 % 101 ≡ 0 % 101 → ⊥
@@ -98,9 +98,9 @@ pub unreduced_short : run_length (unreduced ∷ []) < enough (bracket one_questi
 unreduced_short = (stopped_runs_short (bracket one_question false) wide ordered 3 (unreduced ∷ []) unreduced_run).0 refl
 
 -- its chain is stopped
-chain_stops : IsStopped (setting lie (compare lie by_path) (jacobi ∷ [])) ((1, t1) ∷ [])
+chain_stops : IsStopped (setting lie (compare lie.generators by_path) (jacobi ∷ [])) ((1, t1) ∷ [])
 unfolding coef ℕ_discrete tree_discrete tree_discrete_by row_discrete_by same_leaf same_node same_more
-chain_stops = record { at = t1; there = one_isnt_zero; divided = divides_tree (setting lie (compare lie by_path) (jacobi ∷ [])) 3 insertion_t1 }
+chain_stops = record { at = t1; there = one_isnt_zero; divided = divides_tree (setting lie (compare lie.generators by_path) (jacobi ∷ [])) 3 insertion_t1 }
 
 -- so the entry has stopped
 so_stopped : HasStopped unreduced
@@ -161,15 +161,15 @@ module _ (questions : List Question) (N : ℕ) where
 
   -- without steps the last row is the first
   unchanged : (x : BracketEntry) → IsEntry d N x → length x.steps ≡ 0 → SameSum lie x.row x.last
-  unchanged x h e = subst (λ s. IsChain (setting lie (compare lie by_path) x.elements) x.arity x.row s x.last) (no_steps x.steps e) h.chain
+  unchanged x h e = subst (λ s. IsChain (setting lie (compare lie.generators by_path) x.elements) x.arity x.row s x.last) (no_steps x.steps e) h.chain
 
   -- its leading tree is l(l(1,2),3)
   leads : (x : BracketEntry) → IsEntry d N x → IsOneOf x → length x.steps ≡ 0 → IsLastLead x t1
   leads x h o e = record {
-    valid = subst (λ n. IsShuffleTree (inputs_of lie) n t1) (sym o.arity_is) valid_t1;
+    valid = subst (λ n. IsShuffleTree (inputs_of lie.generators) n t1) (sym o.arity_is) valid_t1;
     leads = record {
       there = λ z. o.there (unchanged x h e t1 ∙ z);
-      above = λ u v less. absurd (none_above u (subst (λ n. IsShuffleTree (inputs_of lie) n u) o.arity_is v) less);
+      above = λ u v less. absurd (none_above u (subst (λ n. IsShuffleTree (inputs_of lie.generators) n u) o.arity_is v) less);
     };
   }
 

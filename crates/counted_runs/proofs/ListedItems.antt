@@ -107,7 +107,7 @@ either certificate = inr (inl refl)
 
 module _ (d : Problem) (n k : ℕ) where
   abbrev trees_of : List (Tree ℕ)
-  trees_of = all_trees (labels d.presentation) (arity_in d) n
+  trees_of = all_trees (labels d.presentation.generators) (arity_in d) n
 
   abbrev sets : List (List ℕ)
   sets = rising_lists 1 k
@@ -140,7 +140,7 @@ module _ (d : Problem) (n k : ℕ) where
   -- ---- their number
 
   tree_count : IsWide d.presentation → length trees_of ≡ tree_number d n
-  tree_count wide = (listed (labels d.presentation) (arity_in d) (are_labels d.presentation wide) n).1
+  tree_count wide = (listed (labels d.presentation.generators) (arity_in d) (are_labels d.presentation wide) n).1
 
   relabelling_count : (z : Purpose) → length (relabellings_for z) ≡ relation_number d n
   unfolding relabellings_for
@@ -193,7 +193,7 @@ module _ (d : Problem) (n k : ℕ) where
 
   module _ (wide : IsWide d.presentation) where
     listed_tree : (t : Tree ℕ) → IsShuffleTree (arity_in d) n t → Mem t trees_of
-    listed_tree t h = (listed (labels d.presentation) (arity_in d) (are_labels d.presentation wide) n).0.each t h
+    listed_tree t h = (listed (labels d.presentation.generators) (arity_in d) (are_labels d.presentation wide) n).0.each t h
 
     listed_set : n ≡ suc k → (t : Tree ℕ) (a : List ℕ) → IsShuffleTree (arity_in d) n t → IsConnected t a → Mem a sets
     listed_set e t a h c = connected_rising k t a (let f = few_vertices (arity_in d) n t h in omega (arith, f, e)) c

@@ -43,8 +43,8 @@ module _ (d : Problem) where
 
   -- a tree relabelled by the permutation of a cycle type
   pub traced_trees : (n : ℕ) (c : List ℕ) (t : Tree ℕ) → IsCycleType n c → IsShuffleTree (arity_in d) n t
-      → OnTrees n (shuffled d.presentation (relabelled (type_permutation c) ((1, symmetric_tree d.presentation t) ∷ [])))
-  traced_trees n c t h v = relabelled_trees n ((1, symmetric_tree d.presentation t) ∷ []) (back_labelled d.presentation n t v, tt) (type_permutation c) (types_are_permutations n c h).0
+      → OnTrees n (shuffled d.presentation (relabelled (type_permutation c) ((1, symmetric_tree d.presentation.generators t) ∷ [])))
+  traced_trees n c t h v = relabelled_trees n ((1, symmetric_tree d.presentation.generators t) ∷ []) (back_labelled d.presentation.generators n t v, tt) (type_permutation c) (types_are_permutations n c h).0
 
   module _ (order : IsTreeOrder (arity_in d) d.compare) where
     -- a monic element inserted in a shuffle tree
@@ -99,4 +99,4 @@ module _ (d : Problem) where
           by_same n row (shuffled d.presentation r.0.terms) r.2
           (all_shuffles d.presentation n r.0.terms (subst (λ m. AllTerms r.0.terms (IsLabelled (arity_of d.presentation) m)) (sym (ap (λ (x : Question). x.arity) e) ∙ i.2) (asks r.0 (nth_member k d.questions r.0 r.1))))
       row_trees n (traced c t) row i r =
-          by_same n row (shuffled d.presentation (relabelled (type_permutation c) ((1, symmetric_tree d.presentation t) ∷ []))) r (traced_trees n c t i.1 i.2)
+          by_same n row (shuffled d.presentation (relabelled (type_permutation c) ((1, symmetric_tree d.presentation.generators t) ∷ []))) r (traced_trees n c t i.1 i.2)

@@ -61,7 +61,7 @@ abbrev two : Presentation
 two = record { q = 100; generators = (record { kind = skew; size = 2 } ∷ []) ∷ ((record { kind = skew; size = 2 } ∷ []) ∷ []); relations = difference ∷ (one_alone ∷ []) }
 
 abbrev cmp : Tree ℕ → Tree ℕ → Ordering
-cmp = compare two by_path
+cmp = compare two.generators by_path
 
 abbrev d : Problem
 d = record { presentation = two; compare = cmp; questions = []; traces = false }
@@ -73,17 +73,17 @@ wide zero h = omega arith
 wide (suc zero) h = omega arith
 wide (suc (suc g)) h = absurd (omega (arith, h))
 
-order : IsTreeOrder (inputs_of two) cmp
-order = order_of two by_path
+order : IsTreeOrder (inputs_of two.generators) cmp
+order = order_of two.generators by_path
 
-valid_at : (t : Tree ℕ) → has_by tree_discrete (all_trees (labels two) (inputs_of two) 2) t ≡ true → IsShuffleTree (inputs_of two) 2 t
-valid_at t h = (listed (labels two) (inputs_of two) (are_labels two wide) 2).0.only t (has_by_mem tree_discrete (all_trees (labels two) (inputs_of two) 2) t h)
+valid_at : (t : Tree ℕ) → has_by tree_discrete (all_trees (labels two.generators) (inputs_of two.generators) 2) t ≡ true → IsShuffleTree (inputs_of two.generators) 2 t
+valid_at t h = (listed (labels two.generators) (inputs_of two.generators) (are_labels two wide) 2).0.only t (has_by_mem tree_discrete (all_trees (labels two.generators) (inputs_of two.generators) 2) t h)
 
-valid_a : IsShuffleTree (inputs_of two) 2 a
+valid_a : IsShuffleTree (inputs_of two.generators) 2 a
 unfolding ℕ_discrete tree_discrete tree_discrete_by row_discrete_by same_leaf same_node same_more
 valid_a = valid_at a refl
 
-valid_b : IsShuffleTree (inputs_of two) 2 b
+valid_b : IsShuffleTree (inputs_of two.generators) 2 b
 unfolding ℕ_discrete tree_discrete tree_discrete_by row_discrete_by same_leaf same_node same_more
 valid_b = valid_at b refl
 
@@ -92,8 +92,8 @@ unfolding ℕ_discrete
 a_less = refl
 
 sound : IsSound two
-sound r (inl e) = subst (λ (x : Relation). AllTerms x.terms (IsLabelled (arity_of two) x.arity)) (sym e) (back_labelled two 2 b valid_b, (back_labelled two 2 a valid_a, tt))
-sound r (inr (inl e)) = subst (λ (x : Relation). AllTerms x.terms (IsLabelled (arity_of two) x.arity)) (sym e) (back_labelled two 2 a valid_a, tt)
+sound r (inl e) = subst (λ (x : Relation). AllTerms x.terms (IsLabelled (arity_of two) x.arity)) (sym e) (back_labelled two.generators 2 b valid_b, (back_labelled two.generators 2 a valid_a, tt))
+sound r (inr (inl e)) = subst (λ (x : Relation). AllTerms x.terms (IsLabelled (arity_of two) x.arity)) (sym e) (back_labelled two.generators 2 a valid_a, tt)
 sound r (inr (inr m)) = absurd m
 
 proper : IsProper two

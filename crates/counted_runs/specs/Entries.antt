@@ -44,7 +44,7 @@ module _ (d : Problem) (N : ℕ) where
     pub asked : (k : ℕ) (e : Question) → x.item ≡ question k → Nth k d.questions e → e.arity ≡ n → SameSum d.presentation x.row (shuffled d.presentation e.terms) → IsEntry d N x
     -- a cycle type with a tree
     pub traces : (c : List ℕ) (t : Tree ℕ) → x.item ≡ traced c t → d.traces ≡ true → IsReducedBasis d.presentation d.compare x.elements N → IsCycleType n c → IsShuffleTree (arity_in d) n t
-        → SameSum d.presentation x.row (shuffled d.presentation (relabelled (type_permutation c) ((1, symmetric_tree d.presentation t) ∷ []))) → IsEntry d N x
+        → SameSum d.presentation x.row (shuffled d.presentation (relabelled (type_permutation c) ((1, symmetric_tree d.presentation.generators t) ∷ []))) → IsEntry d N x
 
 -- That holds of each chain over monic elements of the ideal.
 abbrev pub EntriesComeAbout : Type 0

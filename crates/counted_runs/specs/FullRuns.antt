@@ -58,7 +58,7 @@ module _ {p : Presentation} {compare : Tree ℕ → Tree ℕ → Ordering} where
 
   -- t is the leading tree of the last row of the entry; a row that is 0 has none
   pub record IsLastLead (x : Entry p compare) (t : Tree ℕ) : Type 0 where
-    pub valid : IsShuffleTree (inputs_of p) x.arity t
+    pub valid : IsShuffleTree (inputs_of p.generators) x.arity t
     pub leads : IsLeadingTree (setting p compare []) x.arity x.last t
 
   -- where the items of x and y are of the first two kinds and of one arity, the leading tree of the last row of x, if that isn't 0,

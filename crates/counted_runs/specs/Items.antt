@@ -28,7 +28,7 @@ pub record Problem : Type 0 where
 
 -- the arity of each label of a problem
 abbrev pub arity_in : Problem → ℕ → ℕ
-arity_in d = inputs_of d.presentation
+arity_in d = inputs_of d.presentation.generators
 
 -- The trees of each question are labelled by 1 to its arity.
 abbrev pub AsksElements : Problem → Type 0

@@ -43,4 +43,4 @@ IsRow d (two_places z t first second) row =
     (g : Element) × (h : Element) × IsIdealElement d.presentation d.compare g × IsIdealElement d.presentation d.compare h × IsSElement d.presentation t first second g h row
 IsRow d (tail_of t) row = (g : Element) × IsIdealElement d.presentation d.compare g × (g.lead ≡ t) × SameSum d.presentation row g.tail
 IsRow d (question k) row = (e : Question) × Nth k d.questions e × SameSum d.presentation row (shuffled d.presentation e.terms)
-IsRow d (traced c t) row = SameSum d.presentation row (shuffled d.presentation (relabelled (type_permutation c) ((1, symmetric_tree d.presentation t) ∷ [])))
+IsRow d (traced c t) row = SameSum d.presentation row (shuffled d.presentation (relabelled (type_permutation c) ((1, symmetric_tree d.presentation.generators t) ∷ [])))

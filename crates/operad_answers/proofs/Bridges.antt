@@ -51,7 +51,7 @@ module _ (o : OrderedPresentation) (well_formed : IsWellFormed o) (elements : Li
   field = well_formed_over_field o well_formed
 
   abbrev S : Tree ℕ → Tree ℕ
-  S = symmetric_tree (presentation o)
+  S = symmetric_tree (presentation o).generators
 
   abbrev q : ℕ
   q = o.field - 1
@@ -59,13 +59,13 @@ module _ (o : OrderedPresentation) (well_formed : IsWellFormed o) (elements : Li
   basis : IsReducedBasis (presentation o) (comparison o) elements N
   basis = complete_is_reduced (presentation o) field.sound field.wide field.not_zero (comparison o) (order_in o) elements N complete
 
-  listed : (l : List (Tree ℕ)) → Pairs (λ t u. order t u ≡ Less) l → ((t : Tree ℕ) → Mem t l ↔ Mem t (normal_list (presentation o) elements n)) → AreInOrder (IsNormalTree (presentation o) (comparison o) n) l
+  listed : (l : List (Tree ℕ)) → Pairs (λ t u. order t u ≡ Less) l → ((t : Tree ℕ) → Mem t l ↔ Mem t (normal_list (presentation o).generators elements n)) → AreInOrder (IsNormalTree (presentation o) (comparison o) n) l
   listed l a same = record {
     ascending = a;
     all = λ t. (λ m. (law t).0 ((same t).0 m), λ k. (same t).1 ((law t).1 k));
   }
     where
-      law : (t : Tree ℕ) → Mem t (normal_list (presentation o) elements n) ↔ IsNormalTree (presentation o) (comparison o) n t
+      law : (t : Tree ℕ) → Mem t (normal_list (presentation o).generators elements n) ↔ IsNormalTree (presentation o) (comparison o) n t
       law = (listing_is_normal (presentation o) field.sound field.wide field.proper (comparison o) (order_in o) elements N basis n le).1
 
   -- ---- rules

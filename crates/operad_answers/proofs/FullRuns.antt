@@ -42,7 +42,7 @@ use Rattle.operad_answers.proofs.ItemEquality.{item_discrete}
 use Rattle.operad_answers.proofs.KeptTrees.{keep, keep_valid, keep_same}
 use Rattle.operad_answers.proofs.NumberedLists.{over, source, found, nth_is_member, down_from, in_down, down_small}
 
-module _ (D : Problem) (field : IsOverField D.presentation) (order : IsTreeOrder (inputs_of D.presentation) D.compare) (asks : AsksElements D) (elements : List Element) (N : ℕ)
+module _ (D : Problem) (field : IsOverField D.presentation) (order : IsTreeOrder (inputs_of D.presentation.generators) D.compare) (asks : AsksElements D) (elements : List Element) (N : ℕ)
     (complete : IsCompletedThrough D.presentation D.compare elements N) where
   abbrev p : Presentation
   p = D.presentation
@@ -63,11 +63,11 @@ module _ (D : Problem) (field : IsOverField D.presentation) (order : IsTreeOrder
   abbrev kept : ℕ → List (ℕ × Tree ℕ) → List (ℕ × Tree ℕ)
   kept n row = keep D.presentation field.wide n row
 
-  finish_row : (n : ℕ) (row : List (ℕ × Tree ℕ)) → End (labels D.presentation) (setting D.presentation D.compare elements) (are_labels D.presentation field.wide) order complete.certified.monic n (kept n row)
-  finish_row n row = end_of (labels D.presentation) (setting D.presentation D.compare elements) (are_labels D.presentation field.wide) order complete.certified.monic n (kept n row)
+  finish_row : (n : ℕ) (row : List (ℕ × Tree ℕ)) → End (labels D.presentation.generators) (setting D.presentation D.compare elements) (are_labels D.presentation field.wide) order complete.certified.monic n (kept n row)
+  finish_row n row = end_of (labels D.presentation.generators) (setting D.presentation D.compare elements) (are_labels D.presentation field.wide) order complete.certified.monic n (kept n row)
       (keep_valid D.presentation field.wide n row)
 
-  abbrev same_row : (n : ℕ) (row : List (ℕ × Tree ℕ)) → AllTerms row (IsShuffleTree (inputs_of D.presentation) n) → SameSum D.presentation (kept n row) row
+  abbrev same_row : (n : ℕ) (row : List (ℕ × Tree ℕ)) → AllTerms row (IsShuffleTree (inputs_of D.presentation.generators) n) → SameSum D.presentation (kept n row) row
   same_row n row h t = ap (λ e. coef tree_discrete e t % suc D.presentation.q) (keep_same D.presentation field.wide n row h)
 
   -- the entry of an item, over all elements
@@ -77,8 +77,8 @@ module _ (D : Problem) (field : IsOverField D.presentation) (order : IsTreeOrder
   chained : (n : ℕ) (i : Item) (row : List (ℕ × Tree ℕ)) → 2 ≤ n → n ≤ N → IsChained D N n (entry_of n i row)
   chained n i row two most = record { from_two = two; to_most = most; arity_is = refl; ideal_elements = ideal_elements; chain = (finish_row n row).chain }
 
-  last_zero : (n : ℕ) (row : List (ℕ × Tree ℕ)) → n ≤ N → AllTerms row (IsShuffleTree (inputs_of D.presentation) n) → InSpan (setting D.presentation D.compare elements) n row → SameSum D.presentation (finish_row n row).last []
-  last_zero n row le valid span = chains_end_with_zero (labels D.presentation) (setting D.presentation D.compare elements) (are_labels D.presentation field.wide) order complete.certified.monic N n
+  last_zero : (n : ℕ) (row : List (ℕ × Tree ℕ)) → n ≤ N → AllTerms row (IsShuffleTree (inputs_of D.presentation.generators) n) → InSpan (setting D.presentation D.compare elements) n row → SameSum D.presentation (finish_row n row).last []
+  last_zero n row le valid span = chains_end_with_zero (labels D.presentation.generators) (setting D.presentation D.compare elements) (are_labels D.presentation field.wide) order complete.certified.monic N n
       complete.certified.s_elements le (kept n row) (finish_row n row).uses (finish_row n row).last (finish_row n row).chain (finish_row n row).finished
       (subst (InSpan (setting D.presentation D.compare elements) n) (sym (keep_same D.presentation field.wide n row valid)) span)
 
@@ -111,7 +111,7 @@ module _ (D : Problem) (field : IsOverField D.presentation) (order : IsTreeOrder
       row : List (ℕ × Tree ℕ)
       row = shuffled D.presentation (relabelled w r.terms)
 
-      valid : AllTerms (shuffled D.presentation (relabelled w r.terms)) (IsShuffleTree (inputs_of D.presentation) r.arity)
+      valid : AllTerms (shuffled D.presentation (relabelled w r.terms)) (IsShuffleTree (inputs_of D.presentation.generators) r.arity)
       valid = relabelled_trees D r.arity r.terms (field.sound r (nth_member k D.presentation.relations r at)) w (((all_orderings r.arity).2 w).0 o)
 
   good_pair : (m : ℕ) → m ≤ N → (g h : Element) → Mem g elements → Mem h elements → (t : Tree ℕ) (first second : List ℕ) → IsMultiple m g.lead h.lead t first second
@@ -128,7 +128,7 @@ module _ (D : Problem) (field : IsOverField D.presentation) (order : IsTreeOrder
       row : List (ℕ × Tree ℕ)
       row = s_element D.presentation.q g h t first second
 
-      valid : AllTerms (s_element D.presentation.q g h t first second) (IsShuffleTree (inputs_of D.presentation) m)
+      valid : AllTerms (s_element D.presentation.q g h t first second) (IsShuffleTree (inputs_of D.presentation.generators) m)
       valid = s_valid (setting D.presentation D.compare elements) order complete.certified.monic m g h mg mh t first second i
 
       two : 2 ≤ m

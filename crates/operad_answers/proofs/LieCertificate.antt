@@ -68,11 +68,11 @@ shows e h same = record {
 -- ---- the certificate
 
 abbrev pub LieCertificate : Type 0
-LieCertificate = (cert : Certificate (List Step)) × IsWritten lie (compare lie by_path) (jacobi ∷ []) 4 cert
+LieCertificate = (cert : Certificate (List Step)) × IsWritten lie (compare lie.generators by_path) (jacobi ∷ []) 4 cert
     × ((x : ElemEntry (List Step)) → Mem x cert.elems → (x.cofactors ≡ step_one ∷ []))
 
 pub lie_certificate : LieCertificate
-lie_certificate = let k = has_certificate (λ g. step_one ∷ []) lie (compare lie by_path) (jacobi ∷ []) 4 certified in (k.0, k.1, λ x m. (k.2 x m).2)
+lie_certificate = let k = has_certificate (λ g. step_one ∷ []) lie (compare lie.generators by_path) (jacobi ∷ []) 4 certified in (k.0, k.1, λ x m. (k.2 x m).2)
 
 one_shown : (x : ElemEntry (List Step)) → Mem x lie_certificate.0.elems → BlockShows lie_document x.element x.cofactors
 one_shown x m =
@@ -95,7 +95,7 @@ element_steps x m = subst (λ (steps : List Step). All (λ (step : Step). IsElem
     (All-from_recursion (λ (step : Step). IsElement generators (terms_of step.element)) (step_one ∷ []) (subst (IsElement generators) (sym element_is) element_labelled, tt))
 
 -- so the sorted spellings that l(l(1,2),3) doesn't divide are the normal trees
-pub lie_listed : (n : ℕ) → n ≤ 4 → (trees : List (Tree ℕ)) × ((t : Tree ℕ) → Mem t trees ↔ IsUndivided (presentation (written lie_document)) lie_certificate.0.elems n t)
+pub lie_listed : (n : ℕ) → n ≤ 4 → (trees : List (Tree ℕ)) × ((t : Tree ℕ) → Mem t trees ↔ IsUndivided (presentation (written lie_document)).generators lie_certificate.0.elems n t)
     × NormalLaw (presentation (written lie_document)) (comparison (written lie_document)) n trees
 lie_listed = (held_certificates lie_document formed 4 lie_certificate.0 element_steps lie_holds).1
 

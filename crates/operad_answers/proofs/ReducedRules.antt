@@ -44,7 +44,7 @@ parts_within IsPart IsOther first most f (suc k) le text h =
 
 module _ (o : OrderedPresentation) (well_formed : IsWellFormed o) (N : ℕ) (elements : List Element) (basis : IsReducedBasis (presentation o) (comparison o) elements N) where
   abbrev S : Tree ℕ → Tree ℕ
-  S = symmetric_tree (presentation o)
+  S = symmetric_tree (presentation o).generators
 
   abbrev q : ℕ
   q = o.field - 1

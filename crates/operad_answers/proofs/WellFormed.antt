@@ -132,8 +132,8 @@ well_formed_over_field o well_formed = record {
   proper = well_formed.proper;
 }
 
-pub order_in : (o : OrderedPresentation) → IsTreeOrder (inputs_of (presentation o)) (comparison o)
-order_in o = order_of (presentation o) o.order
+pub order_in : (o : OrderedPresentation) → IsTreeOrder (inputs_of (presentation o).generators) (comparison o)
+order_in o = order_of (presentation o).generators o.order
 
 pub documents_well_formed : DocumentsAreWellFormed
 documents_well_formed = (writable_well_formed, λ bytes d h. writable_well_formed d (documents_writable bytes d h), λ o well_formed. (well_formed_over_field o well_formed, order_in o))

@@ -20,7 +20,7 @@ use Rattle.operad_answers.specs.CertifiedDocuments.{BlockShows, HoldsOver, IsFau
 abbrev pub HeldCertificatesListNormalTrees : Type 0
 HeldCertificatesListNormalTrees = (d : Document) → IsWellFormed (written d) → (N : ℕ) (cert : Certificate (List Step)) → HasElementSteps d cert → HoldsOver d N cert
     → IsCertified (presentation (written d)) (comparison (written d)) (shuffle_elements (presentation (written d)) (comparison (written d)) cert.elems) N
-    × ((n : ℕ) → n ≤ N → (l : List (Tree ℕ)) × ((t : Tree ℕ) → Mem t l ↔ IsUndivided (presentation (written d)) cert.elems n t) × NormalLaw (presentation (written d)) (comparison (written d)) n l)
+    × ((n : ℕ) → n ≤ N → (l : List (Tree ℕ)) × ((t : Tree ℕ) → Mem t l ↔ IsUndivided (presentation (written d)).generators cert.elems n t) × NormalLaw (presentation (written d)) (comparison (written d)) n l)
 
 -- A certificate that holds over a document has no fault there, and no certificate has two.
 abbrev pub OneFaultOverDocuments : Type 0

@@ -54,7 +54,7 @@ use Rattle.operad_answers.specs.Commands.{Command, prove, IsTextOf, IsAnsweredBy
 -- What a document that is read writes is well-formed, and a well-formed presentation is one over a field with an order of trees.
 abbrev pub DocumentsAreWellFormed : Type 0
 DocumentsAreWellFormed = ((d : Document) → IsWritable d → IsWellFormed (written d)) × ((bytes : List ℕ) (d : Document) → IsReadAs bytes d → IsWellFormed (written d))
-    × ((o : OrderedPresentation) → IsWellFormed o → IsOverField (presentation o) × IsTreeOrder (inputs_of (presentation o)) (comparison o))
+    × ((o : OrderedPresentation) → IsWellFormed o → IsOverField (presentation o) × IsTreeOrder (inputs_of (presentation o).generators) (comparison o))
 
 -- ---- one text
 
@@ -172,7 +172,7 @@ VerdictsExist = (d : Document) → IsWritable d
 -- What elements that are complete through N give in an arity n up to N.
 pub record ListingLaw (o : OrderedPresentation) (elements : List Element) (n : ℕ) : Type 0 where
   -- trees in the spelling order are the normal trees where they are those that no leading tree divides
-  pub listed : (l : List (Tree ℕ)) → Pairs (λ t u. order t u ≡ Less) l → ((t : Tree ℕ) → Mem t l ↔ Mem t (normal_list (presentation o) elements n))
+  pub listed : (l : List (Tree ℕ)) → Pairs (λ t u. order t u ≡ Less) l → ((t : Tree ℕ) → Mem t l ↔ Mem t (normal_list (presentation o).generators elements n))
       → AreInOrder (IsNormalTree (presentation o) (comparison o) n) l
   -- rules in the spelling order are the minimal trees with their normal forms where they are those of the elements of arity n
   pub ruled : 2 ≤ n → (rules : List (Tree ℕ × Sum)) → Pairs (λ r s. order r.0 s.0 ≡ Less) rules
@@ -183,7 +183,7 @@ pub record ListingLaw (o : OrderedPresentation) (elements : List Element) (n : �
   pub reduced : (e : Sum) → AllTerms e (IsLabelled o.generators n) → (more : List Element) → Extends (setting (presentation o) (comparison o) elements) more
       → (uses : List (ℕ × Insertion (setting (presentation o) (comparison o) more) n)) (f : Sum)
       → IsChain (setting (presentation o) (comparison o) more) n (shuffled (presentation o) e) uses f → IsFinished (setting (presentation o) (comparison o) more) f
-      → (h : Sum) → IsReduced o.field (parts_at o.generators) h → sums.Same tree_discrete (presentation o).q h (moved (symmetric_tree (presentation o)) f) → IsForm o n e h
+      → (h : Sum) → IsReduced o.field (parts_at o.generators) h → sums.Same tree_discrete (presentation o).q h (moved (symmetric_tree (presentation o).generators) f) → IsForm o n e h
 
 abbrev pub CompleteElementsAnswer : Type 0
 CompleteElementsAnswer = (o : OrderedPresentation) → IsWellFormed o → (elements : List Element) (N : ℕ) → IsCompletedThrough (presentation o) (comparison o) elements N

@@ -2,8 +2,8 @@ ghost use Rattle.std.specs.Prelude.{ℕ, ◌<◌, ◌≤◌, IfOk};
 ghost use Rattle.std.specs.List.{All};
 ghost use Rattle.modular_sums.specs.Sums.{AllTerms};
 ghost use Rattle.shuffle_insertions.specs.ShuffleTrees.{IsShuffleTree};
-ghost use Rattle.shuffle_passage.specs.Passage.{over};
 ghost use Rattle.shuffle_transfer.specs.Labels.{inputs_of};
+ghost use Rattle.symmetric_trees.specs.Generators.{generators_of};
 
 use crate::fail::RowFail;
 use presentation_text::{AskKind, Document};
@@ -38,7 +38,7 @@ pub fn tree(document: &Document, at: usize) -> Result<&Tree, RowFail> {
 
 /// The shuffle form of a tree; `Refused` where its leaves aren't 1 to some number.
 pub fn form(alloc: Global, table: &GenTable, tree: &Tree) -> Result<STree, RowFail>
-    ensures shuffle { IfOk result (λ form. (n : ℕ) × IsShuffleTree (inputs_of (over table.now)) n form) }
+    ensures shuffle { IfOk result (λ form. (n : ℕ) × IsShuffleTree (inputs_of (generators_of table.now)) n form) }
 {
     match arity_of(tree, table) {
         Some(_) => {
@@ -51,7 +51,7 @@ pub fn form(alloc: Global, table: &GenTable, tree: &Tree) -> Result<STree, RowFa
 
 /// The shuffle form of the tree of the question at a place.
 pub fn shuffle_tree(alloc: Global, document: &Document, at: usize) -> Result<STree, RowFail>
-    ensures shuffle { IfOk result (λ form. (n : ℕ) × IsShuffleTree (inputs_of (over document.now.gens)) n form) }
+    ensures shuffle { IfOk result (λ form. (n : ℕ) × IsShuffleTree (inputs_of (generators_of document.now.gens)) n form) }
 {
     form(alloc, &document.gens, tree(document, at)?)
 }
@@ -63,7 +63,7 @@ pub fn shuffle_terms(
     at: usize,
 ) -> Result<Items<(u32, STree)>, RowFail>
     ensures residues { IfOk result (All (λ x. (0 < x.0) × (x.0 < document.now.field))) }
-    ensures trees { IfOk result (λ terms. (n : ℕ) × (n ≤ 9) × AllTerms terms (IsShuffleTree (inputs_of (over document.now.gens)) n)) }
+    ensures trees { IfOk result (λ terms. (n : ℕ) × (n ≤ 9) × AllTerms terms (IsShuffleTree (inputs_of (over document.now.gens).generators) n)) }
 {
     let sum = element(document, at)?;
     let arity = sum.arity().unwrap_or(0);
@@ -85,7 +85,7 @@ fn shuffle_term(
     term: &Term,
 ) -> Result<(u32, STree), RowFail>
     ensures residue { IfOk result (λ x. (0 < x.0) × (x.0 < document.now.field)) }
-    ensures tree { IfOk result (λ x. IsShuffleTree (inputs_of (over document.now.gens)) arity x.1) }
+    ensures tree { IfOk result (λ x. IsShuffleTree (inputs_of (over document.now.gens).generators) arity x.1) }
 {
     if arity_of(&term.tree, &document.gens) != Some(arity) {
         return Err(RowFail::Refused);

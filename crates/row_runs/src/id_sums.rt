@@ -1,10 +1,10 @@
 ghost use Rattle.std.specs.Prelude.{ℕ, ◌≡◌, ◌≤◌, IfOk};
-ghost use Rattle.shuffle_passage.specs.Passage.{over};
 ghost use Rattle.shuffle_transfer.specs.Labels.{inputs_of};
 ghost use Rattle.shuffle_trees.specs.LabelLists.{arity_in};
 ghost use Rattle.shuffle_sums.specs.Settings.{compares, field_of, labels_of};
 ghost use Rattle.shuffle_sums.specs.Shelves.{IsShelf, KeepsShelf};
 ghost use Rattle.shuffle_sums.specs.Sums.{FallsBy, StandsIn};
+ghost use Rattle.symmetric_trees.specs.Generators.{generators_of};
 
 use crate::arguments::{MOST_LEAVES, shuffle_terms};
 use crate::fail::RowFail;
@@ -24,7 +24,7 @@ pub fn setting_of<O: TreeOrder + Drop>(
     order: O,
 ) -> Result<Setting<O>, RowFail>
     ensures field { IfOk result (λ setting. field_of setting ≡ document.now.field) }
-    ensures labels { IfOk result (λ setting. (l : ℕ) → arity_in (labels_of setting) l ≡ inputs_of (over document.now.gens) l) }
+    ensures labels { IfOk result (λ setting. (l : ℕ) → arity_in (labels_of setting) l ≡ inputs_of (generators_of document.now.gens) l) }
 {
     let table = document.gens.copy(alloc)?;
     let labels = passage::labels_of(alloc, &document.gens)?;
@@ -40,7 +40,7 @@ fn sum_of<O: TreeOrder>(
     at: usize,
 ) -> Result<SSum<O>, RowFail>
     requires field { field_of setting.now ≡ document.now.field }
-    requires labels { (l : ℕ) → arity_in (labels_of setting.now) l ≡ inputs_of (over document.now.gens) l }
+    requires labels { (l : ℕ) → arity_in (labels_of setting.now) l ≡ inputs_of (generators_of document.now.gens) l }
     requires own { shelf.old.labels ≡ labels_of setting.now }
     requires most { 9 ≤ shelf.old.most }
     ensures falls { IfOk result (FallsBy (compares O.weights O.by_keys setting.now) (field_of setting.now) shelf.new) }

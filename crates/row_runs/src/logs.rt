@@ -1,6 +1,5 @@
 ghost use Rattle.std.specs.Prelude.{◌≡◌, ◌<◌, ℕ, List, IfOk};
 ghost use Rattle.std.specs.List.{All};
-ghost use Rattle.shuffle_passage.specs.Passage.{over};
 ghost use Rattle.shuffle_transfer.specs.Labels.{inputs_of};
 ghost use Rattle.shuffle_trees.specs.LabelLists.{arity_in};
 ghost use Rattle.symmetric_trees.specs.declared.generators.Generator.{Generator};
@@ -8,6 +7,7 @@ ghost use Rattle.symmetric_sums.specs.declared.term.Term.{Term};
 ghost use Rattle.symmetric_sums.specs.Terms.{FitsOver};
 ghost use Rattle.cofactor_log.specs.Entries.{IsKept};
 ghost use Rattle.arity_completion.specs.Trails.{IsPlaced};
+ghost use Rattle.symmetric_trees.specs.Generators.{generators_of};
 
 use crate::arguments::{MOST_LEAVES, shuffle_terms, shuffle_tree};
 use crate::fail::RowFail;
@@ -125,7 +125,7 @@ fn cofactor_of(
     coef: u32,
     numbers: &[u32],
 ) -> Result<Cofactor, RowFail>
-    requires labels { (l : ℕ) → arity_in shelf.old.labels l ≡ inputs_of (over document.now.gens) l }
+    requires labels { (l : ℕ) → arity_in shelf.old.labels l ≡ inputs_of (generators_of document.now.gens) l }
     requires most { shelf.old.most ≡ 9 }
     ensures placed { IfOk result (IsPlaced shelf.new 1) }
     ensures labels { shelf.new.labels ≡ shelf.old.labels }

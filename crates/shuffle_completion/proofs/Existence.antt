@@ -30,15 +30,15 @@ use Rattle.shuffle_completion.proofs.TaskLists.{all_tasks, are_tasks, Progress, 
 
 -- ---- the tails of an arity reduced
 
-module _ (p : Presentation) (good : IsOverField p) (compare : Tree ℕ → Tree ℕ → Ordering) (order : IsTreeOrder (inputs_of p) compare) where
+module _ (p : Presentation) (good : IsOverField p) (compare : Tree ℕ → Tree ℕ → Ordering) (order : IsTreeOrder (inputs_of p.generators) compare) where
   module _ (elements : List Element) (n : ℕ) (monic : AreMonic (setting p compare elements)) where
     abbrev Reduced : Element → Type 0
     Reduced g = (h : Element) × (((g.arity < n) × (h ≡ g)) ⊎ ((g.arity ≡ n) × IsTailReduced (setting p compare elements) g h))
 
     tail_reduced : (g : Element) → Mem g elements → (h : Element) × IsTailReduced (setting p compare elements) g h
     tail_reduced g m =
-        let v = AllTerms-imp (λ x. IsShuffleTree (inputs_of p) g.arity x × IsLess (setting p compare elements) x g.lead) (IsShuffleTree (inputs_of p) g.arity) g.tail (λ t k. k.0) (monic.each g m).tail_valid in
-        let r = chains_end (labels p) (setting p compare elements) (are_labels p good.wide) order monic g.arity g.tail v in (
+        let v = AllTerms-imp (λ x. IsShuffleTree (inputs_of p.generators) g.arity x × IsLess (setting p compare elements) x g.lead) (IsShuffleTree (inputs_of p.generators) g.arity) g.tail (λ t k. k.0) (monic.each g m).tail_valid in
+        let r = chains_end (labels p.generators) (setting p compare elements) (are_labels p good.wide) order monic g.arity g.tail v in (
           record { arity = g.arity; lead = g.lead; tail = r.1 },
           record {
             arity_is = refl;
@@ -107,8 +107,8 @@ module _ (p : Presentation) (good : IsOverField p) (compare : Tree ℕ → Tree 
   some_form n e v =
       let c = complete_through n in
       let monic = c.1.certified.monic in
-      let r = chains_end (labels p) (setting p compare c.0) (are_labels p good.wide) order monic n (shuffled p e) (all_shuffles p n e v) in
-      let f : Sum = moved (symmetric_tree p) r.1 in
+      let r = chains_end (labels p.generators) (setting p compare c.0) (are_labels p good.wide) order monic n (shuffled p e) (all_shuffles p n e v) in
+      let f : Sum = moved (symmetric_tree p.generators) r.1 in
       let s : IsNormalSum p compare n e f = forms_by_chains p good.sound good.wide compare order c.0 n c.1.certified c.0 (elements_extend_themselves (setting p compare c.0) monic)
       n (omega arith) e v r.0 r.1 r.2 r.3 r.4 in
       let k = reduction p.q (parts p) (IsNormalTree p compare n) f s.normal (λ t h. h.sorted) in
@@ -123,7 +123,7 @@ module _ (p : Presentation) (good : IsOverField p) (compare : Tree ℕ → Tree 
   normal_trees n =
       let b = basis_through n in
       let l = listing_is_normal p good.sound good.wide good.proper compare order b.0 n b.1 n (omega arith) in
-      (normal_list p b.0 n, record { once = l.0; all = l.1 })
+      (normal_list p.generators b.0 n, record { once = l.0; all = l.1 })
 
   module _ (n : ℕ) (l : List (Tree ℕ)) (are : AreThose (IsNormalTree p compare n) l) where
     all_normal : (e : Sum) → AllTerms e (λ t. Mem t l) → AllTerms e (IsNormalTree p compare n)

@@ -25,10 +25,10 @@ abbrev pub modulo_three : Presentation
 modulo_three = record lie { q = 2 }
 
 abbrev cmp : Tree ℕ → Tree ℕ → Ordering
-cmp = compare modulo_three by_path
+cmp = compare modulo_three.generators by_path
 
-order : IsTreeOrder (inputs_of modulo_three) cmp
-order = order_of modulo_three by_path
+order : IsTreeOrder (inputs_of modulo_three.generators) cmp
+order = order_of modulo_three.generators by_path
 
 -- 1 and 2 are their own inverses modulo 3
 inverses : HasInverses 2

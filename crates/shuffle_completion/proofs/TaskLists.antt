@@ -100,7 +100,7 @@ module _ (p : Presentation) (compare : Tree ℕ → Tree ℕ → Ordering) (elem
 
 -- ---- one task
 
-module _ (p : Presentation) (good : IsOverField p) (compare : Tree ℕ → Tree ℕ → Ordering) (order : IsTreeOrder (inputs_of p) compare) (elements : List Element) (N : ℕ) (one : 1 ≤ N) where
+module _ (p : Presentation) (good : IsOverField p) (compare : Tree ℕ → Tree ℕ → Ordering) (order : IsTreeOrder (inputs_of p.generators) compare) (elements : List Element) (N : ℕ) (one : 1 ≤ N) where
   -- Some tasks are done; the elements are still there, and those of lower arity are the same.
   pub record Progress (done : List Task) : Type 0 where
     pub now : List Element
@@ -128,15 +128,15 @@ module _ (p : Presentation) (good : IsOverField p) (compare : Tree ℕ → Tree 
     here : IsTask p so_far.now (suc N) x
     here = task_now so_far.now so_far.kept x task
 
-    valid_of : (y : Task) → IsTask p so_far.now (suc N) y → AllTerms (sum_of p y) (IsShuffleTree (inputs_of p) (suc N))
-    valid_of (relation r v) k = subst (λ m. AllTerms (shuffled p (relabelled v r.terms)) (IsShuffleTree (inputs_of p) m)) k.1
+    valid_of : (y : Task) → IsTask p so_far.now (suc N) y → AllTerms (sum_of p y) (IsShuffleTree (inputs_of p.generators) (suc N))
+    valid_of (relation r v) k = subst (λ m. AllTerms (shuffled p (relabelled v r.terms)) (IsShuffleTree (inputs_of p.generators) m)) k.1
         (all_shuffles p r.arity (relabelled v r.terms) (labelled-relabelled (arity_of p) r.arity v (((all_orderings r.arity).2 v).0 (subst (λ m. Mem v (orderings m)) (sym k.1) k.2)) r.terms (good.sound r k.0)))
     valid_of (multiple g h t first second) k = (s_elements_by_chains (setting p compare so_far.now) order so_far.underway.certified.monic (suc N) g h k.0 k.1 t first second k.2).valid
 
     module _ (uses : List (ℕ × Insertion (setting p compare so_far.now) (suc N))) (f : Sum) (chain : IsChain (setting p compare so_far.now) (suc N) (sum_of p x) uses f)
         (finished : IsFinished (setting p compare so_far.now) f) (no_zeros : HasNoZeros p.q f) where
-      f_valid : AllTerms f (IsShuffleTree (inputs_of p) (suc N))
-      f_valid = AllTerms-imp (StandsIn p.q f) (IsShuffleTree (inputs_of p) (suc N)) f
+      f_valid : AllTerms f (IsShuffleTree (inputs_of p.generators) (suc N))
+      f_valid = AllTerms-imp (StandsIn p.q f) (IsShuffleTree (inputs_of p.generators) (suc N)) f
           ((chains_fall (setting p compare so_far.now) order so_far.underway.certified.monic (suc N) (sum_of p x) uses f chain).valid (valid_of x here)) no_zeros
 
       solved_by_zero : ((u : Tree ℕ) → StandsIn p.q f u → Any u → ⊥) → Progress (x ∷ done)
@@ -155,7 +155,7 @@ module _ (p : Presentation) (good : IsOverField p) (compare : Tree ℕ → Tree 
       solved_by_element g = record {
         now = so_far.now ++ (new ∷ []);
         underway = task_ends_in_element p good.sound good.not_zero compare order so_far.now N done so_far.underway x here so_far.now extends uses f chain finished new new_arity
-            (is_monic (setting p compare so_far.now) order (suc N) f f_valid g inverse.0 inverse.1 (node_of_two (inputs_of p) (suc N) g.tree g.valid (omega (arith, one))))
+            (is_monic (setting p compare so_far.now) order (suc N) f f_valid g inverse.0 inverse.1 (node_of_two (inputs_of p.generators) (suc N) g.tree g.valid (omega (arith, one))))
             (is_multiple (setting p compare so_far.now) order (suc N) f f_valid g inverse.0 inverse.1);
         kept = λ h m. mem_left h so_far.now (new ∷ []) (so_far.kept h m);
         old = λ h m lt. old_one h (mem_either h so_far.now (new ∷ []) m) lt;
@@ -184,7 +184,7 @@ module _ (p : Presentation) (good : IsOverField p) (compare : Tree ℕ → Tree 
 
     pub one_more : Progress (x ∷ done)
     one_more =
-        let r = chains_end (labels p) (setting p compare so_far.now) (are_labels p good.wide) order so_far.underway.certified.monic (suc N) (sum_of p x) (valid_of x here) in
+        let r = chains_end (labels p.generators) (setting p compare so_far.now) (are_labels p good.wide) order so_far.underway.certified.monic (suc N) (sum_of p x) (valid_of x here) in
         solved_by r.0 r.1 r.2 r.3 r.4
 
   -- ---- all tasks

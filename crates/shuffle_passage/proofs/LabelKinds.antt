@@ -5,17 +5,17 @@ use Rattle.std.proofs.Math.ListN.{length-map, get_or-map}
 use Rattle.std.proofs.lemmas.List.{map-append}
 use Rattle.std.proofs.lemmas.List.Elements.{All-nil, All-append, All-replicate, recursion_from_All}
 use Rattle.std.proofs.lemmas.Option.{slice_get_within}
-use Rattle.operad_ideals.specs.Presentations.{arity_of}
+use Rattle.operad_ideals.specs.Laws.{arity}
 use Rattle.shuffle_trees.specs.LabelLists as kinds
 use Rattle.shuffle_trees.specs.LabelLists.{AreFew}
 use Rattle.shuffle_transfer.specs.Labels.{words_of, Letter, letters}
-use Rattle.symmetric_trees.specs.Generators.{part_of, generators_of, IsTable, IsArity}
+use Rattle.symmetric_trees.specs.Generators.{part_of, parts_at, generators_of, IsTable, IsArity}
 use Rattle.symmetric_trees.specs.declared.generators.Generator.{Generator}
 use Rattle.symmetric_trees.proofs.Tables.{arity-held, arity-past}
 use Rattle.shuffle_passage.specs.Words.{endings}
 use Rattle.shuffle_passage.specs.WordTables.{bounds_in}
 use Rattle.shuffle_passage.specs.LabelKinds.{kind_in}
-use Rattle.shuffle_passage.specs.Passage.{over, AreLabelsOf}
+use Rattle.shuffle_passage.specs.Passage.{AreLabelsOf}
 use Rattle.shuffle_passage.proofs.WordBounds.{count_words}
 use Rattle.shuffle_passage.proofs.LabelNumbers.{lettered, at_is}
 use Rattle.shuffle_passage.proofs.WordTables.{length-generators, first_label-all, first_label-most}
@@ -37,14 +37,13 @@ kinds_letters s f (g ∷ gs) h =
     (kinds_letters (suc s) f gs (λ i x e. let n : suc s + i ≡ s + suc i = omega arith in ap f n ∙ h (suc i) x e))
     ∙ sym (map-append (λ (x : Letter). f x.gen) (map (lettered s) (words_of (map part_of g.parts))) (letters (suc s) (generators_of gs)))
 
-pub table_letters : (gens : List Generator) → IsTable gens → kinds.labels_of (map kind_in gens) ≡ map (λ (x : Letter). arity_of (over gens) x.gen) (letters 0 (generators_of gens))
-table_letters gens table = kinds_letters 0 (arity_of (over gens)) gens
-    (λ i g e. let z : 0 + i ≡ i = omega arith in ap (arity_of (over gens)) z ∙ arity-held gens i g table (slice_get_within gens i g e) e)
+pub table_letters : (gens : List Generator) → IsTable gens → kinds.labels_of (map kind_in gens) ≡ map (λ (x : Letter). arity (parts_at gens) x.gen) (letters 0 (generators_of gens))
+table_letters gens table = kinds_letters 0 (arity (parts_at gens)) gens
+    (λ i g e. let z : 0 + i ≡ i = omega arith in ap (arity (parts_at gens)) z ∙ arity-held gens i g table (slice_get_within gens i g e) e)
 
 pub are_labels : (gens : List Generator) → IsTable gens → AreLabelsOf gens (kinds.labels_of (map kind_in gens))
 are_labels gens table =
-    let p = over gens in
-    let f : Letter → ℕ = λ x. arity_of p x.gen in
+    let f : Letter → ℕ = λ x. arity (parts_at gens) x.gen in
     let none : Letter = lettered (length (generators_of gens)) [] in
     let zero_past : f none ≡ 0 = arity-past gens (length (generators_of gens)) (let n = length-generators gens in omega (arith, n)) in
     record {

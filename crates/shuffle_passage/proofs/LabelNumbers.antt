@@ -10,7 +10,7 @@ use Rattle.modular_sums.specs.Lists.{Mem, Rises}
 use Rattle.modular_sums.proofs.Lists.{both_true}
 use Rattle.operad_ideals.specs.Parts.{Part, total, parts_of}
 use Rattle.operad_ideals.specs.Sorting.{sort_parts}
-use Rattle.operad_ideals.specs.Presentations.{Presentation, parts, arity_of}
+use Rattle.operad_ideals.specs.Laws.{arity}
 use Rattle.operad_ideals.proofs.SortedLists.{Apart, tested, below, below_less, below_more, below_none, in_itself}
 use Rattle.operad_ideals.proofs.SortedParts.{map-sort_parts, every_sort_parts}
 use Rattle.operad_ideals.proofs.SameOrder.{sort_parts-order, below-order}
@@ -143,26 +143,26 @@ chosen_digits l v h (begin x {r = r} {v = w} p k) =
 -- ---- the label of a word
 
 -- the generator and the word of the label with a number
-pub label_at : (p : Presentation) (g : ℕ) (ds : List ℕ) → g < length p.generators → AreDigits (bounds_of (parts p g)) 0 ds
-    → letter p (first_label p.generators g + word_number (bounds_of (parts p g)) 0 ds) ≡ lettered g (chosen 0 (upto (arity_of p g)) ds)
-label_at p g ds l h =
-    let k = word_number (bounds_of (parts p g)) 0 ds in
-    let none = lettered (length p.generators) [] in
+pub label_at : (generators : List (List Part)) (g : ℕ) (ds : List ℕ) → g < length generators → AreDigits (bounds_of (parts_of generators g)) 0 ds
+    → letter generators (first_label generators g + word_number (bounds_of (parts_of generators g)) 0 ds) ≡ lettered g (chosen 0 (upto (arity (parts_of generators) g)) ds)
+label_at generators g ds l h =
+    let k = word_number (bounds_of (parts_of generators g)) 0 ds in
+    let none = lettered (length generators) [] in
     let z : 0 + g ≡ g = omega arith in
-    at_is none (first_label p.generators g + k) (letters 0 p.generators)
-    ∙ letter_number 0 p.generators g k none l (word_number-below (bounds_of (parts p g)) 0 ds h)
-    ∙ ap₂ (λ i w. lettered i w) z (ap (λ ws. get_or ws k []) (words_are (parts p g))
-    ∙ word_at (bounds_of (parts p g)) 0 (upto (arity_of p g)) ds [] (length-upto (arity_of p g) ∙ sym (length-bounds (parts p g))) h)
+    at_is none (first_label generators g + k) (letters 0 generators)
+    ∙ letter_number 0 generators g k none l (word_number-below (bounds_of (parts_of generators g)) 0 ds h)
+    ∙ ap₂ (λ i w. lettered i w) z (ap (λ ws. get_or ws k []) (words_are (parts_of generators g))
+    ∙ word_at (bounds_of (parts_of generators g)) 0 (upto (arity (parts_of generators) g)) ds [] (length-upto (arity (parts_of generators) g) ∙ sym (length-bounds (parts_of generators g))) h)
 
-pub label_of_word : (p : Presentation) (g : ℕ) (w : List ℕ) → g < length p.generators → IsOrdering (arity_of p g) w → parts_rise (parts p g) w ≡ true
-    → label p g w ≡ first_label p.generators g + word_number (bounds_of (parts p g)) 0 (digits w)
-label_of_word p g w l o h =
-    let ds = word_digits (parts p g) w o.length_is h in
-    let at = label_at p g (digits w) l ds in
-    let n = first_label p.generators g + word_number (bounds_of (parts p g)) 0 (digits w) in
-    let own : (gen p n ≡ g) × (word p n ≡ w) = (ap (λ x. x.gen) at, ap (λ x. x.word) at ∙ chosen_digits (upto (arity_of p g)) w (upto_rises (arity_of p g)) (ordering_permutes (arity_of p g) w o)) in
-    let law = ((labels_are_words p).of_label n (number_below 0 p.generators g (word_number (bounds_of (parts p g)) 0 (digits w)) l (word_number-below (bounds_of (parts p g)) 0 (digits w) ds))).1 in
-    sym (ap₂ (label p) own.0 own.1) ∙ law
+pub label_of_word : (generators : List (List Part)) (g : ℕ) (w : List ℕ) → g < length generators → IsOrdering (arity (parts_of generators) g) w → parts_rise (parts_of generators g) w ≡ true
+    → label generators g w ≡ first_label generators g + word_number (bounds_of (parts_of generators g)) 0 (digits w)
+label_of_word generators g w l o h =
+    let ds = word_digits (parts_of generators g) w o.length_is h in
+    let at = label_at generators g (digits w) l ds in
+    let n = first_label generators g + word_number (bounds_of (parts_of generators g)) 0 (digits w) in
+    let own : (gen generators n ≡ g) × (word generators n ≡ w) = (ap (λ x. x.gen) at, ap (λ x. x.word) at ∙ chosen_digits (upto (arity (parts_of generators) g)) w (upto_rises (arity (parts_of generators) g)) (ordering_permutes (arity (parts_of generators) g) w o)) in
+    let law = ((labels_are_words generators).of_label n (number_below 0 generators g (word_number (bounds_of (parts_of generators g)) 0 (digits w)) l (word_number-below (bounds_of (parts_of generators g)) 0 (digits w) ds))).1 in
+    sym (ap₂ (label generators) own.0 own.1) ∙ law
 
 -- ---- the label of keys
 
@@ -187,18 +187,18 @@ sorted_ranks ps ks =
     ∙ rank_digits ks (sort_parts (λ n. n) ps ks) (every_sort_parts (λ n. n) (λ k. Mem k ks) ps ks (in_itself ks))
 
 -- The label of a generator with the ranks of different keys, from the keys sorted within its parts.
-pub label_of_keys : (p : Presentation) (g : ℕ) (ks : List ℕ) → g < length p.generators → length ks ≡ arity_of p g → Apart (λ n. n) ks
-    → label p g (ranks ks) ≡ first_label p.generators g + word_number (bounds_of (parts p g)) 0 (digits (sort_parts (λ n. n) (parts p g) ks))
-label_of_keys p g ks l e apart =
-    let ps = parts p g in
+pub label_of_keys : (generators : List (List Part)) (g : ℕ) (ks : List ℕ) → g < length generators → length ks ≡ arity (parts_of generators) g → Apart (λ n. n) ks
+    → label generators g (ranks ks) ≡ first_label generators g + word_number (bounds_of (parts_of generators g)) 0 (digits (sort_parts (λ n. n) (parts_of generators g) ks))
+label_of_keys generators g ks l e apart =
+    let ps = parts_of generators g in
     let own : IsOrdering (length ks) (ranks ks) = subst (λ v. IsOrdering (length ks) (ranks v)) (map-id ks) (ranks_ordering (λ n. n) ks apart) in
-    let o : IsOrdering (arity_of p g) (ranks ks) = subst (λ n. IsOrdering n (ranks ks)) e own in
+    let o : IsOrdering (arity (parts_of generators) g) (ranks ks) = subst (λ n. IsOrdering n (ranks ks)) e own in
     let w : List ℕ = sort_parts (λ n. n) ps (ranks ks) in
-    let size : total ps ≤ length (ranks ks) = let n : length (ranks ks) ≡ arity_of p g = o.length_is in omega (arith, n) in
+    let size : total ps ≤ length (ranks ks) = let n : length (ranks ks) ≡ arity (parts_of generators) g = o.length_is in omega (arith, n) in
     let rises : parts_rise ps w ≡ true = sorted_rises ps (ranks ks) size (ordering_apart (ranks ks) o.distinct) in
-    ap (λ v. Rattle.shuffle_transfer.specs.Labels.place_of (lettered g v) (letters 0 p.generators)) (sym (parts_same ps w rises))
-    ∙ label_of_word p g w l (sorted_ordering (arity_of p g) ps (ranks ks) o) rises
-    ∙ ap (λ ds. first_label p.generators g + word_number (bounds_of ps) 0 ds) (sorted_ranks ps ks)
+    ap (λ v. Rattle.shuffle_transfer.specs.Labels.place_of (lettered g v) (letters 0 generators)) (sym (parts_same ps w rises))
+    ∙ label_of_word generators g w l (sorted_ordering (arity (parts_of generators) g) ps (ranks ks) o) rises
+    ∙ ap (λ ds. first_label generators g + word_number (bounds_of ps) 0 ds) (sorted_ranks ps ks)
 
 -- ---- the word with a number
 
@@ -242,11 +242,11 @@ digits_number (b ∷ bs) below n h =
     )
 
 -- The generator and the word of a label, from its number among the words of the generator.
-pub letter_of_number : (p : Presentation) (g n : ℕ) → g < length p.generators → n < endings (bounds_of (parts p g)) 0
-    → (gen p (first_label p.generators g + n) ≡ g) × (word p (first_label p.generators g + n) ≡ chosen 0 (upto (arity_of p g)) (digits_of (bounds_of (parts p g)) 0 n))
-letter_of_number p g n l h =
-    let k = digits_number (bounds_of (parts p g)) 0 n h in
-    let at = ap (λ m. letter p (first_label p.generators g + m)) (sym k.1) ∙ label_at p g (digits_of (bounds_of (parts p g)) 0 n) l k.0 in
+pub letter_of_number : (generators : List (List Part)) (g n : ℕ) → g < length generators → n < endings (bounds_of (parts_of generators g)) 0
+    → (gen generators (first_label generators g + n) ≡ g) × (word generators (first_label generators g + n) ≡ chosen 0 (upto (arity (parts_of generators) g)) (digits_of (bounds_of (parts_of generators g)) 0 n))
+letter_of_number generators g n l h =
+    let k = digits_number (bounds_of (parts_of generators g)) 0 n h in
+    let at = ap (λ m. letter generators (first_label generators g + m)) (sym k.1) ∙ label_at generators g (digits_of (bounds_of (parts_of generators g)) 0 n) l k.0 in
     (ap (λ x. x.gen) at, ap (λ x. x.word) at)
 
 map-without : {X Y : Type 0} (f : X → Y) (l : List X) (d : ℕ) → map f (without l d) ≡ without (map f l) d

@@ -11,7 +11,6 @@ use Rattle.symmetric_trees.specs.declared.generators.Generator.{Generator}
 use Rattle.symmetric_trees.proofs.Tables.{arity-held, arity-bounds}
 use Rattle.shuffle_passage.specs.Words.{bounds_of, endings, first_label, sum_from, first_place, find_place, digits_of, without, chosen}
 use Rattle.shuffle_passage.specs.WordTables.{bounds_in, words_from}
-use Rattle.shuffle_passage.specs.Passage.{over}
 use Rattle.shuffle_passage.specs.declared.words.Words.{Words}
 use Rattle.shuffle_passage.proofs.WordBounds.{length-bounds, count_words}
 use Rattle.shuffle_passage.proofs.LabelNumbers.{few_endings, letter_of_number, lettered, finds}
@@ -107,12 +106,12 @@ first_label-most gens (suc i) table l =
 
 -- the generator of a label that lies among those of its words
 pub gen_is : (gens : List Generator) (i l : ℕ) → i < length gens → first_label (generators_of gens) i ≤ l → l < first_label (generators_of gens) i + endings (bounds_of (parts_at gens i)) 0
-    → i ≡ gen (over gens) l
+    → i ≡ gen (generators_of gens) l
 gen_is gens i l in_range low high =
     let first = first_label (generators_of gens) i in
     let back : first + (l - first) ≡ l = omega (arith, low) in
-    let k = letter_of_number (over gens) i (l - first) (let n = length-generators gens in omega (arith, n, in_range)) (omega (arith, low, high)) in
-    sym k.0 ∙ ap (gen (over gens)) back
+    let k = letter_of_number (generators_of gens) i (l - first) (let n = length-generators gens in omega (arith, n, in_range)) (omega (arith, low, high)) in
+    sym k.0 ∙ ap (gen (generators_of gens)) back
 
 -- the list of words so far, with those of one generator more
 pub words-more : (words after whole : List Words) (first count : ℕ) (bounds : List Bool) (g : Generator) (gens rest : List Generator) → gens ≡ g ∷ rest → bounds ≡ bounds_in g → count ≡ endings bounds 0

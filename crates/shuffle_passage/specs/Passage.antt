@@ -1,7 +1,6 @@
 -- What the calls of the passage answer.
-use Rattle.std.specs.Prelude.{ℕ, ◌≡◌, List, [], length}
+use Rattle.std.specs.Prelude.{ℕ, ◌≡◌, List, length}
 use Rattle.labelled_trees.specs.Trees.{Tree}
-use Rattle.operad_ideals.specs.Presentations.{Presentation}
 use Rattle.symmetric_trees.specs.Generators.{generators_of}
 use Rattle.symmetric_trees.specs.Trees.{IsLabelled}
 use Rattle.symmetric_trees.specs.Spelling.{IsSpelling}
@@ -10,21 +9,17 @@ use Rattle.symmetric_trees.specs.declared.spelling.Sign.{Sign}
 use Rattle.shuffle_trees.specs.LabelLists.{arity_in}
 use Rattle.shuffle_transfer.specs.Labels.{labels, inputs_of, shuffle_form, symmetric_tree}
 
--- the presentation without relations over the generators of a table; labels and shuffle forms depend on no more
-abbrev pub over : List Generator → Presentation
-over generators = record { q = 0; generators = generators_of generators; relations = [] }
-
 -- The list has the arity of each label of a table: as many labels as there are words of generators, numbered as these are.
 pub record AreLabelsOf (generators : List Generator) (arities : List ℕ) : Type 0 where
-  pub count : length arities ≡ labels (over generators)
-  pub arities_are : (l : ℕ) → arity_in arities l ≡ inputs_of (over generators) l
+  pub count : length arities ≡ labels (generators_of generators)
+  pub arities_are : (l : ℕ) → arity_in arities l ≡ inputs_of (generators_of generators) l
 
 -- The tree s is the shuffle form of the sorted spelling of t, with the sign of that spelling; the way back gives the sorted spelling.
 pub record IsFormOf (generators : List Generator) (t : Tree ℕ) (sign : Sign) (s : Tree ℕ) : Type 0 where
   pub sorted : Tree ℕ
   pub spelling : IsSpelling generators t sign sorted
-  pub form : s ≡ shuffle_form (over generators) sorted
-  pub back : symmetric_tree (over generators) s ≡ sorted
+  pub form : s ≡ shuffle_form (generators_of generators) sorted
+  pub back : symmetric_tree (generators_of generators) s ≡ sorted
 
 -- A labelled tree has one shuffle form, with one sign.
 abbrev pub OneShuffleForm : Type 0

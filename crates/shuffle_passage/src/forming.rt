@@ -5,11 +5,11 @@ ghost use Rattle.labelled_trees.specs.Meaning.{tree_of};
 ghost use Rattle.operad_ideals.specs.Sorting as plain;
 ghost use Rattle.shuffle_insertions.specs.ShuffleTrees.{IsShuffleTree, least_row};
 ghost use Rattle.shuffle_transfer.specs.Labels.{inputs_of, shuffle_form};
-ghost use Rattle.symmetric_trees.specs.Generators.{parts_at};
+ghost use Rattle.symmetric_trees.specs.Generators.{parts_at, generators_of};
 ghost use Rattle.symmetric_trees.specs.Spelling.{meaning_of};
 ghost use Rattle.symmetric_trees.specs.Trees.{Fits, IsLabelled};
 ghost use Rattle.shuffle_passage.specs.WordTables.{words_from};
-ghost use Rattle.shuffle_passage.specs.Passage.{IsFormOf, OneShuffleForm, over};
+ghost use Rattle.shuffle_passage.specs.Passage.{IsFormOf, OneShuffleForm};
 ghost use Rattle.shuffle_passage.specs.Branches.{forms_of};
 
 use crate::branch::Branch;
@@ -56,7 +56,7 @@ fn form(
     requires fits { Fits table.now (tree_of tree.now) }
     requires once { (i : ℕ) → occurs i (tree_of tree.now) ≤ 1 }
     ensures sign { IfOk result (λ found. meaning_of found.0 ≡ plain.spelled_sign (parts_at table.now) (tree_of tree.now)) }
-    ensures tree { IfOk result (λ found. tree_of found.1.tree ≡ shuffle_form (over table.now) (tree_of tree.now)) }
+    ensures tree { IfOk result (λ found. tree_of found.1.tree ≡ shuffle_form (generators_of table.now) (tree_of tree.now)) }
 {
     match tree {
         Tree::Leaf(number) => {
@@ -93,9 +93,9 @@ fn form(
 pub fn to_shuffle(alloc: Global, table: &GenTable, tree: &Tree) -> Result<(Sign, STree), AllocError>
     requires labelled { (n : ℕ) × IsLabelled table.now n (tree_of tree.now) }
     ensures form { IfOk result (λ found. IsFormOf table.now (tree_of tree.now) found.0 found.1) }
-    ensures own { IfOk result (λ found. found.1 ≡ shuffle_form (over table.now) (tree_of tree.now)) }
+    ensures own { IfOk result (λ found. found.1 ≡ shuffle_form (generators_of table.now) (tree_of tree.now)) }
     ensures sign { IfOk result (λ found. meaning_of found.0 ≡ plain.spelled_sign (parts_at table.now) (tree_of tree.now)) }
-    ensures shuffle { (n : ℕ) → IsLabelled table.now n (tree_of tree.now) → IfOk result (λ found. IsShuffleTree (inputs_of (over table.now)) n found.1) }
+    ensures shuffle { (n : ℕ) → IsLabelled table.now n (tree_of tree.now) → IfOk result (λ found. IsShuffleTree (inputs_of (generators_of table.now)) n found.1) }
 {
     let words = words_of(alloc, table)?;
     let (sign, branch) = form(alloc, table, words.as_slice(), tree)?;

@@ -7,7 +7,7 @@ ghost use Rattle.operad_ideals.specs.Ideals.{placed};
 ghost use Rattle.shuffle_insertions.specs.Frames.{insert};
 ghost use Rattle.shuffle_transfer.specs.Labels.{inputs_of, symmetric_tree};
 ghost use Rattle.shuffle_passage.specs.WordTables.{words_from};
-ghost use Rattle.shuffle_passage.specs.Passage.{over};
+ghost use Rattle.symmetric_trees.specs.Generators.{generators_of};
 
 use crate::spelling_back::spell_back;
 use crate::words::{Words, words_of};
@@ -24,8 +24,8 @@ fn spell_all(
     trees: &[STree],
 ) -> Result<Items<Tree>, AllocError>
     requires words { words.now ≡ words_from 0 table.now }
-    requires fit { All (Fits (inputs_of (over table.now))) trees.now }
-    ensures { IfOk result (λ made. map tree_of made ≡ map (symmetric_tree (over table.now)) trees.now) }
+    requires fit { All (Fits (inputs_of (generators_of table.now))) trees.now }
+    ensures { IfOk result (λ made. map tree_of made ≡ map (symmetric_tree (generators_of table.now)) trees.now) }
 {
     let mut made = Items::from_vec(Vec::with_capacity(alloc, trees.len())?);
     for tree in trees {
@@ -42,13 +42,13 @@ pub fn frame_to_context(
     table: &GenTable,
     frame: &Frame,
 ) -> Result<(Tree, Items<Tree>), AllocError>
-    requires context { Fits (inputs_of (over table.now)) frame.now.hole }
-    requires inputs { All (Fits (inputs_of (over table.now))) frame.now.inputs }
-    ensures context { IfOk result (λ found. tree_of found.0 ≡ symmetric_tree (over table.now) frame.now.hole) }
-    ensures inputs { IfOk result (λ found. map tree_of found.1 ≡ map (symmetric_tree (over table.now)) frame.now.inputs) }
+    requires context { Fits (inputs_of (generators_of table.now)) frame.now.hole }
+    requires inputs { All (Fits (inputs_of (generators_of table.now))) frame.now.inputs }
+    ensures context { IfOk result (λ found. tree_of found.0 ≡ symmetric_tree (generators_of table.now) frame.now.hole) }
+    ensures inputs { IfOk result (λ found. map tree_of found.1 ≡ map (symmetric_tree (generators_of table.now)) frame.now.inputs) }
     ensures hole { IfOk result (λ found. IsContext (tree_of found.0)) }
-    ensures filled { IfOk result (λ found. (x : _) → Fits (inputs_of (over table.now)) x
-        → placed (tree_of found.0) (map tree_of found.1) (symmetric_tree (over table.now) x) ≡ symmetric_tree (over table.now) (insert frame.now x)) }
+    ensures filled { IfOk result (λ found. (x : _) → Fits (inputs_of (generators_of table.now)) x
+        → placed (tree_of found.0) (map tree_of found.1) (symmetric_tree (generators_of table.now) x) ≡ symmetric_tree (generators_of table.now) (insert frame.now x)) }
 {
     let words = words_of(alloc, table)?;
     let context = spell_back(alloc, table, words.as_slice(), frame.context())?;

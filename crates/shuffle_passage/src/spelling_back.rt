@@ -4,11 +4,11 @@ ghost use Rattle.labelled_trees.specs.Meaning.{tree_of};
 ghost use Rattle.operad_ideals.specs.Spelling.{IsSorted};
 ghost use Rattle.shuffle_insertions.specs.ShuffleTrees.{IsShuffle};
 ghost use Rattle.shuffle_transfer.specs.Labels.{inputs_of, symmetric_tree};
-ghost use Rattle.symmetric_trees.specs.Generators.{parts_at};
+ghost use Rattle.symmetric_trees.specs.Generators.{parts_at, generators_of};
 ghost use Rattle.symmetric_trees.specs.Trees.{IsLabelled};
 ghost use Rattle.shuffle_passage.specs.Words as spec;
 ghost use Rattle.shuffle_passage.specs.WordTables.{words_from};
-ghost use Rattle.shuffle_passage.specs.Passage.{IsFormOf, over};
+ghost use Rattle.shuffle_passage.specs.Passage.{IsFormOf};
 
 use crate::words::{Words, find_place, first_place, generator_of, words_of};
 use shuffle_trees::{STree, Shape};
@@ -51,8 +51,8 @@ pub fn spell_back(
     tree: &Shape,
 ) -> Result<Tree, AllocError>
     requires words { words.now ≡ words_from 0 table.now }
-    requires fits { labelled.Fits (inputs_of (over table.now)) (tree_of tree.now) }
-    ensures tree { IfOk result (λ made. tree_of made ≡ symmetric_tree (over table.now) (tree_of tree.now)) }
+    requires fits { labelled.Fits (inputs_of (generators_of table.now)) (tree_of tree.now) }
+    ensures tree { IfOk result (λ made. tree_of made ≡ symmetric_tree (generators_of table.now) (tree_of tree.now)) }
 {
     match tree {
         Shape::Leaf(number) => Ok(Tree::Leaf(*number)),
@@ -74,8 +74,8 @@ pub fn spell_back(
 /// each vertex has as many inputs as its label. Where the leaves are 1 to `n`, `to_shuffle` of the answer gives `Plus` and
 /// the same shuffle tree. `AllocError` comes for want of memory alone.
 pub fn to_symmetric(alloc: Global, table: &GenTable, tree: &STree) -> Result<Tree, AllocError>
-    requires belongs { labelled.Fits (inputs_of (over table.now)) tree.now }
-    ensures tree { IfOk result (λ made. tree_of made ≡ symmetric_tree (over table.now) tree.now) }
+    requires belongs { labelled.Fits (inputs_of (generators_of table.now)) tree.now }
+    ensures tree { IfOk result (λ made. tree_of made ≡ symmetric_tree (generators_of table.now) tree.now) }
     ensures sorted { IfOk result (λ made. IsSorted (parts_at table.now) (tree_of made)) }
     ensures back { (n : ℕ) → IsShuffle n tree.now → IfOk result (λ made. IsLabelled table.now n (tree_of made) × IsFormOf table.now (tree_of made) Sign.Plus tree.now) }
 {

@@ -3,7 +3,6 @@ ghost use Rattle.symmetric_trees.specs.Generators.{generators_of, kind_of, part_
 ghost use Rattle.shuffle_transfer.specs.Labels.{gen, labels};
 ghost use Rattle.shuffle_passage.specs.Words as spec;
 ghost use Rattle.shuffle_passage.specs.WordTables.{words_from};
-ghost use Rattle.shuffle_passage.specs.Passage.{over};
 
 use sqlite_items::Items;
 use std::alloc::{AllocError, Global};
@@ -143,10 +142,10 @@ pub fn words_of(alloc: Global, table: &GenTable) -> Result<Items<Words>, AllocEr
 // The index of the generator of a label.
 pub fn generator_of(table: &GenTable, words: &[Words], label: u16) -> u16
     requires words { words.now ≡ words_from 0 table.now }
-    requires label { label < labels (over table.now) }
+    requires label { label < labels (generators_of table.now) }
     ensures held { result < length table.now }
     ensures few { length (spec.bounds_of (parts_at table.now result)) ≤ 6 }
-    ensures generator { result ≡ gen (over table.now) label }
+    ensures generator { result ≡ gen (generators_of table.now) label }
     ensures first { spec.first_label (generators_of table.now) result ≤ label }
     ensures end { label < spec.first_label (generators_of table.now) result + spec.endings (spec.bounds_of (parts_at table.now result)) 0 }
 {

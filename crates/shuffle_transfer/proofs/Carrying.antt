@@ -26,23 +26,23 @@ use Rattle.shuffle_transfer.proofs.TransferLaw.{labelled-relabelled, from_frame,
 
 -- ---- insertions of relations
 
-module _ (p : Presentation) (sound : IsSound p) (m n : ℕ) (f : Slot) (rises : PartsRise m f.parts) (x : Tree ℕ) (hx : IsShuffle m x) (vx : IsShuffleTree (inputs_of p) n (fill_slot f x)) where
+module _ (p : Presentation) (sound : IsSound p) (m n : ℕ) (f : Slot) (rises : PartsRise m f.parts) (x : Tree ℕ) (hx : IsShuffle m x) (vx : IsShuffleTree (inputs_of p.generators) n (fill_slot f x)) where
   -- where one tree gives a shuffle tree, each of its arity does
-  over_all : (y : Tree ℕ) → IsShuffleTree (inputs_of p) m y → IsShuffleTree (inputs_of p) n (fill_slot f y)
-  over_all y h = record { fits = fill_slot-fits (inputs_of p) m f x y hx h.shuffle vx.fits h.fits; shuffle = fill_slot-valid m n f x y rises hx h.shuffle vx.shuffle }
+  over_all : (y : Tree ℕ) → IsShuffleTree (inputs_of p.generators) m y → IsShuffleTree (inputs_of p.generators) n (fill_slot f y)
+  over_all y h = record { fits = fill_slot-fits (inputs_of p.generators) m f x y hx h.shuffle vx.fits h.fits; shuffle = fill_slot-valid m n f x y rises hx h.shuffle vx.shuffle }
 
-  all_over : (g : Slot) (e : List (ℕ × Tree ℕ)) → AllTerms (moved (fill_slot g) e) (IsShuffleTree (inputs_of p) m) → AllTerms (moved (fill_slot (into m n f rises g)) e) (IsShuffleTree (inputs_of p) n)
+  all_over : (g : Slot) (e : List (ℕ × Tree ℕ)) → AllTerms (moved (fill_slot g) e) (IsShuffleTree (inputs_of p.generators) m) → AllTerms (moved (fill_slot (into m n f rises g)) e) (IsShuffleTree (inputs_of p.generators) n)
   all_over g [] h = tt
-  all_over g (y ∷ e) h = (subst (IsShuffleTree (inputs_of p) n) (sym (fill_slot-into m n f rises g y.1)) (over_all (fill_slot g y.1) h.0), all_over g e h.1)
+  all_over g (y ∷ e) h = (subst (IsShuffleTree (inputs_of p.generators) n) (sym (fill_slot-into m n f rises g y.1)) (over_all (fill_slot g y.1) h.0), all_over g e h.1)
 
   carried_terms : (j : SlotInsertion p m) (l : List (ℕ × Tree ℕ)) → j.relation.terms ≡ l → Member tree_discrete (slot_inserted p n) p.q (moved (fill_slot f) (moved (fill_slot j.slot) (turned p (relabelled j.permutation l))))
   carried_terms j [] e = member_zero tree_discrete (slot_inserted p n) p.q
   carried_terms j (y ∷ l) e =
       let labels : AllTerms (relabelled j.permutation (y ∷ l)) (IsLabelled (arity_of p) j.relation.arity)
       = labelled-relabelled (arity_of p) j.relation.arity j.permutation j.permutes (y ∷ l) (subst (λ t. AllTerms t (IsLabelled (arity_of p) j.relation.arity)) e (sound j.relation j.there)) in
-      let v : AllTerms (moved (fill_slot j.slot) (turned p (relabelled j.permutation (y ∷ l)))) (IsShuffleTree (inputs_of p) m)
-      = subst (λ t. AllTerms (moved (fill_slot j.slot) (turned p (relabelled j.permutation t))) (IsShuffleTree (inputs_of p) m)) e j.valid in
-      let z : Tree ℕ = shuffle_form p (graft y.1 (λ i. leaf (entry j.permutation i))) in
+      let v : AllTerms (moved (fill_slot j.slot) (turned p (relabelled j.permutation (y ∷ l)))) (IsShuffleTree (inputs_of p.generators) m)
+      = subst (λ t. AllTerms (moved (fill_slot j.slot) (turned p (relabelled j.permutation t))) (IsShuffleTree (inputs_of p.generators) m)) e j.valid in
+      let z : Tree ℕ = shuffle_form p.generators (graft y.1 (λ i. leaf (entry j.permutation i))) in
       subst (Member tree_discrete (slot_inserted p n) p.q)
       (moved_ext (fill_slot (into m n f rises j.slot)) (λ t. fill_slot f (fill_slot j.slot t)) (turned p (relabelled j.permutation (y ∷ l))) (λ t. fill_slot-into m n f rises j.slot t)
       ∙ sym (moved-moved (fill_slot j.slot) (fill_slot f) (turned p (relabelled j.permutation (y ∷ l)))))
@@ -53,8 +53,8 @@ module _ (p : Presentation) (sound : IsSound p) (m n : ℕ) (f : Slot) (rises : 
         permutation = j.permutation;
         permutes = j.permutes;
         slot = into m n f rises j.slot;
-        rises = into_rises m n f rises j.relation.arity j.slot j.rises z (forth p j.relation.arity (graft y.1 (λ i. leaf (entry j.permutation i))) labels.0).shuffle v.0.shuffle;
-        valid = subst (λ k. AllTerms (moved (fill_slot (into m n f rises j.slot)) (turned p (relabelled j.permutation k))) (IsShuffleTree (inputs_of p) n)) (sym e) (all_over j.slot (turned p (relabelled j.permutation (y ∷ l))) v);
+        rises = into_rises m n f rises j.relation.arity j.slot j.rises z (forth p.generators j.relation.arity (graft y.1 (λ i. leaf (entry j.permutation i))) labels.0).shuffle v.0.shuffle;
+        valid = subst (λ k. AllTerms (moved (fill_slot (into m n f rises j.slot)) (turned p (relabelled j.permutation k))) (IsShuffleTree (inputs_of p.generators) n)) (sym e) (all_over j.slot (turned p (relabelled j.permutation (y ∷ l))) v);
       }))
 
   carried_all : (l : List (ℕ × SlotInsertion p m)) → Member tree_discrete (slot_inserted p n) p.q (moved (fill_slot f) (expand (slot_inserted p m) l))

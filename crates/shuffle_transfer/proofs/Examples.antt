@@ -37,7 +37,7 @@ one_free = record { q = 100; generators = one_part record { kind = free; size = 
 
 -- ---- labels
 
-two_labels : (letters 0 one_free.generators ≡ lettered 0 (1 ∷ (2 ∷ [])) ∷ (lettered 0 (2 ∷ (1 ∷ [])) ∷ [])) × (labels one_free ≡ 2) × (inputs_of one_free 0 ≡ 2) × (inputs_of one_free 1 ≡ 2)
+two_labels : (letters 0 one_free.generators ≡ lettered 0 (1 ∷ (2 ∷ [])) ∷ (lettered 0 (2 ∷ (1 ∷ [])) ∷ [])) × (labels one_free.generators ≡ 2) × (inputs_of one_free.generators 0 ≡ 2) × (inputs_of one_free.generators 1 ≡ 2)
 two_labels = (refl, refl, refl, refl)
 
 six_labels : letters 0 three_kinds.generators ≡
@@ -45,15 +45,15 @@ six_labels : letters 0 three_kinds.generators ≡
 six_labels = refl
 
 -- the labels of p(1,2) and p(2,1)
-free_labels : (shuffle_form one_free (two 0 (leaf 1) (leaf 2)) ≡ two 0 (leaf 1) (leaf 2)) × (shuffle_form one_free (two 0 (leaf 2) (leaf 1)) ≡ two 1 (leaf 1) (leaf 2))
+free_labels : (shuffle_form one_free.generators (two 0 (leaf 1) (leaf 2)) ≡ two 0 (leaf 1) (leaf 2)) × (shuffle_form one_free.generators (two 0 (leaf 2) (leaf 1)) ≡ two 1 (leaf 1) (leaf 2))
 unfolding word_discrete same_cons letter_discrete same_letter ℕ_discrete
 free_labels = (refl, refl)
 
 -- ---- there and back
 
 -- l(2,1) has the sign minus and the shuffle form of l(1,2), whose tree is l(1,2)
-turned_bracket : (spelled_sign (parts three_kinds) (two 0 (leaf 2) (leaf 1)) ≡ minus) × (shuffle_form three_kinds (two 0 (leaf 2) (leaf 1)) ≡ two 0 (leaf 1) (leaf 2))
-    × (symmetric_tree three_kinds (two 0 (leaf 1) (leaf 2)) ≡ two 0 (leaf 1) (leaf 2))
+turned_bracket : (spelled_sign (parts three_kinds) (two 0 (leaf 2) (leaf 1)) ≡ minus) × (shuffle_form three_kinds.generators (two 0 (leaf 2) (leaf 1)) ≡ two 0 (leaf 1) (leaf 2))
+    × (symmetric_tree three_kinds.generators (two 0 (leaf 1) (leaf 2)) ≡ two 0 (leaf 1) (leaf 2))
 unfolding word_discrete same_cons letter_discrete same_letter ℕ_discrete
 turned_bracket = (refl, refl, refl)
 
@@ -69,8 +69,8 @@ unfolding word_discrete same_cons letter_discrete same_letter ℕ_discrete
 mixed = refl
 
 -- and the trees of shuffle trees
-mixed_back : (symmetric_tree three_kinds (two 2 (leaf 1) (leaf 2)) ≡ two 1 (leaf 2) (leaf 1)) × (symmetric_tree three_kinds (three 4 1 2 3) ≡ three 2 1 3 2)
-    × (symmetric_tree three_kinds (three 5 1 2 3) ≡ three 2 2 3 1)
+mixed_back : (symmetric_tree three_kinds.generators (two 2 (leaf 1) (leaf 2)) ≡ two 1 (leaf 2) (leaf 1)) × (symmetric_tree three_kinds.generators (three 4 1 2 3) ≡ three 2 1 3 2)
+    × (symmetric_tree three_kinds.generators (three 5 1 2 3) ≡ three 2 2 3 1)
 mixed_back = (refl, refl, refl)
 
 -- ---- relabellings
@@ -90,8 +90,8 @@ abbrev hole_and_four : Frame
 hole_and_four = record { hole = two 0 (leaf 0) (leaf 4); inputs = leaf 1 ∷ (leaf 2 ∷ (leaf 3 ∷ [])) }
 
 -- l(l(1,3),2) in the frame, and in the context l(0,4) with the inputs 1, 2, 3
-frame_passed_back : (symmetric_tree three_kinds (insert hole_and_four (two 0 (two 0 (leaf 1) (leaf 3)) (leaf 2))) ≡ two 0 (two 0 (two 0 (leaf 1) (leaf 3)) (leaf 2)) (leaf 4))
-    × (symmetric_tree three_kinds hole_and_four.hole ≡ two 0 (leaf 0) (leaf 4))
+frame_passed_back : (symmetric_tree three_kinds.generators (insert hole_and_four (two 0 (two 0 (leaf 1) (leaf 3)) (leaf 2))) ≡ two 0 (two 0 (two 0 (leaf 1) (leaf 3)) (leaf 2)) (leaf 4))
+    × (symmetric_tree three_kinds.generators hole_and_four.hole ≡ two 0 (leaf 0) (leaf 4))
     × (put (two 0 (leaf 0) (leaf 4)) (graft (two 0 (two 0 (leaf 1) (leaf 3)) (leaf 2)) (item (leaf 1 ∷ (leaf 2 ∷ (leaf 3 ∷ []))))) ≡ two 0 (two 0 (two 0 (leaf 1) (leaf 3)) (leaf 2)) (leaf 4))
 frame_passed_back = (refl, refl, refl)
 
@@ -101,5 +101,5 @@ frame_passed_back = (refl, refl, refl)
 abbrev one_mixed : Presentation
 one_mixed = record { q = 100; generators = (record { kind = symmetric; size = 2 } ∷ one_part record { kind = free; size = 1 }) ∷ []; relations = [] }
 
-mixed_listed : normal_list one_mixed [] 3 ≡ three 0 1 2 3 ∷ (three 0 1 3 2 ∷ (three 0 2 3 1 ∷ []))
+mixed_listed : normal_list one_mixed.generators [] 3 ≡ three 0 1 2 3 ∷ (three 0 1 3 2 ∷ (three 0 2 3 1 ∷ []))
 mixed_listed = refl

@@ -50,13 +50,13 @@ module _ (p : Presentation) (n : ℕ) where
   arity = arity_of p
 
   abbrev lab : ℕ → List ℕ → ℕ
-  lab = label p
+  lab = label p.generators
 
   abbrev turn : ℕ → List ℕ → ℕ
-  turn = twist (parts p) (label p)
+  turn = twist (parts p) (label p.generators)
 
   abbrev Shuffles : Tree ℕ → Type 0
-  Shuffles = IsShuffleTree (inputs_of p) n
+  Shuffles = IsShuffleTree (inputs_of p.generators) n
 
   abbrev InSpan : List (ℕ × Tree ℕ) → Type 0
   InSpan e = Member tree_discrete (slot_inserted p n) p.q e
@@ -86,7 +86,7 @@ module _ (p : Presentation) (n : ℕ) where
     named y = graft y (λ i. leaf (rank i))
 
     low : ℕ
-    low = least (shuffle_form p (graft x0 s))
+    low = least (shuffle_form p.generators (graft x0 s))
 
     ctx : FormCtx lab turn low c
     ctx = form_ctx lab turn low c
@@ -95,7 +95,7 @@ module _ (p : Presentation) (n : ℕ) where
     inner = sum_leaves (named x0) (λ i. turns_of p (lines i))
 
     abbrev slot : Slot
-    slot = record { context = ctx.context; parts = λ j. shuffle_form p (lines j) }
+    slot = record { context = ctx.context; parts = λ j. shuffle_form p.generators (lines j) }
 
     inner_is : (y : Tree ℕ) → IsLabelled arity m y → sum_leaves (named y) (λ i. turns_of p (lines i)) ≡ inner
     unfolding inner
@@ -104,9 +104,9 @@ module _ (p : Presentation) (n : ℕ) where
         ∙ numbered_sums (numbered_of_labelled h) (numbered_of_labelled h0) (λ i. turns_of p (lines (rank i)))
         ∙ sym (sum_leaves-graft x0 (λ i. leaf (rank i)) (λ i. turns_of p (lines i)))
 
-    low_is : (y : Tree ℕ) → IsLabelled arity m y → IsLabelled arity n (fill c (graft y s)) → least (shuffle_form p (graft y s)) ≡ low
+    low_is : (y : Tree ℕ) → IsLabelled arity m y → IsLabelled arity n (fill c (graft y s)) → least (shuffle_form p.generators (graft y s)) ≡ low
     unfolding low
-    low_is y h v = least_same (shuffle_form p (graft y s)) (shuffle_form p (graft x0 s))
+    low_is y h v = least_same (shuffle_form p.generators (graft y s)) (shuffle_form p.generators (graft x0 s))
         (form_rises lab arity (graft y s) (fits_of_fill arity c (graft y s) v.fits) (once_inside arity n c (graft y s) v))
         (form_rises lab arity (graft x0 s) fits0 single0)
         (λ i. occurs-form lab i (graft y s) ∙ sum_leaves-graft y s (λ k. one_if (ℕ_discrete k i)) ∙ numbered_sums (numbered_of_labelled h) (numbered_of_labelled h0) (λ a. occurs i (s a))
@@ -115,9 +115,9 @@ module _ (p : Presentation) (n : ℕ) where
     named_fits : (y : Tree ℕ) → IsLabelled arity m y → Fits arity (named y)
     named_fits y h = fits-graft arity y (λ i. leaf (rank i)) h.fits (AllLeaves-each y (λ i. Fits {A = ℕ} arity (leaf (rank i))) (λ i. tt))
 
-    part_form : (y : Tree ℕ) → IsLabelled arity m y → shuffle_form p (graft y s) ≡ graft (shuffle_form p (named y)) (λ j. shuffle_form p (lines j))
+    part_form : (y : Tree ℕ) → IsLabelled arity m y → shuffle_form p.generators (graft y s) ≡ graft (shuffle_form p.generators (named y)) (λ j. shuffle_form p.generators (lines j))
     part_form y h =
-        ap (shuffle_form p) (lined_graft lab arity m n given y h)
+        ap (shuffle_form p.generators) (lined_graft lab arity m n given y h)
         ∙ form-graft arity lab (InRange m) lines (lined_order lab arity m n given) (lined_back lab arity m n given)
         (named y) (named_fits y h) (relabel_among lab arity m n given y h)
 
@@ -128,7 +128,7 @@ module _ (p : Presentation) (n : ℕ) where
         (named y) (named_fits y h) (relabel_among lab arity m n given y h)
         ∙ ap (λ k. turns_of p (named y) + k) (inner_is y h)
 
-    form_at : (y : Tree ℕ) → IsLabelled arity m y → IsLabelled arity n (fill c (graft y s)) → shuffle_form p (fill c (graft y s)) ≡ fill_slot slot (shuffle_form p (named y))
+    form_at : (y : Tree ℕ) → IsLabelled arity m y → IsLabelled arity n (fill c (graft y s)) → shuffle_form p.generators (fill c (graft y s)) ≡ fill_slot slot (shuffle_form p.generators (named y))
     form_at y h v = ctx.form_is (graft y s) (low_is y h v) ∙ ap (fill ctx.context) (part_form y h)
 
     turns_at : (y : Tree ℕ) → IsLabelled arity m y → IsLabelled arity n (fill c (graft y s)) → turns_of p (fill c (graft y s)) ≡ (ctx.count + inner) + turns_of p (named y)
@@ -149,7 +149,7 @@ module _ (p : Presentation) (n : ℕ) where
     all_valid : (l : List (ℕ × Tree ℕ)) → AllTerms l (IsLabelled arity m) → AllTerms (moved (λ x. fill c (graft x s)) l) (IsLabelled arity n)
         → AllTerms (moved (fill_slot slot) (turned p (renamed l))) Shuffles
     all_valid [] h v = tt
-    all_valid (x ∷ l) h v = (subst Shuffles (form_at x.1 h.0 v.0) (forth p n (fill c (graft x.1 s)) v.0), all_valid l h.1 v.1)
+    all_valid (x ∷ l) h v = (subst Shuffles (form_at x.1 h.0 v.0) (forth p.generators n (fill c (graft x.1 s)) v.0), all_valid l h.1 v.1)
 
     -- the permutation as a list
     ordering : (v : List ℕ) × IsOrdering m v × ((i : ℕ) → 0 < i → i ≤ m → entry v i ≡ rank i)
@@ -172,7 +172,7 @@ module _ (p : Presentation) (n : ℕ) where
           permutation = ordering.0;
           permutes = subst (λ k. IsOrdering k ordering.0) (sym e) ordering.1;
           slot = slot;
-          rises = subst (λ k. PartsRise k (λ j. shuffle_form p (lines j))) (sym e) (lined_rise lab arity m n given);
+          rises = subst (λ k. PartsRise k (λ j. shuffle_form p.generators (lines j))) (sym e) (lined_rise lab arity m n given);
           valid = subst (λ k. AllTerms (moved (fill_slot slot) (turned p k)) Shuffles) (sym same) (all_valid r.terms h v);
         }
 

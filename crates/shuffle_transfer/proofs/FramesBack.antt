@@ -10,7 +10,7 @@ use Rattle.labelled_trees.specs.Insertions.{at_zero, put, item}
 use Rattle.labelled_trees.proofs.Leaves.{AllLeaves-each}
 use Rattle.labelled_trees.proofs.GraftLeaves.{graft_ext}
 use Rattle.shuffle_insertions.specs.Listing.{upto}
-use Rattle.operad_ideals.specs.Presentations.{Presentation}
+use Rattle.operad_ideals.specs.Parts.{Part}
 use Rattle.shuffle_transfer.specs.Orderings.{IsOrdering}
 use Rattle.shuffle_transfer.specs.ShuffleForms.{to_symmetric_row}
 use Rattle.shuffle_transfer.specs.Labels.{gen, word, inputs_of, symmetric_tree}
@@ -45,58 +45,58 @@ item_within f (t ∷ ts) zero p le = absurd (omega (arith, p))
 item_within f (t ∷ ts) (suc zero) p le = refl
 item_within f (t ∷ ts) (suc (suc i)) p le = item_within f ts (suc i) (omega arith) (omega (arith, le))
 
-module _ (p : Presentation) where
+module _ (generators : List (List Part)) where
   abbrev S_row : Row ℕ → List (Tree ℕ)
-  S_row = to_symmetric_row (gen p) (word p)
+  S_row = to_symmetric_row (gen generators) (word generators)
 
   length-back : (r : Row ℕ) → length (S_row r) ≡ width r
   length-back none = refl
   length-back (more t r) = ap suc (length-back r)
 
-  word_at : (l : ℕ) (r : Row ℕ) → 2 ≤ inputs_of p l → width r ≡ inputs_of p l → IsOrdering (length (S_row r)) (word p l)
-  word_at l r h e = subst (λ m. IsOrdering m (word p l)) (sym (length-back r ∙ e)) ((word_of_label p l h).ordering)
+  word_at : (l : ℕ) (r : Row ℕ) → 2 ≤ inputs_of generators l → width r ≡ inputs_of generators l → IsOrdering (length (S_row r)) (word generators l)
+  word_at l r h e = subst (λ m. IsOrdering m (word generators l)) (sym (length-back r ∙ e)) ((word_of_label generators l h).ordering)
 
   mutual
-    pub back-graft : (t : Tree ℕ) (s : ℕ → Tree ℕ) → Fits (inputs_of p) t → symmetric_tree p (graft t s) ≡ graft (symmetric_tree p t) (λ i. symmetric_tree p (s i))
+    pub back-graft : (t : Tree ℕ) (s : ℕ → Tree ℕ) → Fits (inputs_of generators) t → symmetric_tree generators (graft t s) ≡ graft (symmetric_tree generators t) (λ i. symmetric_tree generators (s i))
     back-graft (leaf n) s h = refl
     back-graft (node l r) s h =
         let o = word_at l r h.0 h.1 in
-        ap (λ us. node (gen p l) (row (map (item us) (word p l)))) (back-graft_row r s h.2)
-        ∙ ap (λ us. node (gen p l) (row us))
-        (map_same (item (map (λ u. graft u (λ i. symmetric_tree p (s i))) (S_row r))) (λ i. graft (item (S_row r) i) (λ j. symmetric_tree p (s j))) (word p l)
-        (λ i m. let k = o.within i m in item_within (λ u. graft u (λ j. symmetric_tree p (s j))) (S_row r) i k.0 k.1)
-        ∙ sym (map-map (λ u. graft u (λ j. symmetric_tree p (s j))) (item (S_row r)) (word p l)))
-        ∙ ap (node (gen p l)) (sym (graft_row-row (map (item (S_row r)) (word p l)) (λ j. symmetric_tree p (s j))))
+        ap (λ us. node (gen generators l) (row (map (item us) (word generators l)))) (back-graft_row r s h.2)
+        ∙ ap (λ us. node (gen generators l) (row us))
+        (map_same (item (map (λ u. graft u (λ i. symmetric_tree generators (s i))) (S_row r))) (λ i. graft (item (S_row r) i) (λ j. symmetric_tree generators (s j))) (word generators l)
+        (λ i m. let k = o.within i m in item_within (λ u. graft u (λ j. symmetric_tree generators (s j))) (S_row r) i k.0 k.1)
+        ∙ sym (map-map (λ u. graft u (λ j. symmetric_tree generators (s j))) (item (S_row r)) (word generators l)))
+        ∙ ap (node (gen generators l)) (sym (graft_row-row (map (item (S_row r)) (word generators l)) (λ j. symmetric_tree generators (s j))))
 
-    back-graft_row : (r : Row ℕ) (s : ℕ → Tree ℕ) → FitsRow (inputs_of p) r → S_row (graft_row r s) ≡ map (λ u. graft u (λ i. symmetric_tree p (s i))) (S_row r)
+    back-graft_row : (r : Row ℕ) (s : ℕ → Tree ℕ) → FitsRow (inputs_of generators) r → S_row (graft_row r s) ≡ map (λ u. graft u (λ i. symmetric_tree generators (s i))) (S_row r)
     back-graft_row none s h = refl
     back-graft_row (more t r) s h = ap₂ (λ u us. u ∷ us) (back-graft t s h.0) (back-graft_row r s h.1)
 
   mutual
-    pub back-sum : (t : Tree ℕ) (f : ℕ → ℕ) → Fits (inputs_of p) t → sum_leaves (symmetric_tree p t) f ≡ sum_leaves t f
+    pub back-sum : (t : Tree ℕ) (f : ℕ → ℕ) → Fits (inputs_of generators) t → sum_leaves (symmetric_tree generators t) f ≡ sum_leaves t f
     back-sum (leaf n) f h = refl
-    back-sum (node l r) f h = sum_ordering (S_row r) f (word p l) (word_at l r h.0 h.1) ∙ back-sum_row r f h.2
+    back-sum (node l r) f h = sum_ordering (S_row r) f (word generators l) (word_at l r h.0 h.1) ∙ back-sum_row r f h.2
 
-    back-sum_row : (r : Row ℕ) (f : ℕ → ℕ) → FitsRow (inputs_of p) r → sum_row (row (S_row r)) f ≡ sum_row r f
+    back-sum_row : (r : Row ℕ) (f : ℕ → ℕ) → FitsRow (inputs_of generators) r → sum_row (row (S_row r)) f ≡ sum_row r f
     back-sum_row none f h = refl
     back-sum_row (more t r) f h = ap₂ (λ a b. a + b) (back-sum t f h.0) (back-sum_row r f h.1)
 
-  back-at_zero : (x : Tree ℕ) (i : ℕ) → at_zero (symmetric_tree p x) i ≡ symmetric_tree p (at_zero x i)
+  back-at_zero : (x : Tree ℕ) (i : ℕ) → at_zero (symmetric_tree generators x) i ≡ symmetric_tree generators (at_zero x i)
   back-at_zero x zero = refl
   back-at_zero x (suc i) = refl
 
-  back-put : (c x : Tree ℕ) → Fits (inputs_of p) c → put (symmetric_tree p c) (symmetric_tree p x) ≡ symmetric_tree p (put c x)
+  back-put : (c x : Tree ℕ) → Fits (inputs_of generators) c → put (symmetric_tree generators c) (symmetric_tree generators x) ≡ symmetric_tree generators (put c x)
   back-put c x h =
-      graft_ext (symmetric_tree p c) (at_zero (symmetric_tree p x)) (λ i. symmetric_tree p (at_zero x i))
-      (AllLeaves-each (symmetric_tree p c) (λ i. at_zero (symmetric_tree p x) i ≡ symmetric_tree p (at_zero x i)) (back-at_zero x))
+      graft_ext (symmetric_tree generators c) (at_zero (symmetric_tree generators x)) (λ i. symmetric_tree generators (at_zero x i))
+      (AllLeaves-each (symmetric_tree generators c) (λ i. at_zero (symmetric_tree generators x) i ≡ symmetric_tree generators (at_zero x i)) (back-at_zero x))
       ∙ sym (back-graft c (at_zero x) h)
 
 pub frames_back : FramesBack
-frames_back p f x hf hx = (
-  back-sum p f.hole (λ n. one_if (ℕ_discrete n 0)) hf,
-  ap (put (symmetric_tree p f.hole))
-      (graft_ext (symmetric_tree p x) (item (map (symmetric_tree p) f.inputs)) (λ i. symmetric_tree p (item f.inputs i))
-      (AllLeaves-each (symmetric_tree p x) (λ i. item (map (symmetric_tree p) f.inputs) i ≡ symmetric_tree p (item f.inputs i)) (λ i. item-map (symmetric_tree p) refl f.inputs i))
-      ∙ sym (back-graft p x (item f.inputs) hx))
-      ∙ back-put p f.hole (graft x (item f.inputs)) hf,
+frames_back generators f x hf hx = (
+  back-sum generators f.hole (λ n. one_if (ℕ_discrete n 0)) hf,
+  ap (put (symmetric_tree generators f.hole))
+      (graft_ext (symmetric_tree generators x) (item (map (symmetric_tree generators) f.inputs)) (λ i. symmetric_tree generators (item f.inputs i))
+      (AllLeaves-each (symmetric_tree generators x) (λ i. item (map (symmetric_tree generators) f.inputs) i ≡ symmetric_tree generators (item f.inputs i)) (λ i. item-map (symmetric_tree generators) refl f.inputs i))
+      ∙ sym (back-graft generators x (item f.inputs) hx))
+      ∙ back-put generators f.hole (graft x (item f.inputs)) hf,
 )

@@ -41,7 +41,7 @@ pub record Given : Type 0 where
   pub sound : IsSound presentation
   pub wide : IsWide presentation
   pub compare : Tree ℕ → Tree ℕ → Ordering
-  pub order : IsTreeOrder (inputs_of presentation) compare
+  pub order : IsTreeOrder (inputs_of presentation.generators) compare
   pub elements : List Element
   pub most : ℕ
   pub certified : IsCertified presentation compare elements most
@@ -64,7 +64,7 @@ module _ (c : Given) (n : ℕ) (le : n ≤ c.most) where
   p = c.presentation
 
   abbrev Shuffles : Tree ℕ → Type 0
-  Shuffles = IsShuffleTree (inputs_of c.presentation) n
+  Shuffles = IsShuffleTree (inputs_of c.presentation.generators) n
 
   -- ---- relations, inserted, are sums of insertions of the elements
 
@@ -75,12 +75,12 @@ module _ (c : Given) (n : ℕ) (le : n ≤ c.most) where
       let s : SlotOf r.arity j.frame = slot_of r.arity j.frame j.is_frame in
       let labels : AllTerms (relabelled j.permutation (x ∷ l)) (IsLabelled (arity_of p) r.arity)
       = labelled-relabelled (arity_of p) r.arity j.permutation j.permutes (x ∷ l) (subst (λ t. AllTerms t (IsLabelled (arity_of p) r.arity)) e (c.sound r j.there)) in
-      let z : Tree ℕ = shuffle_form p (graft x.1 (λ i. leaf (entry j.permutation i))) in
-      let hz : IsShuffleTree (inputs_of p) r.arity z = forth p r.arity (graft x.1 (λ i. leaf (entry j.permutation i))) labels.0 in
+      let z : Tree ℕ = shuffle_form p.generators (graft x.1 (λ i. leaf (entry j.permutation i))) in
+      let hz : IsShuffleTree (inputs_of p.generators) r.arity z = forth p.generators r.arity (graft x.1 (λ i. leaf (entry j.permutation i))) labels.0 in
       let v : AllTerms (moved (insert j.frame) (shuffled p (relabelled j.permutation (x ∷ l)))) Shuffles
       = subst (λ t. AllTerms (moved (insert j.frame) (shuffled p (relabelled j.permutation t))) Shuffles) e j.valid in
-      let vz : IsShuffleTree (inputs_of p) n (fill_slot s.slot z) = subst Shuffles (s.inserts z) v.0 in
-      let few : r.arity ≤ n = arity_le (inputs_of p) r.arity n s.slot s.rises z hz vz in
+      let vz : IsShuffleTree (inputs_of p.generators) n (fill_slot s.slot z) = subst Shuffles (s.inserts z) v.0 in
+      let few : r.arity ≤ n = arity_le (inputs_of p.generators) r.arity n s.slot s.rises z hz vz in
       subst (InSpan (setting_of c) n) (sym (moved_ext (insert j.frame) (fill_slot s.slot) (shuffled p (relabelled j.permutation (x ∷ l))) s.inserts))
       (elements_carried (setting_of c) c.certified.monic r.arity n s.slot s.rises z hz.shuffle vz (shuffled p (relabelled j.permutation (x ∷ l)))
       (subst (λ t. Member tree_discrete (value_of {s = setting_of c} {n = r.arity}) p.q (shuffled p (relabelled j.permutation t))) e

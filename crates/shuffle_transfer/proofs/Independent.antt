@@ -22,18 +22,18 @@ use Rattle.shuffle_transfer.proofs.Given.{Given, setting_of, ideal_span}
 pub record Normal (c : Given) (n : ℕ) (le : n ≤ c.most) (t : Tree ℕ) : Type 0 where
   pub labelled : IsLabelled (arity_of c.presentation) n t
   pub sorted : spelled (parts c.presentation) t ≡ t
-  pub free : IsFree (setting_of c) (shuffle_form c.presentation t)
+  pub free : IsFree (setting_of c) (shuffle_form c.presentation.generators t)
 
 module _ (c : Given) (n : ℕ) (le : n ≤ c.most) where
   abbrev F : Tree ℕ → Tree ℕ
-  F = shuffle_form c.presentation
+  F = shuffle_form c.presentation.generators
 
-  pub normal_is : (t : Tree ℕ) → Normal c n le t → (symmetric_tree c.presentation (shuffle_form c.presentation t) ≡ t) × (spelled_sign (parts c.presentation) t ≡ plus)
+  pub normal_is : (t : Tree ℕ) → Normal c n le t → (symmetric_tree c.presentation.generators (shuffle_form c.presentation.generators t) ≡ t) × (spelled_sign (parts c.presentation) t ≡ plus)
   normal_is t h =
-      let e : symmetric_tree c.presentation (F t) ≡ t = (spelling c.presentation n t h.labelled).0 ∙ h.sorted in
-      (e, ap (spelled_sign (parts c.presentation)) (sym e) ∙ (back_law c.presentation n (F t) (forth c.presentation n t h.labelled)).2)
+      let e : symmetric_tree c.presentation.generators (F t) ≡ t = (spelling c.presentation.generators n t h.labelled).0 ∙ h.sorted in
+      (e, ap (spelled_sign (parts c.presentation)) (sym e) ∙ (back_law c.presentation.generators n (F t) (forth c.presentation.generators n t h.labelled)).2)
 
-  normal_back : (e : List (ℕ × Tree ℕ)) → AllTerms e (Normal c n le) → moved (symmetric_tree c.presentation) (shuffled c.presentation e) ≡ e
+  normal_back : (e : List (ℕ × Tree ℕ)) → AllTerms e (Normal c n le) → moved (symmetric_tree c.presentation.generators) (shuffled c.presentation e) ≡ e
   normal_back [] h = refl
   normal_back (x ∷ e) h =
       let k = normal_is x.1 h.0 in
@@ -43,12 +43,12 @@ module _ (c : Given) (n : ℕ) (le : n ≤ c.most) where
   -- the shuffle form of an element on normal trees is on free trees
   free_forms : (e : List (ℕ × Tree ℕ)) → AllTerms e (Normal c n le) → AllTerms (shuffled c.presentation e) (IsFreeTree (setting_of c) n)
   free_forms [] h = tt
-  free_forms (x ∷ e) h = (record { valid = forth c.presentation n x.1 h.0.labelled; free = h.0.free }, free_forms e h.1)
+  free_forms (x ∷ e) h = (record { valid = forth c.presentation.generators n x.1 h.0.labelled; free = h.0.free }, free_forms e h.1)
 
   -- an element of the ideal on normal trees is zero
   pub independent : (e : List (ℕ × Tree ℕ)) → AllTerms e (Normal c n le) → InIdeal c.presentation n e → Same tree_discrete c.presentation.q e []
   independent e h m =
       let span = ideal_span c n le e (AllTerms-imp (Normal c n le) (IsLabelled (arity_of c.presentation) n) e (λ t g. g.labelled) h) m in
-      let zero = free_independent (labels c.presentation) (setting_of c) (are_labels c.presentation c.wide) c.order c.certified.monic c.most n c.certified.s_elements le
+      let zero = free_independent (labels c.presentation.generators) (setting_of c) (are_labels c.presentation c.wide) c.order c.certified.monic c.most n c.certified.s_elements le
       (shuffled c.presentation e) (free_forms e h) span in
-      subst (λ l. Same tree_discrete c.presentation.q l []) (normal_back e h) (Same-moved tree_discrete tree_discrete c.presentation.q (symmetric_tree c.presentation) (shuffled c.presentation e) [] zero)
+      subst (λ l. Same tree_discrete c.presentation.q l []) (normal_back e h) (Same-moved tree_discrete tree_discrete c.presentation.q (symmetric_tree c.presentation.generators) (shuffled c.presentation e) [] zero)

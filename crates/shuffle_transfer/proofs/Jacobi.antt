@@ -48,29 +48,29 @@ lie = record { q = 100; generators = (record { kind = skew; size = 2 } ∷ []) �
 
 -- ---- the labels
 
-one_label_inputs : (g : ℕ) → inputs_of lie g ≡ one_binary g
+one_label_inputs : (g : ℕ) → inputs_of lie.generators g ≡ one_binary g
 one_label_inputs zero = refl
 one_label_inputs (suc g) = refl
 
-pub same_setting : setting lie (compare lie by_path) (jacobi ∷ []) ≡ bracket_setting
-same_setting = ap (λ (a : ℕ → ℕ). record { arity = a; compare = compare lie by_path; elements = jacobi ∷ []; q = 100 }) (fun_ext one_label_inputs)
+pub same_setting : setting lie (compare lie.generators by_path) (jacobi ∷ []) ≡ bracket_setting
+same_setting = ap (λ (a : ℕ → ℕ). record { arity = a; compare = compare lie.generators by_path; elements = jacobi ∷ []; q = 100 }) (fun_ext one_label_inputs)
 
 pub wide : IsWide lie
 wide zero h = omega arith
 wide (suc g) h = absurd (omega (arith, h))
 
-valid_at : (n : ℕ) (t : Tree ℕ) → has_by tree_discrete (all_trees (labels lie) (inputs_of lie) n) t ≡ true → IsShuffleTree (inputs_of lie) n t
-valid_at n t h = (listed (labels lie) (inputs_of lie) (are_labels lie wide) n).0.only t (has_by_mem tree_discrete (all_trees (labels lie) (inputs_of lie) n) t h)
+valid_at : (n : ℕ) (t : Tree ℕ) → has_by tree_discrete (all_trees (labels lie.generators) (inputs_of lie.generators) n) t ≡ true → IsShuffleTree (inputs_of lie.generators) n t
+valid_at n t h = (listed (labels lie.generators) (inputs_of lie.generators) (are_labels lie wide) n).0.only t (has_by_mem tree_discrete (all_trees (labels lie.generators) (inputs_of lie.generators) n) t h)
 
-valid_t1 : IsShuffleTree (inputs_of lie) 3 t1
+valid_t1 : IsShuffleTree (inputs_of lie.generators) 3 t1
 unfolding ℕ_discrete tree_discrete tree_discrete_by row_discrete_by same_leaf same_node same_more
 valid_t1 = valid_at 3 t1 refl
 
-valid_t2 : IsShuffleTree (inputs_of lie) 3 t2
+valid_t2 : IsShuffleTree (inputs_of lie.generators) 3 t2
 unfolding ℕ_discrete tree_discrete tree_discrete_by row_discrete_by same_leaf same_node same_more
 valid_t2 = valid_at 3 t2 refl
 
-valid_t3 : IsShuffleTree (inputs_of lie) 3 t3
+valid_t3 : IsShuffleTree (inputs_of lie.generators) 3 t3
 unfolding ℕ_discrete tree_discrete tree_discrete_by row_discrete_by same_leaf same_node same_more
 valid_t3 = valid_at 3 t3 refl
 
@@ -81,7 +81,7 @@ ordering : (v : List ℕ) → Mem v (orderings 3) → IsOrdering 3 v
 ordering v m = ((all_orderings 3).2 v).0 m
 
 labelled_t1 : IsLabelled (arity_of lie) 3 t1
-labelled_t1 = back_labelled lie 3 t1 valid_t1
+labelled_t1 = back_labelled lie.generators 3 t1 valid_t1
 
 pub sound : IsSound lie
 sound r (inl e) = subst (λ x. AllTerms x.terms (IsLabelled (arity_of lie) x.arity)) (sym e) (
@@ -122,7 +122,7 @@ the_relation = record { uses = (1, the_insertion) ∷ []; adds_up = same_if_agre
 -- ---- the certificate
 
 abbrev pub lie_setting : Setting
-lie_setting = setting lie (compare lie by_path) (jacobi ∷ [])
+lie_setting = setting lie (compare lie.generators by_path) (jacobi ∷ [])
 
 pub jacobi_monic : IsMonic lie_setting jacobi
 unfolding ℕ_discrete
@@ -172,7 +172,7 @@ relabelled_by v (inr (inr (inr (inr (inl e))))) = subst Relabelled (sym e) relab
 relabelled_by v (inr (inr (inr (inr (inr (inl e)))))) = subst Relabelled (sym e) relabelled_minus.2
 relabelled_by v (inr (inr (inr (inr (inr (inr m)))))) = absurd m
 
-pub certified : IsCertified lie (compare lie by_path) (jacobi ∷ []) 4
+pub certified : IsCertified lie (compare lie.generators by_path) (jacobi ∷ []) 4
 certified = record {
   monic = monic;
   in_ideal = in_ideal;
@@ -211,22 +211,22 @@ lie_arity_one = only_zero lie sound proper
 pub relation_in_ideal : InIdeal lie 3 jacobi_relation.terms
 relation_in_ideal = (lie_transfer jacobi_relation.terms (sound jacobi_relation (inl refl))).1 the_relation
 
-pub lie_normal : (n : ℕ) → n ≤ 4 → NormalLaw lie (compare lie by_path) n (normal_list lie (jacobi ∷ []) n)
+pub lie_normal : (n : ℕ) → n ≤ 4 → NormalLaw lie (compare lie.generators by_path) n (normal_list lie.generators (jacobi ∷ []) n)
 lie_normal n le =
-    let k = normal_trees_listed lie sound wide (omega arith) (compare lie by_path) (order_of lie by_path) (jacobi ∷ []) 4 certified n le in
-    k.1 (normal_list lie (jacobi ∷ []) n) k.0
+    let k = normal_trees_listed lie sound wide (omega arith) (compare lie.generators by_path) (order_of lie.generators by_path) (jacobi ∷ []) 4 certified n le in
+    k.1 (normal_list lie.generators (jacobi ∷ []) n) k.0
 
 -- the same from what the list is
-lie_by_list : NormalLaw lie (compare lie by_path) 3 (normal_list lie (jacobi ∷ []) 3)
-lie_by_list = let k = lie_normal 3 (omega arith) in normal_forms_by_lists lie (compare lie by_path) 3 (normal_list lie (jacobi ∷ []) 3) k.normal k.independent k.spanning
+lie_by_list : NormalLaw lie (compare lie.generators by_path) 3 (normal_list lie.generators (jacobi ∷ []) 3)
+lie_by_list = let k = lie_normal 3 (omega arith) in normal_forms_by_lists lie (compare lie.generators by_path) 3 (normal_list lie.generators (jacobi ∷ []) 3) k.normal k.independent k.spanning
 
 -- the normal trees of arity 3: l(l(1,3),2) and l(1,l(2,3))
-pub two_normal : normal_list lie (jacobi ∷ []) 3 ≡ t2 ∷ (t3 ∷ [])
+pub two_normal : normal_list lie.generators (jacobi ∷ []) 3 ≡ t2 ∷ (t3 ∷ [])
 unfolding ℕ_discrete tree_discrete tree_discrete_by row_discrete_by same_leaf same_node same_more
 two_normal = refl
 
 -- and the six of arity 4
-six_normal : normal_list lie (jacobi ∷ []) 4 ≡
+six_normal : normal_list lie.generators (jacobi ∷ []) 4 ≡
     l (l (l (leaf 1) (leaf 4)) (leaf 3)) (leaf 2) ∷ (l (l (leaf 1) (l (leaf 3) (leaf 4))) (leaf 2) ∷ (l (l (leaf 1) (leaf 3)) (l (leaf 2) (leaf 4))
     ∷ (l (l (leaf 1) (leaf 4)) (l (leaf 2) (leaf 3)) ∷ (l (leaf 1) (l (l (leaf 2) (leaf 4)) (leaf 3)) ∷ (l (leaf 1) (l (leaf 2) (l (leaf 3) (leaf 4))) ∷ [])))))
 unfolding ℕ_discrete tree_discrete tree_discrete_by row_discrete_by same_leaf same_node same_more

@@ -7,7 +7,8 @@ use Rattle.modular_sums.specs.Lists.{Mem, Distinct}
 use Rattle.modular_sums.proofs.Lists.{mem_left, mem_right, mem_either, mem_map, mem_of_map, Distinct-append}
 use Rattle.operad_ideals.specs.Parts.{Part, total, parts_of}
 use Rattle.operad_ideals.specs.Sorting.{sort_parts}
-use Rattle.operad_ideals.specs.Presentations.{Presentation, parts, arity_of, IsWide}
+use Rattle.operad_ideals.specs.Presentations.{Presentation, IsWide}
+use Rattle.operad_ideals.specs.Laws.{arity}
 use Rattle.operad_ideals.proofs.SortedLists.{tested}
 use Rattle.shuffle_insertions.specs.Labels.{AreLabels}
 use Rattle.shuffle_transfer.specs.Orderings.{IsOrdering, Ascending}
@@ -150,69 +151,69 @@ generator_below [] g h = absurd (omega (arith, h))
 generator_below (ps ∷ gens) zero h = omega arith
 generator_below (ps ∷ gens) (suc g) h = let k = generator_below gens g h in omega (arith, k)
 
--- ---- the labels of a presentation
+-- ---- the labels of generators
 
-module _ (p : Presentation) where
+module _ (generators : List (List Part)) where
   -- the word, sorted within the parts of the generator
   abbrev pub sorted_word : ℕ → List ℕ → List ℕ
-  sorted_word g w = sort_parts (λ n. n) (parts p g) w
+  sorted_word g w = sort_parts (λ n. n) (parts_of generators g) w
 
-  word_mem : (g : ℕ) (w : List ℕ) → g < length p.generators → IsOrdering (arity_of p g) w → Mem (lettered g (sorted_word g w)) (letters 0 p.generators)
-  word_mem g w b h = mem_letters 0 g p.generators (sorted_word g w) b
-      (mem_words (parts p g) (sorted_word g w) (sorted_ordering (arity_of p g) (parts p g) w h) (sorted_rises (parts p g) w (let n : length w ≡ arity_of p g = h.length_is in omega (arith, n)) (ordering_apart w h.distinct))) g (omega arith)
+  word_mem : (g : ℕ) (w : List ℕ) → g < length generators → IsOrdering (arity (parts_of generators) g) w → Mem (lettered g (sorted_word g w)) (letters 0 generators)
+  word_mem g w b h = mem_letters 0 g generators (sorted_word g w) b
+      (mem_words (parts_of generators g) (sorted_word g w) (sorted_ordering (arity (parts_of generators) g) (parts_of generators g) w h) (sorted_rises (parts_of generators g) w (let n : length w ≡ arity (parts_of generators) g = h.length_is in omega (arith, n)) (ordering_apart w h.distinct))) g (omega arith)
 
-  letter_of : (g : ℕ) (w : List ℕ) → g < length p.generators → IsOrdering (arity_of p g) w → letter p (label p g w) ≡ lettered g (sorted_word g w)
-  letter_of g w b h = at_place (lettered (length p.generators) []) (lettered g (sorted_word g w)) (letters 0 p.generators) (word_mem g w b h)
+  letter_of : (g : ℕ) (w : List ℕ) → g < length generators → IsOrdering (arity (parts_of generators) g) w → letter generators (label generators g w) ≡ lettered g (sorted_word g w)
+  letter_of g w b h = at_place (lettered (length generators) []) (lettered g (sorted_word g w)) (letters 0 generators) (word_mem g w b h)
 
-  label_lt : (g : ℕ) (w : List ℕ) → g < length p.generators → IsOrdering (arity_of p g) w → label p g w < labels p
-  label_lt g w b h = place_below (lettered g (sorted_word g w)) (letters 0 p.generators) (word_mem g w b h)
+  label_lt : (g : ℕ) (w : List ℕ) → g < length generators → IsOrdering (arity (parts_of generators) g) w → label generators g w < labels generators
+  label_lt g w b h = place_below (lettered g (sorted_word g w)) (letters 0 generators) (word_mem g w b h)
 
-  word_at : (l : ℕ) → l < labels p → IsWordOf p (gen p l) (word p l)
+  word_at : (l : ℕ) → l < labels generators → IsWordOf generators (gen generators l) (word generators l)
   word_at l h =
-      let f = letters_found 0 p.generators (letter p l) (mem_at (lettered (length p.generators) []) l (letters 0 p.generators) h) in
-      let e : f.at ≡ gen p l = omega (arith, f.gen_is) in
-      let w = words_mem (parts p (gen p l)) (word p l) (subst (λ g. Mem (word p l) (words_of (parts_of p.generators g))) e f.in_words) in
+      let f = letters_found 0 generators (letter generators l) (mem_at (lettered (length generators) []) l (letters 0 generators) h) in
+      let e : f.at ≡ gen generators l = omega (arith, f.gen_is) in
+      let w = words_mem (parts_of generators (gen generators l)) (word generators l) (subst (λ g. Mem (word generators l) (words_of (parts_of generators g))) e f.in_words) in
       record { generator = omega (arith, e, f.in_range); ordering = w.0; rises = w.1 }
 
-  label_of : (l : ℕ) → l < labels p → label p (gen p l) (word p l) ≡ l
+  label_of : (l : ℕ) → l < labels generators → label generators (gen generators l) (word generators l) ≡ l
   label_of l h =
-      ap (λ v. place_of (lettered (gen p l) v) (letters 0 p.generators)) (parts_same (parts p (gen p l)) (word p l) ((word_at l h).rises))
-      ∙ place_at (lettered (length p.generators) []) l (letters 0 p.generators) (distinct_letters 0 p.generators) h
+      ap (λ v. place_of (lettered (gen generators l) v) (letters 0 generators)) (parts_same (parts_of generators (gen generators l)) (word generators l) ((word_at l h).rises))
+      ∙ place_at (lettered (length generators) []) l (letters 0 generators) (distinct_letters 0 generators) h
 
   -- what isn't a label has no inputs
-  none_past : (l : ℕ) → labels p ≤ l → inputs_of p l ≡ 0
+  none_past : (l : ℕ) → labels generators ≤ l → inputs_of generators l ≡ 0
   none_past l h =
-      let e : letter p l ≡ lettered (length p.generators) [] = past_end (lettered (length p.generators) []) l (letters 0 p.generators) h in
-      ap (λ x. arity_of p x.gen) e ∙ ap total (no_parts p.generators)
+      let e : letter generators l ≡ lettered (length generators) [] = past_end (lettered (length generators) []) l (letters 0 generators) h in
+      ap (λ x. arity (parts_of generators) x.gen) e ∙ ap total (no_parts generators)
 
   -- what has inputs is a label
-  pub label_below : (l : ℕ) → 2 ≤ inputs_of p l → l < labels p
-  label_below l h = ⊎_elim (λ k. k) (λ k. let z : inputs_of p l ≡ 0 = none_past l k in absurd (omega (arith, z, h))) (tested l (labels p))
+  pub label_below : (l : ℕ) → 2 ≤ inputs_of generators l → l < labels generators
+  label_below l h = ⊎_elim (λ k. k) (λ k. let z : inputs_of generators l ≡ 0 = none_past l k in absurd (omega (arith, z, h))) (tested l (labels generators))
 
-  pub label_gen : (g : ℕ) (w : List ℕ) → 2 ≤ arity_of p g → IsOrdering (arity_of p g) w → gen p (label p g w) ≡ g
-  label_gen g w b h = ap (λ x. x.gen) (letter_of g w (generator_below p.generators g b) h)
+  pub label_gen : (g : ℕ) (w : List ℕ) → 2 ≤ arity (parts_of generators) g → IsOrdering (arity (parts_of generators) g) w → gen generators (label generators g w) ≡ g
+  label_gen g w b h = ap (λ x. x.gen) (letter_of g w (generator_below generators g b) h)
 
-  pub label_word : (g : ℕ) (w : List ℕ) → 2 ≤ arity_of p g → IsOrdering (arity_of p g) w → word p (label p g w) ≡ sorted_word g w
-  label_word g w b h = ap (λ x. x.word) (letter_of g w (generator_below p.generators g b) h)
+  pub label_word : (g : ℕ) (w : List ℕ) → 2 ≤ arity (parts_of generators) g → IsOrdering (arity (parts_of generators) g) w → word generators (label generators g w) ≡ sorted_word g w
+  label_word g w b h = ap (λ x. x.word) (letter_of g w (generator_below generators g b) h)
 
-  pub word_of_label : (l : ℕ) → 2 ≤ inputs_of p l → IsWordOf p (gen p l) (word p l)
+  pub word_of_label : (l : ℕ) → 2 ≤ inputs_of generators l → IsWordOf generators (gen generators l) (word generators l)
   word_of_label l h = word_at l (label_below l h)
 
-  pub label_is : (l : ℕ) → 2 ≤ inputs_of p l → label p (gen p l) (word p l) ≡ l
+  pub label_is : (l : ℕ) → 2 ≤ inputs_of generators l → label generators (gen generators l) (word generators l) ≡ l
   label_is l h = label_of l (label_below l h)
 
-  -- the labels of a presentation of wide generators
-  pub are_labels : IsWide p → AreLabels (labels p) (inputs_of p)
-  are_labels wide = record { wide = λ l h. wide (gen p l) ((word_at l h).generator); none = none_past }
+-- the labels of a presentation of wide generators
+pub are_labels : (p : Presentation) → IsWide p → AreLabels (labels p.generators) (inputs_of p.generators)
+are_labels p wide = record { wide = λ l h. wide (gen p.generators l) ((word_at p.generators l h).generator); none = none_past p.generators }
 
 pub labels_are_words : LabelsAreWords
-labels_are_words p = record {
+labels_are_words generators = record {
   of_word = λ g w h.
-      let e = letter_of p g w h.generator h.ordering in (
-        label_lt p g w h.generator h.ordering,
+      let e = letter_of generators g w h.generator h.ordering in (
+        label_lt generators g w h.generator h.ordering,
         ap (λ x. x.gen) e,
-        ap (λ x. x.word) e ∙ parts_same (parts p g) w h.rises,
+        ap (λ x. x.word) e ∙ parts_same (parts_of generators g) w h.rises,
       );
-  of_label = λ l h. (word_at p l h, label_of p l h);
-  in_order = λ l m lt h. at_in_order (lettered (length p.generators) []) l m (letters 0 p.generators) (letters_in_order 0 p.generators) lt h;
+  of_label = λ l h. (word_at generators l h, label_of generators l h);
+  in_order = λ l m lt h. at_in_order (lettered (length generators) []) l m (letters 0 generators) (letters_in_order 0 generators) lt h;
 }

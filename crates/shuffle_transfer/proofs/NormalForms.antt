@@ -125,7 +125,7 @@ module _ (c : Given) (n : ℕ) (le : n ≤ c.most) (prime : 0 < c.presentation.q
   abbrev cmp : Tree ℕ → Tree ℕ → Ordering
   cmp = c.compare
 
-  pub listing : HasNormalTrees c.presentation c.compare n (normal_list c.presentation c.elements n)
+  pub listing : HasNormalTrees c.presentation c.compare n (normal_list c.presentation.generators c.elements n)
   listing = record {
     distinct = listed_once c n le;
     normal = λ t. (λ m. of_normal c n le t (listed_normal c n le t m), λ h. normal_listed c n le t (to_normal c n le t prime h));

@@ -54,25 +54,25 @@ module _ (p : Presentation) (n : ℕ) where
   arity = arity_of p
 
   abbrev lab : ℕ → List ℕ → ℕ
-  lab = label p
+  lab = label p.generators
 
   abbrev turn : ℕ → List ℕ → ℕ
-  turn = twist (parts p) (label p)
+  turn = twist (parts p) (label p.generators)
 
   abbrev Shuffles : Tree ℕ → Type 0
-  Shuffles = IsShuffleTree (inputs_of p) n
+  Shuffles = IsShuffleTree (inputs_of p.generators) n
 
   abbrev S : Tree ℕ → Tree ℕ
-  S = symmetric_tree p
+  S = symmetric_tree p.generators
 
   abbrev F : Tree ℕ → Tree ℕ
-  F = shuffle_form p
+  F = shuffle_form p.generators
 
   abbrev Fits' : Tree ℕ → Type 0
-  Fits' = Fits (inputs_of p)
+  Fits' = Fits (inputs_of p.generators)
 
   abbrev Returned : Tree ℕ → Type 0
-  Returned s = Back (arity_of p) (label p) (twist (parts p) (label p)) (gen p) (word p) (labelled p) s
+  Returned s = Back (arity_of p) (label p.generators) (twist (parts p) (label p.generators)) (gen p.generators) (word p.generators) (labelled p.generators) s
 
   abbrev InSpan : List (ℕ × Tree ℕ) → Type 0
   InSpan e = Member tree_discrete (hole_element p n) p.q e
@@ -107,10 +107,10 @@ module _ (p : Presentation) (n : ℕ) where
       rises = rising-fill c z (leaf m) refl tt h.shuffle.rising
 
       fits_a : Fits' a
-      fits_a = fits-fill (inputs_of p) c z (leaf m) h.fits tt
+      fits_a = fits-fill (inputs_of p.generators) c z (leaf m) h.fits tt
 
       b : Returned a
-      b = back_of p a rises fits_a
+      b = back_of p.generators a rises fits_a
 
       once_a : occurs m (fill c (leaf m)) ≡ 1
       once_a =
@@ -181,11 +181,11 @@ module _ (p : Presentation) (n : ℕ) where
     part_fits j k = subst (λ i. Fits' (f.parts i)) k.2
         (at_leaf x0 (λ i. Fits' (f.parts (w i))) k.0
         (AllLeaves_of_graft x0 (λ i. leaf (w i)) (λ i. Fits' (f.parts i))
-        (of_form (named x0) (λ i. Fits' (f.parts i)) (fits_parts (inputs_of p) (F (named x0)) f.parts (fits_of_fill (inputs_of p) f.context (graft (F (named x0)) f.parts) laid.valid.fits))))
+        (of_form (named x0) (λ i. Fits' (f.parts i)) (fits_parts (inputs_of p.generators) (F (named x0)) f.parts (fits_of_fill (inputs_of p.generators) f.context (graft (F (named x0)) f.parts) laid.valid.fits))))
         (let e : occurs k.0 x0 ≡ 1 = laid.labelled.each k.0 k.1.0 k.1.1 in omega (arith, e)))
 
     part_back : (j : ℕ) → Named j → Returned (f.parts j)
-    part_back j k = let a = among j k in back_of p (f.parts j) (laid.rises.each j a.0 a.1) (part_fits j k)
+    part_back j k = let a = among j k in back_of p.generators (f.parts j) (laid.rises.each j a.0 a.1) (part_fits j k)
 
     abbrev lifts : ℕ → Tree ℕ
     lifts j = S (f.parts j)
@@ -272,7 +272,7 @@ module _ (p : Presentation) (n : ℕ) where
   near_form t h = Member-same tree_discrete (hole_element p n) q {e = (1, t) ∷ ((q * q ^ turns_of p t, S (F t)) ∷ [])} {f = (1, t) ∷ ((residue_of q (times minus (spelled_sign (parts p) t)), S (F t)) ∷ [])}
       (two_alike tree_discrete q 1 (q * q ^ turns_of p t) 1 (residue_of q (times minus (spelled_sign (parts p) t))) t (S (F t)) refl
       (alike_mul q q q (q ^ turns_of p t) (residue_of q (spelled_sign (parts p) t)) refl (sign_alike p n t h) ∙ residue-times q minus (spelled_sign (parts p) t)))
-      (subst (λ u. InSpan ((1, t) ∷ ((residue_of q (times minus (spelled_sign (parts p) t)), u) ∷ []))) (sym (spelled_is p t h.fits (labelled_once h))) (near_spelled p n t h))
+      (subst (λ u. InSpan ((1, t) ∷ ((residue_of q (times minus (spelled_sign (parts p) t)), u) ∷ []))) (sym (spelled_is p.generators t h.fits (labelled_once h))) (near_spelled p n t h))
 
   -- an element minus the trees of its shuffle form
   kernel : (e : List (ℕ × Tree ℕ)) → AllTerms e (IsLabelled arity n) → InSpan (e ++ scale q (back_sum e))

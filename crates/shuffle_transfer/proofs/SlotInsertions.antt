@@ -18,7 +18,7 @@ pub record SlotInsertion (p : Presentation) (n : ℕ) : Type 0 where
   pub permutes : IsOrdering relation.arity permutation
   pub slot : Slot
   pub rises : PartsRise relation.arity slot.parts
-  pub valid : AllTerms (moved (fill_slot slot) (turned p (relabelled permutation relation.terms))) (IsShuffleTree (inputs_of p) n)
+  pub valid : AllTerms (moved (fill_slot slot) (turned p (relabelled permutation relation.terms))) (IsShuffleTree (inputs_of p.generators) n)
 
 abbrev pub slot_inserted : (p : Presentation) (n : ℕ) → SlotInsertion p n → List (ℕ × Tree ℕ)
 slot_inserted p n i = moved (fill_slot i.slot) (turned p (relabelled i.permutation i.relation.terms))

@@ -98,20 +98,20 @@ module _ (p : Presentation) (n : ℕ) where
   arity = arity_of p
 
   abbrev Shuffles : Tree ℕ → Type 0
-  Shuffles = IsShuffleTree (inputs_of p) n
+  Shuffles = IsShuffleTree (inputs_of p.generators) n
 
   -- the trees are those of the other form
   valid_turned : (f g : Tree ℕ → Tree ℕ) (P : Tree ℕ → Type 0) (e : List (ℕ × Tree ℕ)) → AllTerms (turned p e) P → ((x : Tree ℕ) → P x → f x ≡ g x) → AllTerms (moved f (shuffled p e)) Shuffles → AllTerms (moved g (turned p e)) Shuffles
   valid_turned f g P [] k h v = tt
-  valid_turned f g P (x ∷ e) k h v = (subst Shuffles (h (shuffle_form p x.1) k.0) v.0, valid_turned f g P e k.1 h v.1)
+  valid_turned f g P (x ∷ e) k h v = (subst Shuffles (h (shuffle_form p.generators x.1) k.0) v.0, valid_turned f g P e k.1 h v.1)
 
   valid_shuffled : (f g : Tree ℕ → Tree ℕ) (P : Tree ℕ → Type 0) (e : List (ℕ × Tree ℕ)) → AllTerms (turned p e) P → ((x : Tree ℕ) → P x → f x ≡ g x) → AllTerms (moved f (turned p e)) Shuffles → AllTerms (moved g (shuffled p e)) Shuffles
   valid_shuffled f g P [] k h v = tt
-  valid_shuffled f g P (x ∷ e) k h v = (subst Shuffles (h (shuffle_form p x.1) k.0) v.0, valid_shuffled f g P e k.1 h v.1)
+  valid_shuffled f g P (x ∷ e) k h v = (subst Shuffles (h (shuffle_form p.generators x.1) k.0) v.0, valid_shuffled f g P e k.1 h v.1)
 
   forms_shuffle : (m : ℕ) (e : List (ℕ × Tree ℕ)) → AllTerms e (IsLabelled arity m) → AllTerms (turned p e) (IsShuffle m)
   forms_shuffle m [] h = tt
-  forms_shuffle m (x ∷ e) h = ((forth p m x.1 h.0).shuffle, forms_shuffle m e h.1)
+  forms_shuffle m (x ∷ e) h = ((forth p.generators m x.1 h.0).shuffle, forms_shuffle m e h.1)
 
   abbrev Any : Tree ℕ → Type 0
   Any x = Unit {0}
@@ -188,7 +188,7 @@ module _ (p : Presentation) (n : ℕ) where
         go (x ∷ l) e =
             let h : AllTerms (turned p (relabelled i.permutation (x ∷ l))) (IsShuffle i.relation.arity) = subst (λ t. AllTerms (turned p (relabelled i.permutation t)) (IsShuffle i.relation.arity)) e (forms_shuffle i.relation.arity r labels) in
             let v : AllTerms (moved (fill_slot i.slot) (turned p (relabelled i.permutation (x ∷ l)))) Shuffles = subst (λ t. AllTerms (moved (fill_slot i.slot) (turned p (relabelled i.permutation t))) Shuffles) e i.valid in
-            made (shuffle_form p (graft x.1 (λ j. leaf (entry i.permutation j)))) h.0 (v.0.shuffle)
+            made (shuffle_form p.generators (graft x.1 (λ j. leaf (entry i.permutation j)))) h.0 (v.0.shuffle)
 
 pub transfer_law : Transfer
 transfer_law p n e sound h = (

@@ -22,16 +22,16 @@ use Rattle.shuffle_transfer.proofs.Signs.{twist, residue-count, sign-turns}
 
 -- the turns of a tree over a presentation
 abbrev pub turns_of : Presentation → Tree ℕ → ℕ
-turns_of p t = turns (label p) (twist (parts p) (label p)) t
+turns_of p t = turns (label p.generators) (twist (parts p) (label p.generators)) t
 
 module _ (p : Presentation) where
   -- the shuffle form of an element, with powers of minus 1
   abbrev pub turned : List (ℕ × Tree ℕ) → List (ℕ × Tree ℕ)
   turned [] = []
-  turned (x ∷ e) = (x.0 * p.q ^ turns_of p x.1, shuffle_form p x.1) ∷ turned e
+  turned (x ∷ e) = (x.0 * p.q ^ turns_of p x.1, shuffle_form p.generators x.1) ∷ turned e
 
   pub sign_alike : (n : ℕ) (t : Tree ℕ) → IsLabelled (arity_of p) n t → Alike p.q (p.q ^ turns_of p t) (residue_of p.q (spelled_sign (parts p) t))
-  sign_alike n t h = subst (λ s. Alike p.q (p.q ^ turns_of p t) (residue_of p.q s)) (sign-turns (parts p) (label p) t h.fits (labelled_once h)) (residue-count p.q (turns_of p t))
+  sign_alike n t h = subst (λ s. Alike p.q (p.q ^ turns_of p t) (residue_of p.q s)) (sign-turns (parts p) (label p.generators) t h.fits (labelled_once h)) (residue-count p.q (turns_of p t))
 
   alike_hit : {C : Type 0} (z : Dec C) (u v : ℕ) → Alike p.q u v → Alike p.q (hit z u) (hit z v)
   alike_hit (yes _) u v e = e
@@ -42,31 +42,31 @@ module _ (p : Presentation) where
   unfolding coef
   shuffled-turned n [] h t = refl
   shuffled-turned n (x ∷ e) h t =
-      alike_add p.q (hit (tree_discrete (shuffle_form p x.1) t) (x.0 * residue_of p.q (spelled_sign (parts p) x.1))) (hit (tree_discrete (shuffle_form p x.1) t) (x.0 * p.q ^ turns_of p x.1))
+      alike_add p.q (hit (tree_discrete (shuffle_form p.generators x.1) t) (x.0 * residue_of p.q (spelled_sign (parts p) x.1))) (hit (tree_discrete (shuffle_form p.generators x.1) t) (x.0 * p.q ^ turns_of p x.1))
       (coef tree_discrete (shuffled p e) t) (coef tree_discrete (turned e) t)
-      (alike_hit (tree_discrete (shuffle_form p x.1) t) (x.0 * residue_of p.q (spelled_sign (parts p) x.1)) (x.0 * p.q ^ turns_of p x.1)
+      (alike_hit (tree_discrete (shuffle_form p.generators x.1) t) (x.0 * residue_of p.q (spelled_sign (parts p) x.1)) (x.0 * p.q ^ turns_of p x.1)
       (alike_mul p.q x.0 x.0 (residue_of p.q (spelled_sign (parts p) x.1)) (p.q ^ turns_of p x.1) refl (sym (sign_alike n x.1 h.0))))
       (shuffled-turned n e h.1 t)
 
   pub turned-append : (e f : List (ℕ × Tree ℕ)) → turned (e ++ f) ≡ turned e ++ turned f
   turned-append [] f = refl
-  turned-append (x ∷ e) f = ap (λ l. (x.0 * p.q ^ turns_of p x.1, shuffle_form p x.1) ∷ l) (turned-append e f)
+  turned-append (x ∷ e) f = ap (λ l. (x.0 * p.q ^ turns_of p x.1, shuffle_form p.generators x.1) ∷ l) (turned-append e f)
 
   pub turned-scale : (c : ℕ) (e : List (ℕ × Tree ℕ)) → turned (scale c e) ≡ scale c (turned e)
   unfolding scale
   turned-scale c [] = refl
   turned-scale c (x ∷ e) =
       let a : c * x.0 * p.q ^ turns_of p x.1 ≡ c * (x.0 * p.q ^ turns_of p x.1) = omega arith in
-      ap₂ (λ k l. (k, shuffle_form p x.1) ∷ l) a (turned-scale c e)
+      ap₂ (λ k l. (k, shuffle_form p.generators x.1) ∷ l) a (turned-scale c e)
 
-  coef-turned : (e : List (ℕ × Tree ℕ)) (t : Tree ℕ) → coef tree_discrete (turned e) t ≡ sum_over e (λ x. hit (tree_discrete (shuffle_form p x) t) (p.q ^ turns_of p x))
+  coef-turned : (e : List (ℕ × Tree ℕ)) (t : Tree ℕ) → coef tree_discrete (turned e) t ≡ sum_over e (λ x. hit (tree_discrete (shuffle_form p.generators x) t) (p.q ^ turns_of p x))
   unfolding coef
   coef-turned [] t = refl
-  coef-turned (x ∷ e) t = ap₂ (λ a b. a + b) (hit-mul (tree_discrete (shuffle_form p x.1) t) x.0 (p.q ^ turns_of p x.1)) (coef-turned e t)
+  coef-turned (x ∷ e) t = ap₂ (λ a b. a + b) (hit-mul (tree_discrete (shuffle_form p.generators x.1) t) x.0 (p.q ^ turns_of p x.1)) (coef-turned e t)
 
   -- the shuffle form depends on the coefficients alone
   pub Same-turned : (e f : List (ℕ × Tree ℕ)) → Same tree_discrete p.q e f → Same tree_discrete p.q (turned e) (turned f)
-  Same-turned e f h t = rw (coef-turned e t, coef-turned f t) (same_sum (Tree ℕ) tree_discrete p.q e f (λ x. hit (tree_discrete (shuffle_form p x) t) (p.q ^ turns_of p x)) h)
+  Same-turned e f h t = rw (coef-turned e t, coef-turned f t) (same_sum (Tree ℕ) tree_discrete p.q e f (λ x. hit (tree_discrete (shuffle_form p.generators x) t) (p.q ^ turns_of p x)) h)
 
   -- where the shuffle forms of instances are sums of others, so is that of a sum of instances
   pub member_turned : {I J : Type 0} (value : I → List (ℕ × Tree ℕ)) (other : J → List (ℕ × Tree ℕ)) → ((i : I) → Member tree_discrete other p.q (turned (value i)))

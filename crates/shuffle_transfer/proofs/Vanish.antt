@@ -96,51 +96,51 @@ module _ (p : Presentation) (n : ℕ) where
       → Same tree_discrete p.q (turned p ((1, fill c (node g r)) ∷ ((residue_of p.q (times minus s), fill c (node g (exchanged_at i r))) ∷ []))) []
   vanish c g i s r h l =
       two_gone tree_discrete p.q (1 * p.q ^ turns_of p (fill c (node g r))) (residue_of p.q (times minus s) * p.q ^ turns_of p (fill c (node g (exchanged_at i r))))
-      (shuffle_form p (fill c (node g r))) (shuffle_form p (fill c (node g (exchanged_at i r))))
+      (shuffle_form p.generators (fill c (node g r))) (shuffle_form p.generators (fill c (node g (exchanged_at i r))))
       (k.form_is (node g r) refl ∙ ap (fill k.context) (sym one_form) ∙ sym (k.form_is (node g (exchanged_at i r)) low))
-      (rw (turns_first, turns_second) (signs k.count (turns_row (label p) (twist (parts p) (label p)) r) s (parts_sign (parts p g) w) (parts_sign (parts p g) (exchange i w)) sign_is))
+      (rw (turns_first, turns_second) (signs k.count (turns_row (label p.generators) (twist (parts p) (label p.generators)) r) s (parts_sign (parts p g) w) (parts_sign (parts p g) (exchange i w)) sign_is))
     where
       xs : List (Tree ℕ)
-      xs = form_row (label p) r
+      xs = form_row (label p.generators) r
 
       w : List ℕ
-      w = ranks (map least (form_row (label p) r))
+      w = ranks (map least (form_row (label p.generators) r))
 
       f : Fits (arity_of p) (node g r)
       f = fits_of_fill (arity_of p) c (node g r) l.fits
 
-      o : IsOrdering (arity_of p g) (ranks (map least (form_row (label p) r)))
-      o = forms_ordering (label p) (arity_of p) r (arity_of p g) (fits_of_fill (arity_of p) c (node g r) l.fits).1 (fits_of_fill (arity_of p) c (node g r) l.fits).2 (once_inside (arity_of p) n c (node g r) l)
+      o : IsOrdering (arity_of p g) (ranks (map least (form_row (label p.generators) r)))
+      o = forms_ordering (label p.generators) (arity_of p) r (arity_of p g) (fits_of_fill (arity_of p) c (node g r) l.fits).1 (fits_of_fill (arity_of p) c (node g r) l.fits).2 (once_inside (arity_of p) n c (node g r) l)
 
-      words : ranks (map least (form_row (label p) (exchanged_at i r))) ≡ exchange i (ranks (map least (form_row (label p) r)))
-      words = ap (λ ts. ranks (map least ts)) (form_row-exchanged (label p) i r) ∙ ap ranks (exchange-map least i (form_row (label p) r)) ∙ ranks-exchange i (map least (form_row (label p) r))
+      words : ranks (map least (form_row (label p.generators) (exchanged_at i r))) ≡ exchange i (ranks (map least (form_row (label p.generators) r)))
+      words = ap (λ ts. ranks (map least ts)) (form_row-exchanged (label p.generators) i r) ∙ ap ranks (exchange-map least i (form_row (label p.generators) r)) ∙ ranks-exchange i (map least (form_row (label p.generators) r))
 
-      sorted : sort_by least (form_row (label p) (exchanged_at i r)) ≡ sort_by least (form_row (label p) r)
-      sorted = ap (sort_by least) (form_row-exchanged (label p) i r)
-          ∙ sort_by-exchange least i (form_row (label p) r) (forms_apart (label p) (arity_of p) r (fits_of_fill (arity_of p) c (node g r) l.fits).2 (once_inside (arity_of p) n c (node g r) l))
+      sorted : sort_by least (form_row (label p.generators) (exchanged_at i r)) ≡ sort_by least (form_row (label p.generators) r)
+      sorted = ap (sort_by least) (form_row-exchanged (label p.generators) i r)
+          ∙ sort_by-exchange least i (form_row (label p.generators) r) (forms_apart (label p.generators) (arity_of p) r (fits_of_fill (arity_of p) c (node g r) l.fits).2 (once_inside (arity_of p) n c (node g r) l))
 
-      one_label : label p g (exchange i (ranks (map least (form_row (label p) r)))) ≡ label p g (ranks (map least (form_row (label p) r)))
-      one_label = ap (λ v. place_of (record { gen = g; word = v }) (letters 0 p.generators)) (sort_parts-exchange (λ m. m) (parts p g) i s (ranks (map least (form_row (label p) r))) h (ordering_apart (ranks (map least (form_row (label p) r))) o.distinct))
+      one_label : label p.generators g (exchange i (ranks (map least (form_row (label p.generators) r)))) ≡ label p.generators g (ranks (map least (form_row (label p.generators) r)))
+      one_label = ap (λ v. place_of (record { gen = g; word = v }) (letters 0 p.generators)) (sort_parts-exchange (λ m. m) (parts p g) i s (ranks (map least (form_row (label p.generators) r))) h (ordering_apart (ranks (map least (form_row (label p.generators) r))) o.distinct))
 
-      one_form : shuffle_form p (node g (exchanged_at i r)) ≡ shuffle_form p (node g r)
-      one_form = ap₂ (λ v ts. node (label p g v) (row ts)) words sorted ∙ ap (λ m. node m (row (sort_by least (form_row (label p) r)))) one_label
+      one_form : shuffle_form p.generators (node g (exchanged_at i r)) ≡ shuffle_form p.generators (node g r)
+      one_form = ap₂ (λ v ts. node (label p.generators g v) (row ts)) words sorted ∙ ap (λ m. node m (row (sort_by least (form_row (label p.generators) r)))) one_label
 
-      low : least (shuffle_form p (node g (exchanged_at i r))) ≡ least (shuffle_form p (node g r))
+      low : least (shuffle_form p.generators (node g (exchanged_at i r))) ≡ least (shuffle_form p.generators (node g r))
       low = ap least one_form
 
-      k : FormCtx (label p) (twist (parts p) (label p)) (least (shuffle_form p (node g r))) c
-      k = form_ctx (label p) (twist (parts p) (label p)) (least (shuffle_form p (node g r))) c
+      k : FormCtx (label p.generators) (twist (parts p) (label p.generators)) (least (shuffle_form p.generators (node g r))) c
+      k = form_ctx (label p.generators) (twist (parts p) (label p.generators)) (least (shuffle_form p.generators (node g r))) c
 
-      sign_is : parts_sign (parts p g) (ranks (map least (form_row (label p) r))) ≡ times s (parts_sign (parts p g) (exchange i (ranks (map least (form_row (label p) r)))))
-      sign_is = parts_sign-exchange (parts p g) i s (ranks (map least (form_row (label p) r))) h (ordering_apart (ranks (map least (form_row (label p) r))) o.distinct)
-          (let m : length (ranks (map least (form_row (label p) r))) ≡ arity_of p g = o.length_is in omega (arith, m, part_below (parts p g) i s h))
+      sign_is : parts_sign (parts p g) (ranks (map least (form_row (label p.generators) r))) ≡ times s (parts_sign (parts p g) (exchange i (ranks (map least (form_row (label p.generators) r)))))
+      sign_is = parts_sign-exchange (parts p g) i s (ranks (map least (form_row (label p.generators) r))) h (ordering_apart (ranks (map least (form_row (label p.generators) r))) o.distinct)
+          (let m : length (ranks (map least (form_row (label p.generators) r))) ≡ arity_of p g = o.length_is in omega (arith, m, part_below (parts p g) i s h))
 
-      turns_first : turns_of p (fill c (node g r)) ≡ k.count + (turn_of (parts_sign (parts p g) w) + turns_row (label p) (twist (parts p) (label p)) r)
+      turns_first : turns_of p (fill c (node g r)) ≡ k.count + (turn_of (parts_sign (parts p g) w) + turns_row (label p.generators) (twist (parts p) (label p.generators)) r)
       turns_first = k.turns_is (node g r) refl
 
-      turns_second : turns_of p (fill c (node g (exchanged_at i r))) ≡ k.count + (turn_of (parts_sign (parts p g) (exchange i w)) + turns_row (label p) (twist (parts p) (label p)) r)
+      turns_second : turns_of p (fill c (node g (exchanged_at i r))) ≡ k.count + (turn_of (parts_sign (parts p g) (exchange i w)) + turns_row (label p.generators) (twist (parts p) (label p.generators)) r)
       turns_second = k.turns_is (node g (exchanged_at i r)) low
-          ∙ ap₂ (λ x y. k.count + (x + y)) (ap (λ v. turn_of (parts_sign (parts p g) v)) words) (turns_row-exchanged (label p) (twist (parts p) (label p)) i r)
+          ∙ ap₂ (λ x y. k.count + (x + y)) (ap (λ v. turn_of (parts_sign (parts p g) v)) words) (turns_row-exchanged (label p.generators) (twist (parts p) (label p.generators)) i r)
 
   -- an instance of a symmetry rule
   pub symmetry_gone : (g i : ℕ) (s : Sign) → InOnePart (parts p g) i s → (c : Ctx ℕ) (u : ℕ → Tree ℕ) → IsLabelled (arity_of p) n (fill c (node g (graft_row (numbered 0 (arity_of p g)) u)))

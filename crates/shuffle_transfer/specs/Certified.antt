@@ -14,7 +14,7 @@ use Rattle.shuffle_transfer.specs.Transfer.{relabelled, shuffled, IsSumOfInserti
 
 -- elements over the labels of a presentation, with a comparison of trees
 abbrev pub setting : Presentation → (Tree ℕ → Tree ℕ → Ordering) → List Element → Setting
-setting p compare elements = record { arity = inputs_of p; compare = compare; elements = elements; q = p.q }
+setting p compare elements = record { arity = inputs_of p.generators; compare = compare; elements = elements; q = p.q }
 
 -- The elements are certified through arity N: they are monic with different leading trees and lie in the ideal of the shuffle
 -- forms; each relation of arity at most N, relabelled by each permutation, is a sum of insertions of them; and for any two of

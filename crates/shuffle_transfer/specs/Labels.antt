@@ -3,9 +3,9 @@ use Rattle.std.specs.Prelude.{ℕ, ◌≡◌, List, [], ◌∷◌, ◌++◌, map
 use Rattle.std.proofs.Common.{zero, suc, refl, ap, Bool, true, false, cond}
 use mathlib.Core.Path.{ap₂}
 use native.Mathlib.Decide.{ℕ_discrete}
-use Rattle.operad_ideals.specs.Parts.{Kind, symmetric, skew, free, Part, total}
+use Rattle.operad_ideals.specs.Parts.{Kind, symmetric, skew, free, Part, total, parts_of}
 use Rattle.operad_ideals.specs.Sorting.{sort_parts}
-use Rattle.operad_ideals.specs.Presentations.{Presentation, parts, arity_of}
+use Rattle.operad_ideals.specs.Laws.{arity}
 use Rattle.labelled_trees.specs.Trees.{Tree}
 use Rattle.shuffle_transfer.specs.Orderings.{orderings}
 use Rattle.shuffle_transfer.specs.ShuffleForms.{form, to_symmetric}
@@ -88,18 +88,18 @@ letter_at d i [] = d
 letter_at d zero (x ∷ l) = x
 letter_at d (suc i) (x ∷ l) = letter_at d i l
 
-module _ (p : Presentation) where
-  -- Labels are the places of letters, counted from 0; there are so many.
+module _ (generators : List (List Part)) where
+  -- Labels are the places of the letters of a list of generators, counted from 0; there are so many.
   abbrev pub labels : ℕ
-  labels = length (letters 0 p.generators)
+  labels = length (letters 0 generators)
 
   -- the label of generator g with a word: that of its sorted spelling, where the word doesn't rise in each part
   abbrev pub label : ℕ → List ℕ → ℕ
-  label g w = place_of (record { gen = g; word = sort_parts (λ n. n) (parts p g) w }) (letters 0 p.generators)
+  label g w = place_of (record { gen = g; word = sort_parts (λ n. n) (parts_of generators g) w }) (letters 0 generators)
 
   -- the letter of a label; no generator has the number that stands where there is no such label
   abbrev pub letter : ℕ → Letter
-  letter l = letter_at (record { gen = length p.generators; word = [] }) l (letters 0 p.generators)
+  letter l = letter_at (record { gen = length generators; word = [] }) l (letters 0 generators)
 
   -- the generator and the word of a label
   abbrev pub gen : ℕ → ℕ
@@ -110,9 +110,9 @@ module _ (p : Presentation) where
 
   -- how many inputs a label has: as many as its generator
   abbrev pub inputs_of : ℕ → ℕ
-  inputs_of l = arity_of p (gen l)
+  inputs_of l = arity (parts_of generators) (gen l)
 
-  -- The shuffle form of a tree over the presentation, and the tree of a shuffle form.
+  -- The shuffle form of a tree over the generators, and the tree of a shuffle form.
   abbrev pub shuffle_form : Tree ℕ → Tree ℕ
   shuffle_form = form label
 

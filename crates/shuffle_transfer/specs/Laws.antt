@@ -13,9 +13,10 @@ use Rattle.labelled_trees.specs.Labelled.{Fits, IsLabelled}
 use Rattle.labelled_trees.specs.Insertions.{put, item}
 use Rattle.shuffle_insertions.specs.ShuffleTrees.{IsShuffleTree}
 use Rattle.shuffle_insertions.specs.Frames.{Frame, insert}
-use Rattle.operad_ideals.specs.Parts.{plus}
+use Rattle.operad_ideals.specs.Parts.{Part, parts_of, plus}
 use Rattle.operad_ideals.specs.Sorting.{spelled, spelled_sign}
-use Rattle.operad_ideals.specs.Presentations.{Presentation, parts, arity_of, without_relations}
+use Rattle.operad_ideals.specs.Laws.{arity}
+use Rattle.operad_ideals.specs.Presentations.{Presentation, arity_of, without_relations}
 use Rattle.operad_ideals.specs.Ideals.{InIdeal}
 use Rattle.shuffle_transfer.specs.Orderings.{IsOrdering, orderings, Ascending}
 use Rattle.shuffle_transfer.specs.Labels.{parts_rise, labels, label, gen, word, inputs_of, shuffle_form, symmetric_tree}
@@ -26,36 +27,36 @@ abbrev pub AllOrderings : Type 0
 AllOrderings = (m : ℕ) → Ascending (orderings m) × Distinct (orderings m) × ((v : List ℕ) → Mem v (orderings m) ↔ IsOrdering m v)
 
 -- the word w is one of generator g
-pub record IsWordOf (p : Presentation) (g : ℕ) (w : List ℕ) : Type 0 where
-  pub generator : g < length p.generators
-  pub ordering : IsOrdering (arity_of p g) w
-  pub rises : parts_rise (parts p g) w ≡ true
+pub record IsWordOf (generators : List (List Part)) (g : ℕ) (w : List ℕ) : Type 0 where
+  pub generator : g < length generators
+  pub ordering : IsOrdering (arity (parts_of generators) g) w
+  pub rises : parts_rise (parts_of generators g) w ≡ true
 
 -- Labels are numbered from 0 and stand one to one for the generators with their words: the generators in their order, and of
 -- each its words in lexicographic order.
-pub record LabelLaw (p : Presentation) : Type 0 where
-  pub of_word : (g : ℕ) (w : List ℕ) → IsWordOf p g w → (label p g w < labels p) × (gen p (label p g w) ≡ g) × (word p (label p g w) ≡ w)
-  pub of_label : (l : ℕ) → l < labels p → IsWordOf p (gen p l) (word p l) × (label p (gen p l) (word p l) ≡ l)
-  pub in_order : (l m : ℕ) → l < m → m < labels p → (gen p l < gen p m) ⊎ ((gen p l ≡ gen p m) × (slice_cmp nat_cmp (word p l) (word p m) ≡ Less))
+pub record LabelLaw (generators : List (List Part)) : Type 0 where
+  pub of_word : (g : ℕ) (w : List ℕ) → IsWordOf generators g w → (label generators g w < labels generators) × (gen generators (label generators g w) ≡ g) × (word generators (label generators g w) ≡ w)
+  pub of_label : (l : ℕ) → l < labels generators → IsWordOf generators (gen generators l) (word generators l) × (label generators (gen generators l) (word generators l) ≡ l)
+  pub in_order : (l m : ℕ) → l < m → m < labels generators → (gen generators l < gen generators m) ⊎ ((gen generators l ≡ gen generators m) × (slice_cmp nat_cmp (word generators l) (word generators m) ≡ Less))
 
 abbrev pub LabelsAreWords : Type 0
-LabelsAreWords = (p : Presentation) → LabelLaw p
+LabelsAreWords = (generators : List (List Part)) → LabelLaw generators
 
 -- The shuffle form of a labelled tree is a shuffle tree over the labels.
 abbrev pub Forth : Type 0
-Forth = (p : Presentation) (n : ℕ) (t : Tree ℕ) → IsLabelled (arity_of p) n t → IsShuffleTree (inputs_of p) n (shuffle_form p t)
+Forth = (generators : List (List Part)) (n : ℕ) (t : Tree ℕ) → IsLabelled (arity (parts_of generators)) n t → IsShuffleTree (inputs_of generators) n (shuffle_form generators t)
 
 -- Each shuffle tree over the labels is the shuffle form of a labelled tree with the sign plus.
 abbrev pub Back : Type 0
-Back = (p : Presentation) (n : ℕ) (s : Tree ℕ) → IsShuffleTree (inputs_of p) n s
-    → IsLabelled (arity_of p) n (symmetric_tree p s) × (shuffle_form p (symmetric_tree p s) ≡ s) × (spelled_sign (parts p) (symmetric_tree p s) ≡ plus)
+Back = (generators : List (List Part)) (n : ℕ) (s : Tree ℕ) → IsShuffleTree (inputs_of generators) n s
+    → IsLabelled (arity (parts_of generators)) n (symmetric_tree generators s) × (shuffle_form generators (symmetric_tree generators s) ≡ s) × (spelled_sign (parts_of generators) (symmetric_tree generators s) ≡ plus)
 
 -- That tree is the sorted spelling of each tree with this shuffle form, so two labelled trees have one shuffle form exactly
 -- where they have one sorted spelling.
 abbrev pub Spelling : Type 0
-Spelling = (p : Presentation) (n : ℕ) (t : Tree ℕ) → IsLabelled (arity_of p) n t
-    → (symmetric_tree p (shuffle_form p t) ≡ spelled (parts p) t) × (shuffle_form p (spelled (parts p) t) ≡ shuffle_form p t)
-    × ((u : Tree ℕ) → IsLabelled (arity_of p) n u → shuffle_form p t ≡ shuffle_form p u ↔ (spelled (parts p) t ≡ spelled (parts p) u))
+Spelling = (generators : List (List Part)) (n : ℕ) (t : Tree ℕ) → IsLabelled (arity (parts_of generators)) n t
+    → (symmetric_tree generators (shuffle_form generators t) ≡ spelled (parts_of generators) t) × (shuffle_form generators (spelled (parts_of generators) t) ≡ shuffle_form generators t)
+    × ((u : Tree ℕ) → IsLabelled (arity (parts_of generators)) n u → shuffle_form generators t ≡ shuffle_form generators u ↔ (spelled (parts_of generators) t ≡ spelled (parts_of generators) u))
 
 -- An element is a sum of instances of symmetry rules exactly where its shuffle form is zero.
 abbrev pub Kernel : Type 0
@@ -64,6 +65,6 @@ Kernel = (p : Presentation) (n : ℕ) (e : List (ℕ × Tree ℕ)) → AllTerms 
 
 -- The tree of an insertion is the tree of what is inserted, put into the tree of the hole with the trees of the inputs.
 abbrev pub FramesBack : Type 0
-FramesBack = (p : Presentation) (f : Frame) (x : Tree ℕ) → Fits (inputs_of p) f.hole → Fits (inputs_of p) x
-    → (occurs 0 (symmetric_tree p f.hole) ≡ occurs 0 f.hole)
-    × (put (symmetric_tree p f.hole) (graft (symmetric_tree p x) (item (map (symmetric_tree p) f.inputs))) ≡ symmetric_tree p (insert f x))
+FramesBack = (generators : List (List Part)) (f : Frame) (x : Tree ℕ) → Fits (inputs_of generators) f.hole → Fits (inputs_of generators) x
+    → (occurs 0 (symmetric_tree generators f.hole) ≡ occurs 0 f.hole)
+    × (put (symmetric_tree generators f.hole) (graft (symmetric_tree generators x) (item (map (symmetric_tree generators) f.inputs))) ≡ symmetric_tree generators (insert f x))

@@ -39,6 +39,6 @@ NormalFormsByLists = (p : Presentation) (cmp : Tree ℕ → Tree ℕ → Orderin
 -- Elements that are certified through N for an order of the trees over the labels: in each arity up to N their listing has the normal
 -- trees, each once; and it, like each list of these, has these properties.
 abbrev pub NormalTreesListed : Type 0
-NormalTreesListed = (p : Presentation) → IsSound p → IsWide p → 0 < p.q → (cmp : Tree ℕ → Tree ℕ → Ordering) → IsTreeOrder (inputs_of p) cmp
+NormalTreesListed = (p : Presentation) → IsSound p → IsWide p → 0 < p.q → (cmp : Tree ℕ → Tree ℕ → Ordering) → IsTreeOrder (inputs_of p.generators) cmp
     → (elements : List Element) (N : ℕ) → IsCertified p cmp elements N
-    → (n : ℕ) → n ≤ N → HasNormalTrees p cmp n (normal_list p elements n) × ((l : List (Tree ℕ)) → HasNormalTrees p cmp n l → NormalLaw p cmp n l)
+    → (n : ℕ) → n ≤ N → HasNormalTrees p cmp n (normal_list p.generators elements n) × ((l : List (Tree ℕ)) → HasNormalTrees p cmp n l → NormalLaw p cmp n l)

@@ -14,6 +14,7 @@ use Rattle.shuffle_insertions.specs.Keys.{key, path, pathshort, leafpath, weight
 use Rattle.shuffle_insertions.specs.Listing.{all_trees}
 use Rattle.shuffle_bases.specs.Elements.{Element}
 use Rattle.shuffle_normal_forms.specs.FreeTrees.{has_no_place}
+use Rattle.operad_ideals.specs.Parts.{Part}
 use Rattle.operad_ideals.specs.Spelling.{IsSorted}
 use Rattle.operad_ideals.specs.Presentations.{Presentation, parts, arity_of}
 use Rattle.operad_ideals.specs.Ideals.{InIdeal}
@@ -28,19 +29,21 @@ pub data OneOrder : Type 0 where
   by_leafpath : OneOrder
   by_weightpath : (ℕ → ℕ) → OneOrder
 
--- the comparison of shuffle trees over the labels of a presentation
-abbrev pub compare : Presentation → OneOrder → Tree ℕ → Tree ℕ → Ordering
-compare p by_path x y = path (key (λ l. 0) x) (key (λ l. 0) y)
-compare p by_pathshort x y = pathshort (key (λ l. 0) x) (key (λ l. 0) y)
-compare p by_leafpath x y = leafpath (key (λ l. 0) x) (key (λ l. 0) y)
-compare p (by_weightpath weights) x y = weightpath (key (λ l. weights (gen p l)) x) (key (λ l. weights (gen p l)) y)
+-- the comparison of shuffle trees over the labels of generators
+abbrev pub compare : List (List Part) → OneOrder → Tree ℕ → Tree ℕ → Ordering
+compare generators by_path x y = path (key (λ l. 0) x) (key (λ l. 0) y)
+compare generators by_pathshort x y = pathshort (key (λ l. 0) x) (key (λ l. 0) y)
+compare generators by_leafpath x y = leafpath (key (λ l. 0) x) (key (λ l. 0) y)
+compare generators (by_weightpath weights) x y = weightpath (key (λ l. weights (gen generators l)) x) (key (λ l. weights (gen generators l)) y)
 
--- whether there is nothing in the list
+-- The listing of arity n: the trees of all shuffle trees over the labels that no leading tree divides.
+abbrev pub normal_list : List (List Part) → List Element → ℕ → List (Tree ℕ)
+normal_list generators elements n = map (symmetric_tree generators) (filter (has_no_place elements) (all_trees (labels generators) (inputs_of generators) n))
 
 module _ (p : Presentation) where
   -- The listing of arity n: the trees of all shuffle trees over the labels that no leading tree divides.
   abbrev pub normal_list : List Element → ℕ → List (Tree ℕ)
-  normal_list elements n = map (symmetric_tree p) (filter (has_no_place elements) (all_trees (labels p) (inputs_of p) n))
+  normal_list elements n = map (symmetric_tree p.generators) (filter (has_no_place elements) (all_trees (labels p.generators) (inputs_of p.generators) n))
 
   -- The list consists of trees labelled by 1 to n.
   abbrev pub HasLabelledTrees : ℕ → List (Tree ℕ) → Type 0
@@ -69,8 +72,8 @@ module _ (p : Presentation) where
     pub record IsLead (e : List (ℕ × Tree ℕ)) (t : Tree ℕ) : Type 0 where
       pub labelled : IsLabelled (arity_of p) n t
       pub sorted : IsSorted (parts p) t
-      pub there : Alike p.q (coef tree_discrete (shuffled p e) (shuffle_form p t)) 0 → ⊥
-      pub above : (s : Tree ℕ) → IsShuffleTree (inputs_of p) n s → cmp (shuffle_form p t) s ≡ Less → Alike p.q (coef tree_discrete (shuffled p e) s) 0
+      pub there : Alike p.q (coef tree_discrete (shuffled p e) (shuffle_form p.generators t)) 0 → ⊥
+      pub above : (s : Tree ℕ) → IsShuffleTree (inputs_of p.generators) n s → cmp (shuffle_form p.generators t) s ≡ Less → Alike p.q (coef tree_discrete (shuffled p e) s) 0
 
     -- A normal tree: a sorted labelled tree that is the leading tree of no element of the ideal
     -- (Bremner and Dotsenko 2016, normal monomials).

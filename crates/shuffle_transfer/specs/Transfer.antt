@@ -25,7 +25,7 @@ module _ (p : Presentation) where
   -- The shuffle form of an element: the shuffle form of each tree, with its sign.
   abbrev pub shuffled : List (ℕ × Tree ℕ) → List (ℕ × Tree ℕ)
   shuffled [] = []
-  shuffled (x ∷ e) = (x.0 * residue_of p.q (spelled_sign (parts p) x.1), shuffle_form p x.1) ∷ shuffled e
+  shuffled (x ∷ e) = (x.0 * residue_of p.q (spelled_sign (parts p) x.1), shuffle_form p.generators x.1) ∷ shuffled e
 
   -- An insertion of arity n: the shuffle form of a relabelled relation, inserted into a frame, so that shuffle trees of arity n come out
   -- (Dotsenko and Khoroshkin 2010, the ideal that elements generate in a free shuffle operad).
@@ -36,7 +36,7 @@ module _ (p : Presentation) where
     pub permutes : IsOrdering relation.arity permutation
     pub frame : Frame
     pub is_frame : IsFrame relation.arity frame
-    pub valid : AllTerms (moved (insert frame) (shuffled (relabelled permutation relation.terms))) (IsShuffleTree (inputs_of p) n)
+    pub valid : AllTerms (moved (insert frame) (shuffled (relabelled permutation relation.terms))) (IsShuffleTree (inputs_of p.generators) n)
 
   abbrev pub inserted_relation : (n : ℕ) → RelationInsertion n → List (ℕ × Tree ℕ)
   inserted_relation n i = moved (insert i.frame) (shuffled (relabelled i.permutation i.relation.terms))

@@ -26,7 +26,6 @@ use Rattle.symmetric_trees.proofs.Branches.{no_inputs_left}
 use Rattle.symmetric_trees.proofs.Tables.{parts_at-held, sizes-held, held_if_wide}
 use Rattle.shuffle_passage.specs.Words as spec
 use Rattle.shuffle_passage.specs.Branches.{forms_of, least_leaves}
-use Rattle.shuffle_passage.specs.Passage.{over}
 use Rattle.shuffle_passage.specs.declared.branch.Branch.{Branch}
 use Rattle.shuffle_passage.proofs.WordTables.{length-words, read_words, bounds_few, first_label-most}
 use Rattle.shuffle_passage.proofs.Vertices.{input_fits, input_once}
@@ -72,7 +71,7 @@ sort_parts-requires-clause-sizes t c =
     let fits = subst (λ u. Fits gens (tree_of u)) c.in-Node.is c.requires.fits in
     let parts_fit = fits-inputs (arity (parts_at gens)) g ts fits in
     let once = subst (λ u. (k : ℕ) → occurs k (tree_of u) ≤ 1) c.in-Node.is c.requires.once in
-    let trees = all_trees (λ u. shuffle_form (over gens) (tree_of u)) c.as_slice-input-items.result.now ts c.loop-input.input-index bs c.loop-input-test.false c.as_slice-input-items.ensures c.loop-input.invariant.trees in
+    let trees = all_trees (λ u. shuffle_form (generators_of gens) (tree_of u)) c.as_slice-input-items.result.now ts c.loop-input.input-index bs c.loop-input-test.false c.as_slice-input-items.ensures c.loop-input.invariant.trees in
     let count : length bs ≡ arity (parts_at gens) g = count_branches gens g ts bs fits once trees ∙ parts_fit.1 in
     let keys : length c.loop-input.word.items ≡ length bs = ap length c.loop-input.invariant.keys ∙ length-map bs (λ (b : Branch). b.least) in
     ap (sum_by (λ (part : Part). part.size)) c.as_slice-parts.ensures ∙ sym (sizes-held gens g c.get.result.now c.get.ensures.found) ∙ sym count ∙ sym keys ∙ ap length (sym c.as_mut_slice.ensures.value)
@@ -86,7 +85,7 @@ sort_parts-requires-clause-apart t c =
     let fits = subst (λ u. Fits gens (tree_of u)) c.in-Node.is c.requires.fits in
     let parts_fit = fits-inputs (arity (parts_at gens)) g ts fits in
     let once = subst (λ u. (k : ℕ) → occurs k (tree_of u) ≤ 1) c.in-Node.is c.requires.once in
-    let trees = all_trees (λ u. shuffle_form (over gens) (tree_of u)) c.as_slice-input-items.result.now ts c.loop-input.input-index bs c.loop-input-test.false c.as_slice-input-items.ensures c.loop-input.invariant.trees in
+    let trees = all_trees (λ u. shuffle_form (generators_of gens) (tree_of u)) c.as_slice-input-items.result.now ts c.loop-input.input-index bs c.loop-input-test.false c.as_slice-input-items.ensures c.loop-input.invariant.trees in
     let count : length bs ≡ arity (parts_at gens) g = count_branches gens g ts bs fits once trees ∙ parts_fit.1 in
     let keys : length c.loop-input.word.items ≡ length bs = ap length c.loop-input.invariant.keys ∙ length-map bs (λ (b : Branch). b.least) in
     apart-at (λ n. n) c.as_mut_slice.result.now (subst (Apart (λ n. n)) (sym (c.as_mut_slice.ensures.value ∙ c.loop-input.invariant.keys)) (leaves_apart gens g ts bs fits once trees))
@@ -124,7 +123,7 @@ word_number-requires-clause-same t c =
     let fits = subst (λ u. Fits gens (tree_of u)) c.in-Node.is c.requires.fits in
     let parts_fit = fits-inputs (arity (parts_at gens)) g ts fits in
     let once = subst (λ u. (k : ℕ) → occurs k (tree_of u) ≤ 1) c.in-Node.is c.requires.once in
-    let trees = all_trees (λ u. shuffle_form (over gens) (tree_of u)) c.as_slice-input-items.result.now ts c.loop-input.input-index bs c.loop-input-test.false c.as_slice-input-items.ensures c.loop-input.invariant.trees in
+    let trees = all_trees (λ u. shuffle_form (generators_of gens) (tree_of u)) c.as_slice-input-items.result.now ts c.loop-input.input-index bs c.loop-input-test.false c.as_slice-input-items.ensures c.loop-input.invariant.trees in
     let count : length bs ≡ arity (parts_at gens) g = count_branches gens g ts bs fits once trees ∙ parts_fit.1 in
     let keys : length c.loop-input.word.items ≡ length bs = ap length c.loop-input.invariant.keys ∙ length-map bs (λ (b : Branch). b.least) in
     let held = held_if_wide gens g parts_fit.0 in
@@ -145,7 +144,7 @@ overflow_add-label t c =
     let fits = subst (λ u. Fits gens (tree_of u)) c.in-Node.is c.requires.fits in
     let parts_fit = fits-inputs (arity (parts_at gens)) g ts fits in
     let once = subst (λ u. (k : ℕ) → occurs k (tree_of u) ≤ 1) c.in-Node.is c.requires.once in
-    let trees = all_trees (λ u. shuffle_form (over gens) (tree_of u)) c.as_slice-input-items.result.now ts c.loop-input.input-index bs c.loop-input-test.false c.as_slice-input-items.ensures c.loop-input.invariant.trees in
+    let trees = all_trees (λ u. shuffle_form (generators_of gens) (tree_of u)) c.as_slice-input-items.result.now ts c.loop-input.input-index bs c.loop-input-test.false c.as_slice-input-items.ensures c.loop-input.invariant.trees in
     let count : length bs ≡ arity (parts_at gens) g = count_branches gens g ts bs fits once trees ∙ parts_fit.1 in
     let keys : length c.loop-input.word.items ≡ length bs = ap length c.loop-input.invariant.keys ∙ length-map bs (λ (b : Branch). b.least) in
     let held = held_if_wide gens g parts_fit.0 in
@@ -172,7 +171,7 @@ returns-in_ok-vertex-in-Node-clause-sign t c =
     let fits = subst (λ u. Fits gens (tree_of u)) c.in-Node.is c.requires.fits in
     let parts_fit = fits-inputs (arity (parts_at gens)) g ts fits in
     let once = subst (λ u. (k : ℕ) → occurs k (tree_of u) ≤ 1) c.in-Node.is c.requires.once in
-    let trees = all_trees (λ u. shuffle_form (over gens) (tree_of u)) c.as_slice-input-items.result.now ts c.loop-input.input-index bs c.loop-input-test.false c.as_slice-input-items.ensures c.loop-input.invariant.trees in
+    let trees = all_trees (λ u. shuffle_form (generators_of gens) (tree_of u)) c.as_slice-input-items.result.now ts c.loop-input.input-index bs c.loop-input-test.false c.as_slice-input-items.ensures c.loop-input.invariant.trees in
     let count : length bs ≡ arity (parts_at gens) g = count_branches gens g ts bs fits once trees ∙ parts_fit.1 in
     let keys : length c.loop-input.word.items ≡ length bs = ap length c.loop-input.invariant.keys ∙ length-map bs (λ (b : Branch). b.least) in
     let parts : parts_at gens g ≡ map part_of c.as_slice-parts.result.now = parts_at-held gens g c.get.result.now c.get.ensures.found ∙ ap (map part_of) (sym c.as_slice-parts.ensures) in
@@ -192,7 +191,7 @@ returns-in_ok-vertex-in-Node-clause-tree t c =
     let fits = subst (λ u. Fits gens (tree_of u)) c.in-Node.is c.requires.fits in
     let parts_fit = fits-inputs (arity (parts_at gens)) g ts fits in
     let once = subst (λ u. (k : ℕ) → occurs k (tree_of u) ≤ 1) c.in-Node.is c.requires.once in
-    let trees = all_trees (λ u. shuffle_form (over gens) (tree_of u)) c.as_slice-input-items.result.now ts c.loop-input.input-index bs c.loop-input-test.false c.as_slice-input-items.ensures c.loop-input.invariant.trees in
+    let trees = all_trees (λ u. shuffle_form (generators_of gens) (tree_of u)) c.as_slice-input-items.result.now ts c.loop-input.input-index bs c.loop-input-test.false c.as_slice-input-items.ensures c.loop-input.invariant.trees in
     let count : length bs ≡ arity (parts_at gens) g = count_branches gens g ts bs fits once trees ∙ parts_fit.1 in
     let keys : length c.loop-input.word.items ≡ length bs = ap length c.loop-input.invariant.keys ∙ length-map bs (λ (b : Branch). b.least) in
     let held = held_if_wide gens g parts_fit.0 in
@@ -208,4 +207,4 @@ returns-in_ok-vertex-in-Node-clause-tree t c =
     (c.sort_unstable_by_key.ensures.sorted (λ b. b.least) (answers_always _ _ _ (λ f a r g h. search rules))) (branches_apart gens g ts bs fits once trees) in
     c.in_ok-vertex-in-Node.ensures
     ∙ form_vertex gens g ts bs fits once trees _ c.sort_unstable_by_key.new.self.items held parts_fit.1 label all
-    ∙ ap (λ u. shuffle_form (over gens) (tree_of u)) (sym c.in-Node.is)
+    ∙ ap (λ u. shuffle_form (generators_of gens) (tree_of u)) (sym c.in-Node.is)
