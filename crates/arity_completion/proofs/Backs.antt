@@ -23,7 +23,7 @@ use Rattle.shuffle_transfer.proofs.Spanning.{all_forms, all_labelled}
 use Rattle.symmetric_trees.specs.Trees as table
 use Rattle.symmetric_trees.specs.Generators.{parts_at, generators_of}
 use Rattle.symmetric_trees.specs.declared.generators.Generator.{Generator}
-use Rattle.symmetric_sums.specs.Collected.{IsCollected}
+use Rattle.operad_ideals.specs.Collected.{IsCollected}
 use Rattle.symmetric_sums.specs.Membership.{presentation_of}
 use Rattle.symmetric_sums.specs.Terms.{HaveArity, HaveResidues, terms_of}
 use Rattle.symmetric_sums.specs.declared.term.Term.{Term}

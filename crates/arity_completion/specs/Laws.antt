@@ -15,7 +15,7 @@ use Rattle.shuffle_transfer.specs.Orderings.{IsOrdering, entry}
 use Rattle.symmetric_sums.specs.Uses.{CitesElement}
 use Rattle.symmetric_trees.specs.Generators.{parts_at, generators_of}
 use Rattle.symmetric_trees.specs.declared.generators.Generator.{Generator}
-use Rattle.symmetric_sums.specs.Collected.{IsReduced}
+use Rattle.operad_ideals.specs.Collected.{IsReduced}
 use Rattle.symmetric_sums.specs.Instances.{rule_element}
 use Rattle.symmetric_sums.specs.Membership.{presentation_of}
 use Rattle.symmetric_sums.specs.Terms.{FitsOver, terms_of}

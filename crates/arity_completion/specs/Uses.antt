@@ -16,7 +16,7 @@ use Rattle.shuffle_transfer.specs.Certified.{setting}
 use Rattle.shuffle_transfer.specs.Labels.{inputs_of, symmetric_tree}
 use Rattle.symmetric_trees.specs.Generators.{parts_at, generators_of}
 use Rattle.symmetric_trees.specs.declared.generators.Generator.{Generator}
-use Rattle.symmetric_sums.specs.Collected.{IsReduced}
+use Rattle.operad_ideals.specs.Collected.{IsReduced}
 use Rattle.symmetric_sums.specs.Membership.{presentation_of}
 use Rattle.symmetric_sums.specs.Terms.{FitsOver, terms_of}
 use Rattle.symmetric_sums.specs.declared.term.Term.{Term}

@@ -12,7 +12,7 @@ use Rattle.symmetric_trees.specs.Generators.{parts_at}
 use Rattle.symmetric_trees.specs.Trees.{IsLabelled}
 use Rattle.symmetric_trees.specs.declared.generators.Generator.{Generator}
 use Rattle.symmetric_sums.specs.Terms.{terms_of}
-use Rattle.symmetric_sums.specs.Collected.{HaveOneForm}
+use Rattle.operad_ideals.specs.Collected.{HaveOneForm}
 use Rattle.symmetric_sums.specs.Instances.{element_arity, instance_element}
 use Rattle.symmetric_sums.specs.Membership.{presentation_of, IsElement, IsMember}
 use Rattle.symmetric_sums.specs.declared.term.Term.{Term}

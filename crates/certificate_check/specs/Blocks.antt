@@ -5,7 +5,7 @@ use Rattle.labelled_trees.specs.Trees.{Tree}
 use Rattle.symmetric_trees.specs.Generators.{parts_at}
 use Rattle.symmetric_trees.specs.declared.generators.Generator.{Generator}
 use Rattle.symmetric_sums.specs.Terms.{terms_of}
-use Rattle.symmetric_sums.specs.Collected.{HaveOneForm}
+use Rattle.operad_ideals.specs.Collected.{HaveOneForm}
 use Rattle.symmetric_sums.specs.Uses.{AreGoodUses, sum_of}
 use Rattle.symmetric_sums.specs.declared.term.Term.{Term}
 use Rattle.certificate_text.specs.Tails.{IsReadyStep}

@@ -14,7 +14,7 @@ use Rattle.operad_ideals.proofs.Ideals.{ideal_zero, ideal-append}
 use Rattle.symmetric_trees.specs.Generators.{parts_at}
 use Rattle.symmetric_trees.specs.Trees.{IsLabelled}
 use Rattle.symmetric_trees.specs.declared.generators.Generator.{Generator}
-use Rattle.symmetric_sums.specs.Collected.{HaveOneForm}
+use Rattle.operad_ideals.specs.Collected.{HaveOneForm}
 use Rattle.symmetric_sums.specs.Instances.{element_arity, instance_element}
 use Rattle.symmetric_sums.specs.Membership.{IsElement, IsMember, presentation_of}
 use Rattle.symmetric_sums.specs.Terms.{terms_of}

@@ -4,7 +4,7 @@ use Rattle.std.specs.List.{All}
 use Rattle.symmetric_trees.specs.Generators.{parts_at}
 use Rattle.symmetric_trees.specs.declared.generators.Generator.{Generator}
 use Rattle.symmetric_sums.specs.Terms.{FitsOver, terms_of}
-use Rattle.symmetric_sums.specs.Collected.{HaveOneForm}
+use Rattle.operad_ideals.specs.Collected.{HaveOneForm}
 use Rattle.symmetric_sums.specs.declared.term.Term.{Term}
 use Rattle.symmetric_sums.specs.Uses.{AreGoodUses, sum_of}
 use Rattle.cofactor_log.specs.declared.entry.Entry.{Entry}

@@ -9,7 +9,7 @@ use Rattle.std.proofs.Math.ListN.{get_or-map, set}
 use Rattle.std.proofs.lemmas.List.{map-set, length-map}
 use Rattle.std.proofs.lemmas.List.Sorted.{All-permutation}
 use Rattle.labelled_trees.specs.Trees.{Tree}
-use Rattle.symmetric_trees.specs.SpellingOrder.{order}
+use Rattle.operad_ideals.specs.SpellingOrder.{order}
 use Rattle.normal_listing.specs.Places.{number_of}
 use Rattle.normal_listing.specs.Words.{AreFew, HasWord, symbols}
 use Rattle.normal_listing.proofs.TreeWords.{words_spell}

@@ -9,8 +9,8 @@ use Rattle.std.specs.Cmp.Lexicographic.{slice_cmp}
 use Rattle.labelled_trees.specs.Trees.{Tree, Row, leaf, node, none, more, width, graft_row, map_tree}
 use Rattle.labelled_trees.specs.Leaves.{AllLeaves, AllRow, leaf_count, leaf_count_row}
 use Rattle.labelled_trees.specs.Labelled.{Fits, FitsRow}
-use Rattle.symmetric_trees.specs.SpellingOrder.{order, order_row}
-use Rattle.symmetric_trees.proofs.TreeOrder.{order_is_total}
+use Rattle.operad_ideals.specs.SpellingOrder.{order, order_row}
+use Rattle.operad_ideals.proofs.TreeOrder.{order_is_total}
 use Rattle.normal_listing.specs.Places.{IsSymbol, IsWord, number_of}
 use Rattle.normal_listing.specs.Words.{symbols, symbols_row, IsDigit, AreFew, HasWord, WordsSpell, IsUpTo, RenamesLeaves, RenamedTrees}
 use Rattle.normal_listing.proofs.Places.{all_joined, length_joined}

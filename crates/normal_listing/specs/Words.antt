@@ -5,7 +5,7 @@ use Rattle.std.specs.Cmp.Lexicographic.{slice_cmp}
 use Rattle.labelled_trees.specs.Trees.{Tree, Row, leaf, node, none, more, map_tree}
 use Rattle.labelled_trees.specs.Leaves.{AllLeaves, leaf_count}
 use Rattle.labelled_trees.specs.Labelled.{Fits}
-use Rattle.symmetric_trees.specs.SpellingOrder.{order}
+use Rattle.operad_ideals.specs.SpellingOrder.{order}
 use Rattle.normal_listing.specs.Places.{IsSymbol, IsWord, number_of}
 
 -- The symbols of a tree in preorder: leaf i is i, and a vertex with generator g is 10 + g.

@@ -23,15 +23,15 @@ use Rattle.shuffle_completion.proofs.Laws.{complete_is_reduced, listing_is_norma
 use Rattle.shuffle_completion.proofs.Passing.{sorted_back}
 use Rattle.shuffle_completion.specs.Existence.{IsOverField}
 use Rattle.symmetric_trees.specs.Generators.{parts_at}
-use Rattle.symmetric_trees.specs.SpellingOrder.{order}
+use Rattle.operad_ideals.specs.SpellingOrder.{order}
 use Rattle.symmetric_trees.specs.Trees.{IsLabelled}
-use Rattle.symmetric_sums.specs.Collected.{IsReduced}
-use Rattle.symmetric_sums.specs.Collecting.{Pairs}
+use Rattle.operad_ideals.specs.Collected.{IsReduced}
+use Rattle.operad_ideals.specs.Pairs.{Pairs}
 use Rattle.operad_answers.specs.OrderedPresentations.{OrderedPresentation, presentation, comparison, IsWellFormed}
 use Rattle.operad_answers.specs.Parts.{AreInOrder}
 use Rattle.operad_answers.specs.Texts.{Sum, IsForm, IsRuleOf}
 use Rattle.operad_answers.specs.Laws.{ListingLaw, CompleteElementsAnswer}
-use Rattle.symmetric_sums.proofs.TreeLists.{Ascending, all_members}
+use Rattle.operad_ideals.proofs.TreeLists.{Ascending, all_members}
 use Rattle.operad_answers.proofs.Forms.{form_of_same}
 use Rattle.operad_answers.proofs.WellFormed.{well_formed_over_field, order_in}
 

@@ -20,7 +20,7 @@ use Rattle.operad_answers.specs.OrderedPresentations.{OrderedPresentation, prese
 use Rattle.operad_answers.specs.Parts.{line, part_text, AreParts, AreInOrder}
 use Rattle.operad_answers.specs.Texts.{Sum, EachWith, queries, IsNormalPart, IsBasisPart, IsBasisOfQuotient, IsForm, IsAnswer, IsFormsText, IsNormalText, rule_text}
 use Rattle.operad_answers.specs.Laws.{TextsExist, NormalTextsAreBases}
-use Rattle.symmetric_sums.proofs.TreeLists.{sorted, all_members}
+use Rattle.operad_ideals.proofs.TreeLists.{sorted, all_members}
 use Rattle.operad_answers.proofs.Ordered.{in_order, those_of_order}
 use Rattle.operad_answers.proofs.Forms.{has_form}
 use Rattle.operad_answers.proofs.WellFormed.{well_formed_over_field, order_in}

@@ -20,16 +20,16 @@ use Rattle.shuffle_completion.proofs.Laws.{normal_forms_decide}
 use Rattle.shuffle_completion.proofs.Existence.{some_form, normal_trees}
 use Rattle.symmetric_trees.specs.Generators.{parts_at}
 use Rattle.symmetric_trees.specs.Trees.{IsLabelled}
-use Rattle.symmetric_sums.specs.Collected.{IsReduced}
+use Rattle.operad_ideals.specs.Collected.{IsReduced}
 use Rattle.symmetric_sums.proofs.Expansions.{one_label}
-use Rattle.symmetric_sums.proofs.Forms.{one_reduced}
+use Rattle.operad_ideals.proofs.Forms.{one_reduced}
 use Rattle.presentation_text.specs.SumText.{IsPrintable, sum_text}
 use Rattle.presentation_text.proofs.PrintedSums.{read_back}
 use Rattle.operad_answers.specs.OrderedPresentations.{OrderedPresentation, presentation, comparison, IsWellFormed}
 use Rattle.operad_answers.specs.Texts.{Sum, IsForm, IsAnswer}
-use Rattle.symmetric_sums.proofs.ReducedSums.{less_same, read_out, read_same, read_reduced}
+use Rattle.operad_ideals.proofs.ReducedSums.{less_same, read_out, read_same, read_reduced}
 use Rattle.operad_answers.proofs.Collected.{reduced_stands}
-use Rattle.symmetric_sums.proofs.TreeLists.{sorted}
+use Rattle.operad_ideals.proofs.TreeLists.{sorted}
 use Rattle.operad_answers.proofs.Ordered.{in_order}
 use Rattle.operad_answers.proofs.WellFormed.{well_formed_over_field, order_in, prime_above}
 

@@ -27,7 +27,7 @@ use Rattle.operad_answers.proofs.JoinedTexts.{comparisons_few}
 use Rattle.operad_answers.proofs.Existing.{are_bases}
 use Rattle.operad_answers.proofs.ReducedRules.{reduced_rules}
 use Rattle.operad_answers.proofs.NumberedLists.{nth_is_member}
-use Rattle.symmetric_sums.proofs.TreeLists.{all_members}
+use Rattle.operad_ideals.proofs.TreeLists.{all_members}
 use Rattle.operad_answers.proofs.PrintedLines.{answer_at, answer_lines, blocks_hold, prove_texts_are_read}
 use Rattle.operad_answers.proofs.Forms.{decide, one_answer}
 use Rattle.operad_answers.proofs.Deciding.{verdicts_decide}

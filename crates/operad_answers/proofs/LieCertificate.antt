@@ -21,7 +21,7 @@ use Rattle.shuffle_transfer.specs.Certified.{setting}
 use Rattle.shuffle_transfer.specs.NormalLaws.{NormalLaw}
 use Rattle.shuffle_transfer.proofs.Jacobi.{lie, certified}
 use Rattle.symmetric_trees.specs.Generators.{parts_at}
-use Rattle.symmetric_sums.specs.Collected.{IsCollected}
+use Rattle.operad_ideals.specs.Collected.{IsCollected}
 use Rattle.symmetric_sums.specs.Membership.{IsElement}
 use Rattle.symmetric_sums.specs.Terms.{terms_of}
 use Rattle.certificate_text.specs.declared.block.Step.{Step}

@@ -23,15 +23,15 @@ use Rattle.operad_ideals.specs.Spelling.{IsSorted}
 use Rattle.shuffle_insertions.proofs.Examples.{l, t1, t2, t3}
 use Rattle.shuffle_transfer.proofs.Jacobi.{jacobi_relation, lie, sound}
 use Rattle.symmetric_trees.specs.Generators.{parts_at}
-use Rattle.symmetric_trees.specs.SpellingOrder.{order as tree_order}
+use Rattle.operad_ideals.specs.SpellingOrder.{order as tree_order}
 use Rattle.symmetric_trees.specs.Trees.{IsLabelled}
-use Rattle.symmetric_sums.specs.Collected.{IsReduced, IsCollected}
+use Rattle.operad_ideals.specs.Collected.{IsReduced, IsCollected}
 use Rattle.symmetric_sums.specs.Instances.{element_arity, in_place, IsValid, products, without_zeros}
 use Rattle.symmetric_sums.specs.Terms.{terms_of}
 use Rattle.symmetric_sums.specs.declared.instance.Instance.{Instance}
 use Rattle.symmetric_sums.specs.declared.instance.Rule.TheVariants.{Rel}
 use Rattle.symmetric_sums.specs.declared.term.Term.{Term}
-use Rattle.symmetric_sums.proofs.LastOnes.{AllPairs-from_pairs}
+use Rattle.operad_ideals.proofs.LastOnes.{AllPairs-from_pairs}
 use Rattle.presentation_text.specs.Accepted.{IsDemanded}
 use Rattle.presentation_text.specs.PrintedElements.{IsSaidTerm}
 use Rattle.presentation_text.specs.TreeForms.{any_arity}

@@ -16,12 +16,12 @@ use Rattle.shuffle_completion.specs.ReducedBases.{IsMinimal, IsReducedBasis, IsR
 use Rattle.shuffle_completion.proofs.Laws.{complete_is_reduced, normal_forms_decide}
 use Rattle.shuffle_completion.proofs.Passing.{sorted_back}
 use Rattle.shuffle_completion.proofs.Existence.{complete_through}
-use Rattle.symmetric_trees.specs.SpellingOrder.{order}
-use Rattle.symmetric_sums.specs.Collecting.{Pairs}
+use Rattle.operad_ideals.specs.SpellingOrder.{order}
+use Rattle.operad_ideals.specs.Pairs.{Pairs}
 use Rattle.operad_answers.specs.OrderedPresentations.{OrderedPresentation, presentation, comparison, IsWellFormed}
 use Rattle.operad_answers.specs.Parts.{AreParts}
 use Rattle.operad_answers.specs.Texts.{Sum, IsForm, IsBasisPart, IsBasisText, IsRuleOf, IsRulePart, IsTextOfReducedBasis}
-use Rattle.symmetric_sums.proofs.TreeLists.{Ascending, each_member}
+use Rattle.operad_ideals.proofs.TreeLists.{Ascending, each_member}
 use Rattle.operad_answers.proofs.WellFormed.{well_formed_over_field, order_in}
 use Rattle.shuffle_transfer.specs.NormalTrees.{IsNormalSum}
 

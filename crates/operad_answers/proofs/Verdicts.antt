@@ -14,7 +14,7 @@ use Rattle.operad_ideals.specs.Presentations.{without_relations}
 use Rattle.operad_ideals.proofs.Ideals.{ideal-same}
 use Rattle.symmetric_trees.specs.Generators.{parts_at}
 use Rattle.symmetric_trees.specs.Trees.{IsLabelled}
-use Rattle.symmetric_sums.specs.Collected.{HaveOneForm, IsCollected}
+use Rattle.operad_ideals.specs.Collected.{HaveOneForm, IsCollected}
 use Rattle.symmetric_sums.specs.Instances.{products, without_zeros}
 use Rattle.symmetric_sums.specs.Terms.{terms_of}
 use Rattle.symmetric_sums.specs.declared.instance.Instance.{Instance as Use}

@@ -26,10 +26,10 @@ use Rattle.counted_runs.specs.Calls.{Call}
 use Rattle.counted_runs.specs.Counters.{HasCountedFull}
 use Rattle.counted_runs.specs.FullRuns.{HasItem}
 use Rattle.symmetric_trees.specs.Generators.{parts_at}
-use Rattle.symmetric_trees.specs.SpellingOrder.{order}
+use Rattle.operad_ideals.specs.SpellingOrder.{order}
 use Rattle.symmetric_trees.specs.Trees.{IsLabelled}
-use Rattle.symmetric_sums.specs.Collected.{IsReduced, IsCollected}
-use Rattle.symmetric_sums.specs.Collecting.{Pairs}
+use Rattle.operad_ideals.specs.Collected.{IsReduced, IsCollected}
+use Rattle.operad_ideals.specs.Pairs.{Pairs}
 use Rattle.presentation_text.specs.LineForms.{Asked, query, same}
 use Rattle.presentation_text.specs.Lines.{EndsWith, lines}
 use Rattle.presentation_text.specs.Presentations.{IsReadAs}

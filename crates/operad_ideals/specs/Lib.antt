@@ -1,11 +1,14 @@
+pub mod Collected
 pub mod CompositeLaws
 pub mod HoleInstances
 pub mod IdealLaws
 pub mod Ideals
 pub mod Laws
+pub mod Pairs
 pub mod Parts
 pub mod Presentations
 pub mod Rules
 pub mod Sorting
 pub mod SpelledSums
 pub mod Spelling
+pub mod SpellingOrder

@@ -4,7 +4,7 @@ use Rattle.std.specs.List.{flat_map}
 use Rattle.labelled_trees.specs.Trees.{Tree}
 use Rattle.symmetric_trees.specs.Generators.{parts_at}
 use Rattle.symmetric_trees.specs.declared.generators.Generator.{Generator}
-use Rattle.symmetric_sums.proofs.Forms.{one_collected}
+use Rattle.operad_ideals.proofs.Forms.{one_collected}
 use Rattle.presentation_text.specs.SumText.{sum_text}
 use Rattle.operad_answers.specs.Parts.{line}
 use Rattle.operad_answers.proofs.OneText.{one_each}

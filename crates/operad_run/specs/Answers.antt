@@ -8,7 +8,7 @@ use Rattle.operad_ideals.specs.Ideals.{InIdeal}
 use Rattle.symmetric_trees.specs.Generators.{generators_of, parts_at}
 use Rattle.symmetric_trees.specs.Trees.{IsLabelled}
 use Rattle.symmetric_trees.specs.declared.generators.Generator.{Generator}
-use Rattle.symmetric_sums.specs.Collected.{IsCollected}
+use Rattle.operad_ideals.specs.Collected.{IsCollected}
 use Rattle.presentation_text.specs.SumText.{sum_text}
 use Rattle.operad_answers.specs.Parts.{line}
 use Rattle.operad_answers.specs.Texts.{EachWith}

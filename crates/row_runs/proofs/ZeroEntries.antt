@@ -3,7 +3,7 @@ use Rattle.std.proofs.Common.{◌≡◌, [], ℕ, List, refl, sym, subst, arith}
 use Rattle.operad_ideals.specs.Parts.{Part}
 use Rattle.symmetric_trees.specs.Generators.{parts_at}
 use Rattle.symmetric_trees.specs.declared.generators.Generator.{Generator}
-use Rattle.symmetric_sums.specs.Collected.{IsCollected}
+use Rattle.operad_ideals.specs.Collected.{IsCollected}
 use Rattle.symmetric_sums.specs.declared.term.Term.{Term}
 use Rattle.symmetric_sums.specs.declared.instance.Instance.{Instance}
 use Rattle.cofactor_log.specs.Entries.{IsKept}

@@ -16,7 +16,7 @@ use Rattle.shuffle_transfer.specs.Labels.{labels, inputs_of, symmetric_tree}
 use Rattle.shuffle_transfer.specs.Transfer.{shuffled}
 use Rattle.shuffle_transfer.specs.Certified.{setting}
 use Rattle.shuffle_transfer.specs.NormalTrees.{normal_list, IsNormalTree, HasLabelledTrees, IsIndependent, IsSpanning, IsNormalSum, IsNormalForm}
-use Rattle.symmetric_sums.proofs.ReducedSums.{reduction}
+use Rattle.operad_ideals.proofs.ReducedSums.{reduction}
 use Rattle.shuffle_transfer.proofs.NormalForms.{rest_same}
 use Rattle.shuffle_transfer.proofs.Labels.{are_labels}
 use Rattle.shuffle_transfer.proofs.Spanning.{all_shuffles}

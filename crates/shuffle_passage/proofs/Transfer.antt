@@ -20,7 +20,7 @@ use Rattle.shuffle_transfer.specs.Labels.{shuffle_form}
 use Rattle.shuffle_transfer.specs.Transfer.{relabelled, shuffled, RelationInsertion, inserted_relation}
 use Rattle.shuffle_transfer.proofs.Forth.{spelling}
 use Rattle.shuffle_transfer.proofs.TransferLaw.{transfer_law, labelled-relabelled}
-use Rattle.symmetric_sums.specs.Collected.{IsCollected}
+use Rattle.operad_ideals.specs.Collected.{IsCollected}
 use Rattle.symmetric_sums.specs.Membership.{relation_of, presentation_of, IsElement}
 use Rattle.symmetric_sums.specs.Terms.{terms_of}
 use Rattle.symmetric_sums.specs.declared.term.Term.{Term}

@@ -9,7 +9,7 @@ use Rattle.symmetric_trees.specs.Trees.{IsLabelled}
 use Rattle.symmetric_trees.specs.declared.generators.Generator.{Generator}
 use Rattle.shuffle_transfer.specs.Transfer.{relabelled}
 use Rattle.symmetric_trees.specs.Generators.{parts_at}
-use Rattle.symmetric_sums.specs.Collected.{IsCollected}
+use Rattle.operad_ideals.specs.Collected.{IsCollected}
 use Rattle.symmetric_sums.specs.Terms.{HaveArity, HaveResidues, terms_of}
 use Rattle.symmetric_sums.specs.declared.term.Term.{Term}
 

@@ -6,7 +6,7 @@ ghost use Rattle.shuffle_transfer.specs.Orderings.{IsOrdering};
 ghost use Rattle.shuffle_transfer.specs.Transfer as math;
 ghost use Rattle.symmetric_trees.specs.Generators.{parts_at};
 ghost use Rattle.symmetric_trees.specs.Trees.{IsLabelled};
-ghost use Rattle.symmetric_sums.specs.Collected.{IsCollected};
+ghost use Rattle.operad_ideals.specs.Collected.{IsCollected};
 ghost use Rattle.symmetric_sums.specs.Terms.{FitsOver, HaveArity, HaveResidues, terms_of};
 ghost use Rattle.shuffle_passage.specs.RelabelledSums.{IsPermutationFor, RenamedTo};
 

@@ -13,8 +13,8 @@ use Rattle.labelled_trees.specs.Labelled.{IsLabelled}
 use Rattle.operad_ideals.specs.Presentations.{Presentation, parts, arity_of}
 use Rattle.operad_ideals.specs.Ideals.{InIdeal}
 use Rattle.operad_ideals.proofs.Ideals.{ideal_zero, ideal-append, ideal-scale, ideal-same}
-use Rattle.symmetric_sums.specs.Collected.{IsReduced}
-use Rattle.symmetric_sums.proofs.ReducedSums.{reduction, one_reduction, less_same}
+use Rattle.operad_ideals.specs.Collected.{IsReduced}
+use Rattle.operad_ideals.proofs.ReducedSums.{reduction, one_reduction, less_same}
 use Rattle.shuffle_transfer.specs.NormalTrees.{normal_list, IsIndependent, IsSpanning, IsCombination, IsNormalTree, HasNormalTrees, IsNormalForm}
 use Rattle.shuffle_transfer.specs.NormalLaws.{NormalLaw, NormalFormsByLists, NormalTreesListed}
 use Rattle.shuffle_transfer.proofs.Given.{Given}

@@ -11,7 +11,7 @@ use Rattle.shuffle_insertions.specs.Orders.{IsTreeOrder}
 use Rattle.shuffle_bases.specs.Elements.{Element}
 use Rattle.operad_ideals.specs.Presentations.{Presentation, parts, arity_of, IsWide, IsSound}
 use Rattle.operad_ideals.specs.Ideals.{InIdeal}
-use Rattle.symmetric_sums.specs.Collected.{IsReduced}
+use Rattle.operad_ideals.specs.Collected.{IsReduced}
 use Rattle.shuffle_transfer.specs.Labels.{inputs_of}
 use Rattle.shuffle_transfer.specs.Certified.{IsCertified}
 use Rattle.shuffle_transfer.specs.NormalTrees.{normal_list, IsIndependent, IsSpanning, IsCombination, IsNormalTree, HasNormalTrees, IsNormalForm}

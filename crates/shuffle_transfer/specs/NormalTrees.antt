@@ -18,7 +18,7 @@ use Rattle.operad_ideals.specs.Parts.{Part}
 use Rattle.operad_ideals.specs.Spelling.{IsSorted}
 use Rattle.operad_ideals.specs.Presentations.{Presentation, parts, arity_of}
 use Rattle.operad_ideals.specs.Ideals.{InIdeal}
-use Rattle.symmetric_sums.specs.Collected.{IsReduced}
+use Rattle.operad_ideals.specs.Collected.{IsReduced}
 use Rattle.shuffle_transfer.specs.Labels.{labels, gen, inputs_of, shuffle_form, symmetric_tree}
 use Rattle.shuffle_transfer.specs.Transfer.{shuffled}
 
@@ -41,10 +41,6 @@ abbrev pub normal_list : List (List Part) → List Element → ℕ → List (Tre
 normal_list generators elements n = map (symmetric_tree generators) (filter (has_no_place elements) (all_trees (labels generators) (inputs_of generators) n))
 
 module _ (p : Presentation) where
-  -- The listing of arity n: the trees of all shuffle trees over the labels that no leading tree divides.
-  abbrev pub normal_list : List Element → ℕ → List (Tree ℕ)
-  normal_list elements n = map (symmetric_tree p.generators) (filter (has_no_place elements) (all_trees (labels p.generators) (inputs_of p.generators) n))
-
   -- The list consists of trees labelled by 1 to n.
   abbrev pub HasLabelledTrees : ℕ → List (Tree ℕ) → Type 0
   HasLabelledTrees n l = (t : Tree ℕ) → Mem t l → IsLabelled (arity_of p) n t

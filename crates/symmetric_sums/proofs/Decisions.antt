@@ -12,8 +12,8 @@ use Rattle.operad_ideals.specs.SpelledSums.{spelled_sum}
 use Rattle.operad_ideals.specs.Ideals.{InIdeal}
 use Rattle.operad_ideals.proofs.Ideals.{ideal-same}
 use Rattle.operad_ideals.proofs.Collected.{less_collected, collected_forms}
-use Rattle.symmetric_sums.specs.Collected.{IsCollected, CollectedFormsDecide}
-use Rattle.symmetric_sums.proofs.Forms.{one_reduced}
+use Rattle.operad_ideals.specs.Collected.{IsCollected, CollectedFormsDecide}
+use Rattle.operad_ideals.proofs.Forms.{one_reduced}
 
 module _ (p : Presentation) (n : ℕ) where
   pub form-same : (e f : List (ℕ × Tree ℕ)) → IsCollected (p.q + 1) (parts p) e f → Same tree_discrete p.q f (spelled_sum p.q (parts p) e)

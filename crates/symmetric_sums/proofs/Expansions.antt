@@ -29,7 +29,7 @@ use Rattle.symmetric_sums.specs.declared.term.Term.{Term}
 use Rattle.symmetric_sums.specs.declared.instance.Instance.{Instance}
 use Rattle.labelled_trees.proofs.Numbered.{one_number, numbered_of_labelled}
 use Rattle.symmetric_sums.proofs.SpelledTerms.{taken}
-use Rattle.symmetric_sums.proofs.LastOnes.{each-push}
+use Rattle.operad_ideals.proofs.LastOnes.{each-push}
 
 -- ---- what holds of the trees of a list
 

@@ -15,11 +15,11 @@ use Rattle.operad_ideals.specs.Sorting.{spelled, spelled_sign}
 use Rattle.operad_ideals.specs.SpelledSums.{spelled_sum}
 use Rattle.operad_ideals.proofs.Agreement.{agreement_keeps_labels}
 use Rattle.operad_ideals.proofs.Spellings.{one_spelling}
-use Rattle.symmetric_trees.specs.SpellingOrder.{order}
-use Rattle.symmetric_sums.specs.Collected.{IsCollected}
-use Rattle.symmetric_sums.specs.Collecting.{Pairs}
-use Rattle.symmetric_sums.proofs.Forms.{coef-other, coef-first, not_itself}
-use Rattle.symmetric_sums.proofs.LastOnes.{pairs_from_AllPairs}
+use Rattle.operad_ideals.specs.SpellingOrder.{order}
+use Rattle.operad_ideals.specs.Collected.{IsCollected}
+use Rattle.operad_ideals.specs.Pairs.{Pairs}
+use Rattle.operad_ideals.proofs.Forms.{coef-other, coef-first, not_itself}
+use Rattle.operad_ideals.proofs.LastOnes.{pairs_from_AllPairs}
 
 -- a tree with a coefficient other than 0 stands in the sum
 stands : (P : Tree ℕ → Type 0) (e : List (ℕ × Tree ℕ)) (t : Tree ℕ) → AllTerms e P → 0 < coef tree_discrete e t → P t

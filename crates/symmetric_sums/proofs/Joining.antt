@@ -11,12 +11,13 @@ use Rattle.modular_sums.proofs.Residues.{alike_add}
 use Rattle.labelled_trees.specs.Trees.{Tree}
 use Rattle.labelled_trees.specs.Equality.{tree_discrete}
 use Rattle.labelled_trees.specs.Meaning.{tree_of}
-use Rattle.symmetric_trees.specs.SpellingOrder.{order}
-use Rattle.symmetric_trees.proofs.TreeOrder.{order_is_total}
-use Rattle.symmetric_sums.specs.Collecting.{Pairs, NotBefore, Before, IsResidue, JoinedTo, apart, added, cancelled, AreJoined}
+use Rattle.operad_ideals.specs.SpellingOrder.{order}
+use Rattle.operad_ideals.proofs.TreeOrder.{order_is_total}
+use Rattle.symmetric_sums.specs.Collecting.{NotBefore, Before, IsResidue, JoinedTo, apart, added, cancelled, AreJoined}
+use Rattle.operad_ideals.specs.Pairs.{Pairs}
 use Rattle.symmetric_sums.specs.declared.term.Term.{Term}
 use Rattle.operad_ideals.proofs.SortedLists.{every_weaker}
-use Rattle.symmetric_sums.proofs.LastOnes.{each-push, each-pop, pairs-push, pairs-pop, last_one, one_last}
+use Rattle.operad_ideals.proofs.LastOnes.{each-push, each-pop, pairs-push, pairs-pop, last_one, one_last}
 use Rattle.symmetric_sums.proofs.Weights.{weight, share, weight-nil, weight-push, two_hits}
 
 -- ---- the order

@@ -2,17 +2,13 @@ pub mod Decisions
 pub mod EqualTerms
 pub mod Expansions
 pub mod FormTrees
-pub mod Forms
 pub mod Joining
-pub mod LastOnes
 pub mod MadeSums
 pub mod Members
 pub mod Numberings
 pub mod OneForms
 pub mod PlacedIdeals
-pub mod ReducedSums
 pub mod SpelledTerms
 pub mod SymmetryRules
-pub mod TreeLists
 pub mod UseMembers
 pub mod Weights

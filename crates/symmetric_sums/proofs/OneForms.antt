@@ -21,7 +21,7 @@ use Rattle.operad_ideals.proofs.Agreement.{agreement_keeps_labels}
 use Rattle.operad_ideals.proofs.HoleInstances.{ideals_are_one}
 use Rattle.operad_ideals.proofs.Ideals.{ideal-append, ideal-same}
 use Rattle.operad_ideals.proofs.Spellings.{one_spelling}
-use Rattle.symmetric_sums.specs.Collected.{HaveOneForm}
+use Rattle.operad_ideals.specs.Collected.{HaveOneForm}
 use Rattle.operad_ideals.specs.SpelledSums.{spelled_sum}
 use Rattle.operad_ideals.proofs.Collected.{less_collected}
 use Rattle.symmetric_sums.proofs.Decisions.{form-same, collected_decide}

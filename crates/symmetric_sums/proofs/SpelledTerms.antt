@@ -21,19 +21,20 @@ use Rattle.operad_ideals.proofs.Agreement.{agreement_keeps_labels}
 use Rattle.symmetric_trees.specs.Generators.{parts_at}
 use Rattle.symmetric_trees.specs.Trees.{Fits, IsLabelled}
 use Rattle.symmetric_trees.specs.Spelling as program
-use Rattle.symmetric_trees.specs.SpellingOrder.{order}
+use Rattle.operad_ideals.specs.SpellingOrder.{order}
 use Rattle.symmetric_trees.specs.declared.generators.Generator.{Generator}
 use Rattle.symmetric_trees.specs.declared.spelling.Sign.{Sign}
 use Rattle.symmetric_trees.specs.declared.spelling.Sign.TheVariants.{Plus, Minus}
 use Rattle.std.specs.declared.cmp.Ordering.TheVariants.{Less}
 use Rattle.symmetric_sums.specs.Terms.{terms_of, HaveArity, IsSum}
-use Rattle.symmetric_sums.specs.Collected.{IsCollected}
-use Rattle.symmetric_sums.specs.Collecting.{Pairs, Before, IsResidue, IsSpellingOf, AreSpellings, AreJoined}
+use Rattle.operad_ideals.specs.Collected.{IsCollected}
+use Rattle.symmetric_sums.specs.Collecting.{Before, IsResidue, IsSpellingOf, AreSpellings, AreJoined}
+use Rattle.operad_ideals.specs.Pairs.{Pairs}
 use Rattle.symmetric_sums.specs.declared.term.Term.{Term}
 use Rattle.symmetric_sums.proofs.Numberings.{arity_is}
 use Rattle.labelled_trees.proofs.Numbered.{numbered_of_labelled, labelled_of_numbered}
 use Rattle.operad_ideals.proofs.SortedLists.{every_weaker}
-use Rattle.symmetric_sums.proofs.LastOnes.{AllPairs-from_pairs}
+use Rattle.operad_ideals.proofs.LastOnes.{AllPairs-from_pairs}
 use Rattle.symmetric_sums.proofs.Weights.{weight, share, weight-permutation, alike_hit}
 
 -- a residue times a sign

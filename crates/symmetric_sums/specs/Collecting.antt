@@ -11,16 +11,12 @@ use Rattle.labelled_trees.specs.Equality.{tree_discrete}
 use Rattle.labelled_trees.specs.Meaning.{tree_of}
 use Rattle.operad_ideals.specs.Sorting.{spelled, spelled_sign}
 use Rattle.operad_ideals.specs.Presentations.{residue_of}
+use Rattle.operad_ideals.specs.Pairs.{Pairs}
 use Rattle.symmetric_trees.specs.Generators.{parts_at}
-use Rattle.symmetric_trees.specs.SpellingOrder.{order}
+use Rattle.operad_ideals.specs.SpellingOrder.{order}
 use Rattle.symmetric_trees.specs.declared.generators.Generator.{Generator}
 use Rattle.symmetric_sums.specs.Terms.{terms_of}
 use Rattle.symmetric_sums.specs.declared.term.Term.{Term}
-
--- R holds of each thing and each later one
-abbrev pub Pairs : {X : Type 0} → (X → X → Type 0) → List X → Type 0
-Pairs R [] = Unit {0}
-Pairs R (x ∷ xs) = AllByRecursion (R x) xs × Pairs R xs
 
 -- the tree of the one term isn't before that of the other
 abbrev pub NotBefore : Term → Term → Type 0

@@ -1,5 +1,4 @@
 pub mod Calls
-pub mod Collected
 pub mod Collecting
 pub mod Expanding
 pub mod Instances

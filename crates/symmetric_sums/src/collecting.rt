@@ -5,8 +5,9 @@ ghost use Rattle.operad_ideals.specs.Presentations.{Presentation};
 ghost use Rattle.symmetric_trees.specs.Generators.{parts_at};
 ghost use Rattle.symmetric_trees.specs.Trees.{Fits, IsLabelled};
 ghost use Rattle.symmetric_sums.specs.Terms.{HaveArity, HaveResidues, terms_of};
-ghost use Rattle.symmetric_sums.specs.Collected.{CollectedFormsDecide, IsCollected, OneCollectedForm};
-ghost use Rattle.symmetric_sums.specs.Collecting.{AreJoined, AreSpellings, IsResidue, IsSpellingOf, JoinedTo, NotBefore, Pairs};
+ghost use Rattle.operad_ideals.specs.Collected.{CollectedFormsDecide, IsCollected, OneCollectedForm};
+ghost use Rattle.symmetric_sums.specs.Collecting.{AreJoined, AreSpellings, IsResidue, IsSpellingOf, JoinedTo, NotBefore};
+ghost use Rattle.operad_ideals.specs.Pairs.{Pairs};
 
 use crate::{Sum, Term};
 use prime_field::Field;

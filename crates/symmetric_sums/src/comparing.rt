@@ -1,7 +1,7 @@
 ghost use Rattle.std.specs.Prelude.{◌≡◌, ◌↔◌, IfOk, IsTrue};
 ghost use Rattle.symmetric_trees.specs.Generators.{parts_at};
 ghost use Rattle.symmetric_sums.specs.Terms.{FitsOver, terms_of};
-ghost use Rattle.symmetric_sums.specs.Collected.{HaveOneForm};
+ghost use Rattle.operad_ideals.specs.Collected.{HaveOneForm};
 
 use crate::{Sum, Term, collected};
 use prime_field::Field;

@@ -3,4 +3,3 @@ pub mod GraftedTrees
 pub mod LeastOf
 pub mod SpellingSteps
 pub mod Tables
-pub mod TreeOrder

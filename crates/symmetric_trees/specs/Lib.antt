@@ -2,4 +2,3 @@ pub mod Generators
 pub mod Trees
 pub mod LeafCounts
 pub mod Spelling
-pub mod SpellingOrder

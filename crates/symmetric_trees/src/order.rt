@@ -1,6 +1,6 @@
 ghost use Rattle.std.specs.Prelude.{◌≡◌};
 ghost use Rattle.labelled_trees.specs.Meaning.{tree_of};
-ghost use Rattle.symmetric_trees.specs.SpellingOrder.{OrderIsTotal, order};
+ghost use Rattle.operad_ideals.specs.SpellingOrder.{OrderIsTotal, order};
 
 use labelled_trees::Tree;
 use std::cmp::Ordering;

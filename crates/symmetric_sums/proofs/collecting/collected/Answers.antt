@@ -4,7 +4,7 @@ use Rattle.labelled_trees.specs.Meaning.{tree_of}
 use Rattle.symmetric_trees.specs.Generators.{parts_at}
 use Rattle.symmetric_trees.specs.Trees.{IsLabelled}
 use Rattle.symmetric_sums.specs.Terms.{HaveResidues, terms_of}
-use Rattle.symmetric_sums.specs.Collected.{IsCollected}
+use Rattle.operad_ideals.specs.Collected.{IsCollected}
 use Rattle.symmetric_sums.specs.declared.term.Term.{Term}
 use Rattle.symmetric_sums.proofs.Numberings.{one_arity}
 use Rattle.symmetric_sums.proofs.SpelledTerms.{written-residues, form-made, form-sum}

@@ -2,7 +2,7 @@ use Rattle.std.proofs.Common.{◌-◌, ◌<◌, ◌%◌, suc, ◌∙◌, sym, ap
 use Rattle.std.specs.List.{AllByRecursion}
 use Rattle.labelled_trees.specs.Meaning.{tree_of}
 use Rattle.symmetric_sums.specs.Collecting.{IsResidue, added, cancelled}
-use Rattle.symmetric_sums.proofs.LastOnes.{each-pop}
+use Rattle.operad_ideals.proofs.LastOnes.{each-pop}
 use Rattle.symmetric_sums.proofs.Joining.{trees_differ, trees_agree, apart-last}
 use Rattle.symmetric_sums.proofs.collecting.join.Goals as goal
 

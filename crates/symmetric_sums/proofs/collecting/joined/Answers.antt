@@ -1,7 +1,7 @@
 use Rattle.std.proofs.Common.{[], ◌≡◌, ◌-◌, ◌++◌, ◌∙◌, ap, take, subst, sym}
 use Rattle.std.specs.List.{AllByRecursion}
 use Rattle.symmetric_sums.specs.Collecting.{IsResidue}
-use Rattle.symmetric_sums.proofs.LastOnes.{each-pop}
+use Rattle.operad_ideals.proofs.LastOnes.{each-pop}
 use Rattle.symmetric_sums.proofs.Joining.{way-start, way-step, way-end, IsOnTheWay}
 use Rattle.symmetric_sums.proofs.collecting.joined.Goals as goal
 

@@ -2,11 +2,11 @@ use Rattle.std.proofs.Common.{rules, arith}
 use Rattle.std.specs.Ordering.{is_lt}
 use Rattle.std.proofs.lemmas.List.Sorted.{answers_always, ranks_by, sorted_far, IsStrictWeakOrder-flip}
 use Rattle.labelled_trees.specs.Meaning.{tree_of}
-use Rattle.symmetric_trees.specs.SpellingOrder.{order}
-use Rattle.symmetric_trees.proofs.TreeOrder.{total_order}
+use Rattle.operad_ideals.specs.SpellingOrder.{order}
+use Rattle.operad_ideals.proofs.TreeOrder.{total_order}
 use Rattle.symmetric_sums.specs.Collecting.{NotBefore}
 use Rattle.symmetric_sums.specs.declared.term.Term.{Term}
-use Rattle.symmetric_sums.proofs.LastOnes.{pairs_from_AllPairs}
+use Rattle.operad_ideals.proofs.LastOnes.{pairs_from_AllPairs}
 use Rattle.symmetric_sums.proofs.collecting.sort_from_last.Goals as goal
 
 pub returns-clause-order : goal.returns-clause-order

@@ -1,8 +1,8 @@
 use Rattle.std.proofs.Common.{◌≡◌, ◌∙◌, ◌<◌, ap, sym, subst, arith}
 use Rattle.symmetric_trees.specs.Generators.{parts_at}
 use Rattle.symmetric_sums.specs.Terms.{terms_of}
-use Rattle.symmetric_sums.specs.Collected.{IsCollected}
-use Rattle.symmetric_sums.proofs.Forms.{one_collected}
+use Rattle.operad_ideals.specs.Collected.{IsCollected}
+use Rattle.operad_ideals.proofs.Forms.{one_collected}
 use Rattle.symmetric_sums.proofs.comparing.have_one_form.Goals as goal
 
 pub returns : goal.returns

@@ -1,5 +1,5 @@
 use Rattle.std.proofs.Common.{◌≡◌, ap, arith, length}
-use Rattle.symmetric_trees.proofs.TreeOrder.{vertices-order, ended-less, ended-equal}
+use Rattle.operad_ideals.proofs.TreeOrder.{vertices-order, ended-less, ended-equal}
 use Rattle.symmetric_trees.proofs.order.+spelling_order.Goals as goal
 
 pub returns-then-len : goal.returns-then-len

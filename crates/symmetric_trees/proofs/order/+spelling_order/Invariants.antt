@@ -1,7 +1,7 @@
 use Rattle.std.proofs.Common.{◌≡◌, map, drop}
 use Rattle.labelled_trees.specs.Meaning.{tree_of}
 use Rattle.labelled_trees.specs.Trees.{row}
-use Rattle.symmetric_trees.specs.SpellingOrder.{order_row}
+use Rattle.operad_ideals.specs.SpellingOrder.{order_row}
 use Rattle.symmetric_trees.proofs.order.+spelling_order.Given as goal
 
 abbrev pub decreases-spelling_order : goal.decreases-spelling_order

@@ -1,4 +1,4 @@
-use Rattle.symmetric_trees.proofs.TreeOrder.{order_is_total}
+use Rattle.operad_ideals.proofs.TreeOrder.{order_is_total}
 use Rattle.symmetric_trees.proofs.order.spelling_order_is_total.Goals as goal
 
 pub returns : goal.returns

@@ -11,7 +11,7 @@ use Rattle.labelled_trees.specs.declared.Tree.TheVariants.{Leaf, Node}
 use Rattle.std.proofs.lemmas.Map.Lookups.{exact_unsigned}
 use Rattle.labelled_trees.proofs.Orderings.{then_equal}
 use Rattle.labelled_trees.proofs.ProgramTrees.{tree_of-node}
-use Rattle.symmetric_trees.specs.SpellingOrder.{order, order_row, OrderIsTotal}
+use Rattle.operad_ideals.specs.SpellingOrder.{order, order_row, OrderIsTotal}
 
 nat_cmp-self : (m : ℕ) → nat_cmp m m ≡ Equal
 nat_cmp-self m = sym (nat_cmp_is m m Equal refl)

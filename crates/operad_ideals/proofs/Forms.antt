@@ -13,12 +13,12 @@ use Rattle.modular_sums.proofs.Coefficients.{coef_nothing}
 use Rattle.labelled_trees.specs.Trees.{Tree}
 use Rattle.labelled_trees.specs.Equality.{tree_discrete}
 use Rattle.operad_ideals.specs.Parts.{Part}
-use Rattle.symmetric_trees.specs.SpellingOrder.{order}
-use Rattle.symmetric_trees.proofs.TreeOrder.{order_is_total}
-use Rattle.symmetric_sums.specs.Collected.{IsReduced, OneCollectedForm}
-use Rattle.symmetric_sums.specs.Collecting.{Pairs}
+use Rattle.operad_ideals.specs.SpellingOrder.{order}
+use Rattle.operad_ideals.proofs.TreeOrder.{order_is_total}
+use Rattle.operad_ideals.specs.Collected.{IsReduced, OneCollectedForm}
+use Rattle.operad_ideals.specs.Pairs.{Pairs}
 use Rattle.operad_ideals.proofs.SortedLists.{every_weaker}
-use Rattle.symmetric_sums.proofs.LastOnes.{pairs_from_AllPairs}
+use Rattle.operad_ideals.proofs.LastOnes.{pairs_from_AllPairs}
 
 -- the coefficient of t, where t is first, and where it isn't
 coef-here : (x : ℕ × Tree ℕ) (e : List (ℕ × Tree ℕ)) → coef tree_discrete (x ∷ e) x.1 ≡ x.0 + coef tree_discrete e x.1

@@ -11,7 +11,7 @@ use Rattle.operad_ideals.specs.Spelling.{IsSorted}
 use Rattle.operad_ideals.specs.Presentations.{Presentation, parts, arity_of, without_relations}
 use Rattle.operad_ideals.specs.SpelledSums.{spelled_sum}
 use Rattle.operad_ideals.specs.Ideals.{InIdeal}
-use Rattle.symmetric_trees.specs.SpellingOrder.{order}
+use Rattle.operad_ideals.specs.SpellingOrder.{order}
 
 -- A list of terms is reduced: each tree is sorted, the trees stand in the spelling order, each once, and each number is a
 -- residue modulo p other than 0.

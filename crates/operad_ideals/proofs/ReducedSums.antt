@@ -19,12 +19,12 @@ use Rattle.labelled_trees.specs.Trees.{Tree}
 use Rattle.labelled_trees.specs.Equality.{tree_discrete}
 use Rattle.operad_ideals.specs.Parts.{Part}
 use Rattle.operad_ideals.specs.Spelling.{IsSorted}
-use Rattle.symmetric_trees.specs.SpellingOrder.{order}
-use Rattle.symmetric_sums.specs.Collected.{IsReduced}
-use Rattle.symmetric_sums.specs.Collecting.{Pairs}
-use Rattle.symmetric_sums.proofs.Forms.{coef-other, coef-first, not_itself, one_reduced}
-use Rattle.symmetric_sums.proofs.LastOnes.{AllPairs-from_pairs}
-use Rattle.symmetric_sums.proofs.TreeLists.{Trees, Ascending, each_member, sorted, sorted_ascending, sorted_has}
+use Rattle.operad_ideals.specs.SpellingOrder.{order}
+use Rattle.operad_ideals.specs.Collected.{IsReduced}
+use Rattle.operad_ideals.specs.Pairs.{Pairs}
+use Rattle.operad_ideals.proofs.Forms.{coef-other, coef-first, not_itself, one_reduced}
+use Rattle.operad_ideals.proofs.LastOnes.{AllPairs-from_pairs}
+use Rattle.operad_ideals.proofs.TreeLists.{Trees, Ascending, each_member, sorted, sorted_ascending, sorted_has}
 
 abbrev Sum : Type 0
 Sum = List (ℕ × Tree ℕ)

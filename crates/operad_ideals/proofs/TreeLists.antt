@@ -6,10 +6,10 @@ use Rattle.std.specs.declared.cmp.Ordering.TheVariants.{Less, Equal, Greater}
 use Rattle.std.specs.Ordering.{ordering_reverse}
 use Rattle.modular_sums.specs.Lists.{Mem, Distinct}
 use Rattle.labelled_trees.specs.Trees.{Tree}
-use Rattle.symmetric_trees.specs.SpellingOrder.{order}
-use Rattle.symmetric_trees.proofs.TreeOrder.{order_is_total}
-use Rattle.symmetric_sums.specs.Collecting.{Pairs}
-use Rattle.symmetric_sums.proofs.Forms.{not_itself}
+use Rattle.operad_ideals.specs.SpellingOrder.{order}
+use Rattle.operad_ideals.proofs.TreeOrder.{order_is_total}
+use Rattle.operad_ideals.specs.Pairs.{Pairs}
+use Rattle.operad_ideals.proofs.Forms.{not_itself}
 
 abbrev pub Trees : Type 0
 Trees = List (Tree ℕ)
