@@ -18,7 +18,6 @@ pub mod Relabelled
 pub mod RelabelledBack
 pub mod Relabelling
 pub mod RelationSums
-pub mod SpellingLists
 pub mod ThreeShapes
 pub mod TreeSigns
 pub mod TwiceDual
