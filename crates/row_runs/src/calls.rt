@@ -1,19 +1,17 @@
 use crate::fail::RowFail;
-use crate::stores;
+use crate::{checking, comparing, elements, passing, reading, shuffle, stores, symmetric, texts};
 use presentation_text::{Document, ReadDocFail, read_document};
 use std::alloc::{AllocError, Global};
 
 // The most bytes that a document has.
 const MOST_BYTES: usize = 16_777_216;
 
-// The document of a row.
-fn document_of(alloc: Global, heading: &[u8], text: &[u8]) -> Result<Document, RowFail> {
-    let mut bytes = heading.to_vec(alloc)?;
-    bytes.extend_from_slice(text)?;
+// The document of a text.
+fn document_of(alloc: Global, bytes: &[u8]) -> Result<Document, RowFail> {
     if bytes.len() > MOST_BYTES {
         return Err(RowFail::Refused);
     }
-    match read_document(alloc, &bytes) {
+    match read_document(alloc, bytes) {
         Ok(document) => Ok(document),
         Err(ReadDocFail::NoMemory) => Err(RowFail::NoMemory),
         Err(ReadDocFail::At(_)) => Err(RowFail::Refused),
@@ -47,6 +45,54 @@ fn answer(
     }
 }
 
+// Calls what the name says, where words spell its arguments. False where there is no such call.
+fn word_answer(
+    alloc: Global,
+    name: &str,
+    words: &[String],
+    document: &Document,
+    out: &mut Vec<u8>,
+) -> Result<bool, RowFail> {
+    if symmetric::answer(alloc, name, words, &document.gens, out)? {
+        return Ok(true);
+    }
+    if elements::answer(alloc, name, words, document, out)? {
+        return Ok(true);
+    }
+    if reading::answer(alloc, name, words, document, out)? {
+        return Ok(true);
+    }
+    if checking::answer(alloc, name, words, document, out)? {
+        return Ok(true);
+    }
+    if shuffle::answer(alloc, name, words, out)? {
+        return Ok(true);
+    }
+    if passing::answer(alloc, name, words, document, out)? {
+        return Ok(true);
+    }
+    comparing::answer(alloc, name, words, document, out)
+}
+
+// Calls what the name says: on the text, on words, or on numbers.
+fn any_answer(
+    alloc: Global,
+    name: &str,
+    words: &[String],
+    text: &[u8],
+    out: &mut Vec<u8>,
+) -> Result<(), RowFail> {
+    if texts::answer(alloc, name, text, out)? {
+        return Ok(());
+    }
+    let document = document_of(alloc, text)?;
+    if word_answer(alloc, name, words, &document, out)? {
+        return Ok(());
+    }
+    let numbers = numbers_of(alloc, words)?;
+    answer(alloc, name, numbers.as_slice(), &document, out)
+}
+
 /// Writes the answer of a call behind `out`.
 pub fn call(
     alloc: Global,
@@ -56,14 +102,9 @@ pub fn call(
     text: &[u8],
     out: &mut Vec<u8>,
 ) -> Result<(), AllocError> {
-    let answered = match numbers_of(alloc, words) {
-        Ok(numbers) => match document_of(alloc, heading, text) {
-            Ok(document) => answer(alloc, name, numbers.as_slice(), &document, out),
-            Err(fail) => Err(fail),
-        },
-        Err(fail) => Err(fail),
-    };
-    match answered {
+    let mut whole = heading.to_vec(alloc)?;
+    whole.extend_from_slice(text)?;
+    match any_answer(alloc, name, words, &whole, out) {
         Ok(()) => Ok(()),
         Err(RowFail::NoMemory) => Err(AllocError),
         Err(RowFail::Refused) => out.extend_from_slice(b"refused\n"),

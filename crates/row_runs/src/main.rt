@@ -9,11 +9,22 @@
 
 mod arguments;
 mod calls;
+mod checking;
+mod checks;
+mod comparing;
+mod elements;
 mod fail;
+mod lines;
+mod passing;
 mod printing;
+mod reading;
 mod rows;
 mod runs;
+mod shuffle;
+mod spelling;
 mod stores;
+mod symmetric;
+mod texts;
 
 use outside_io::{RealSink, RealSource, read_all, write_all};
 use rows::run_all;
