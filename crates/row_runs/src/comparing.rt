@@ -97,28 +97,55 @@ fn compare(
     }
 }
 
-// Writes the block of a tree with at most 16 leaves.
+// Puts the tree, with at most 16 leaves, into the store and writes its block.
+fn put_block<O: TreeOrder>(
+    alloc: Global,
+    store: &mut Store,
+    order: &O,
+    tree: &STree,
+    blocks: &mut Blocks,
+) -> Result<(), RowFail> {
+    let Some(leaves) = tree.arity() else {
+        return Err(RowFail::Refused);
+    };
+    if leaves > 16 {
+        return Err(RowFail::Refused);
+    }
+    let id = store.put(alloc, tree)?;
+    order.write_block(&flat_key(store, id), blocks)?;
+    Ok(())
+}
+
+// Writes the number of a block's numbers, and these.
+fn end_block(block: &[u16], out: &mut Vec<u8>) -> Result<(), RowFail> {
+    write_number(block.len() as u64, out)?;
+    out.push(b':')?;
+    for number in block {
+        write_next(u64::from(*number), out)?;
+    }
+    Ok(end_line("", out)?)
+}
+
+// Writes the block of the tree that a word spells.
 fn write_block<O: TreeOrder>(
     alloc: Global,
     order: &O,
     word: &String,
     out: &mut Vec<u8>,
 ) -> Result<(), RowFail> {
-    let tree = shuffle_of(alloc, word)?;
-    match tree.arity() {
-        Some(arity) if arity <= 16 => {}
-        _ => return Err(RowFail::Refused),
-    }
     let mut store = Store::new(alloc);
-    let id = store.put(alloc, &tree)?;
     let mut blocks = Blocks::new(alloc);
-    order.write_block(&flat_key(&store, id), &mut blocks)?;
-    write_number(blocks.len() as u64, out)?;
-    out.push(b':')?;
-    for number in blocks.get(0) {
-        write_next(u64::from(*number), out)?;
+    put_block(
+        alloc,
+        &mut store,
+        order,
+        &shuffle_of(alloc, word)?,
+        &mut blocks,
+    )?;
+    for at in 0..blocks.len() {
+        end_block(blocks.get(at), out)?;
     }
-    Ok(end_line("", out)?)
+    Ok(())
 }
 
 // The block of a tree by the document's order.

@@ -3,8 +3,10 @@
 //!
 //! Where the first word names a program, what is printed is the line `> STATUS`, the status by its number, and what the run
 //! wrote. Where it is `call`, the second word names a call of one of the crates, and numbers may follow. Its arguments are
-//! the questions of a document: the text of the last row `> heading`, and behind it the row's own. What is printed is the
-//! row's line, and the answer; or `refused`, where the arguments are none for this call.
+//! the questions of a document: the text of the last row `> heading`, and behind it the row's own. Words may follow in place
+//! of the numbers: names, and trees that no document need hold, as `0(1,0(2,3))` by the numbers of the generators or labels
+//! and of the leaves. What is printed is the row's line, and the answer; or `refused`, where the arguments are none for this
+//! call.
 #![tactic(auto)]
 
 mod arguments;

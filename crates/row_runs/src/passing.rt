@@ -105,7 +105,10 @@ fn framed(
 ) -> Result<(), RowFail> {
     let labels = labels_of(alloc, table)?;
     let frame = frame_of(alloc, words)?;
-    if !belongs(frame.context(), &labels) || !all_belong(frame.inputs(), &labels) {
+    if !belongs(frame.context(), &labels) {
+        return Err(RowFail::Refused);
+    }
+    if !all_belong(frame.inputs(), &labels) {
         return Err(RowFail::Refused);
     }
     let (context, inputs) = frame_to_context(alloc, table, &frame)?;

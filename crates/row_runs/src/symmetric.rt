@@ -160,11 +160,12 @@ fn grafted(alloc: Global, words: &[String], out: &mut Vec<u8>) -> Result<(), Row
         return Err(RowFail::Refused);
     };
     let tree = tree_of(alloc, tree)?;
-    let inputs = trees_of(alloc, inputs)?;
+    let given = trees_of(alloc, inputs)?;
+    let inputs = given.as_slice();
     if !is_within(&tree, inputs.len()) {
         return Err(RowFail::Refused);
     }
-    Ok(end_tree(&graft(alloc, &tree, inputs.as_slice())?, out)?)
+    Ok(end_tree(&graft(alloc, &tree, inputs)?, out)?)
 }
 
 // Writes the first tree, a context, filled with the second one, on which the others are grafted.
@@ -174,11 +175,12 @@ fn filled(alloc: Global, words: &[String], out: &mut Vec<u8>) -> Result<(), RowF
     };
     let context = tree_of(alloc, context)?;
     let tree = tree_of(alloc, tree)?;
-    let inputs = trees_of(alloc, inputs)?;
+    let given = trees_of(alloc, inputs)?;
+    let inputs = given.as_slice();
     if !is_within(&tree, inputs.len()) {
         return Err(RowFail::Refused);
     }
-    let filled = fill(alloc, &context, &tree, inputs.as_slice())?;
+    let filled = fill(alloc, &context, &tree, inputs)?;
     Ok(end_tree(&filled, out)?)
 }
 
