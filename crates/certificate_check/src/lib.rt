@@ -7,6 +7,3 @@ mod uses;
 
 pub use answer::{CheckAnswer, CheckCause};
 pub use checking::{check_block, check_steps, held_blocks_are_members};
-
-#[cfg(test)]
-mod tests;

@@ -12,6 +12,3 @@ pub use block::{Block, Step};
 pub use cert_fail::{CertFail, ReadCertFail};
 pub use reading::{blocks_are_accepted, read_blocks};
 pub use writing::{print_block, printed_blocks_are_read_back, write_block};
-
-#[cfg(test)]
-mod tests;

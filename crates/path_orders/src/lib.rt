@@ -13,6 +13,3 @@ pub use orders::{
     LeafPath, Path, PathShort, TreeOrder, WeightPath, flat_keys_are_seen, keys_are_alike,
     keys_are_seen,
 };
-
-#[cfg(test)]
-mod tests;

@@ -40,10 +40,3 @@ pub use writing::{
     print_sum, print_tree, printed_sums_are_read_back, printed_trees_are_read_back, write_number,
     write_sum, write_tree,
 };
-
-#[cfg(test)]
-mod presentations_tests;
-#[cfg(test)]
-mod terms_tests;
-#[cfg(test)]
-mod tests;

@@ -1,19 +1,26 @@
+ghost use Rattle.std.specs.Prelude.{IfOk};
+ghost use Rattle.std.specs.List.{All};
+ghost use Rattle.symmetric_sums.specs.Terms.{FitsOver};
+
 use crate::fail::RowFail;
-use crate::{cones, divisions, id_sums, logs, places, sorting, stores};
+use crate::{
+    checking, comparing, cones, divisions, elements, id_sums, logs, passing, places, reading,
+    shuffle, sorting, stores, symmetric, texts,
+};
 use presentation_text::{Document, ReadDocFail, read_document};
 use std::alloc::{AllocError, Global};
 
 // The most bytes that a document has.
 const MOST_BYTES: usize = 16_777_216;
 
-// The document of a row.
-fn document_of(alloc: Global, heading: &[u8], text: &[u8]) -> Result<Document, RowFail> {
-    let mut bytes = heading.to_vec(alloc)?;
-    bytes.extend_from_slice(text)?;
+// The document of a text.
+fn document_of(alloc: Global, bytes: &[u8]) -> Result<Document, RowFail>
+    ensures fit { IfOk result (λ document. All (FitsOver document.field document.gens) document.rels) }
+{
     if bytes.len() > MOST_BYTES {
         return Err(RowFail::Refused);
     }
-    match read_document(alloc, &bytes) {
+    match read_document(alloc, bytes) {
         Ok(document) => Ok(document),
         Err(ReadDocFail::NoMemory) => Err(RowFail::NoMemory),
         Err(ReadDocFail::At(_)) => Err(RowFail::Refused),
@@ -32,32 +39,87 @@ fn numbers_of(alloc: Global, words: &[String]) -> Result<Vec<u32>, RowFail> {
     Ok(numbers)
 }
 
-// Calls what the name says.
-fn answer(
+// Calls what the name says, where numbers are its arguments. False where there is no such call.
+fn number_answer(
     alloc: Global,
     name: &str,
     numbers: &[u32],
     document: &Document,
     out: &mut Vec<u8>,
-) -> Result<(), RowFail> {
+) -> Result<bool, RowFail>
+    requires fit { All (FitsOver document.now.field document.now.gens) document.now.rels }
+{
     match name {
-        "Store::put" => stores::put(alloc, document, out),
-        "Store::vertex" => stores::vertex(alloc, document, numbers, out),
-        "places_of" => places::all(alloc, document, out),
-        "first_place" => places::first(alloc, document, out),
-        "Place::of" => places::cut(alloc, document, numbers, out),
-        "sort_blocks" => sorting::blocks(alloc, document, out),
-        "sorted" => sorting::all(alloc, document, numbers, out),
-        "SSum::add_scaled" => id_sums::add_scaled(alloc, document, numbers, out),
-        "Shelf::shelve" => id_sums::shelve(alloc, document, out),
-        "Basis::add" => id_sums::basis(alloc, document, out),
-        "insert_at_root" => divisions::at_root(alloc, document, out),
-        "step" => divisions::tail(alloc, document, out),
-        "gather" => divisions::gathered(alloc, document, out),
-        "reduce_row" => cones::reduced(alloc, document, numbers, out),
-        "Log::push" => logs::push(alloc, document, out),
-        "entry_for" => logs::entry(alloc, document, numbers, out),
-        _ => Err(RowFail::Refused),
+        "Store::put" => stores::put(alloc, document, out)?,
+        "Store::vertex" => stores::vertex(alloc, document, numbers, out)?,
+        "places_of" => places::all(alloc, document, out)?,
+        "first_place" => places::first(alloc, document, out)?,
+        "Place::of" => places::cut(alloc, document, numbers, out)?,
+        "sort_blocks" => sorting::blocks(alloc, document, out)?,
+        "sorted" => sorting::all(alloc, document, numbers, out)?,
+        "SSum::add_scaled" => id_sums::add_scaled(alloc, document, numbers, out)?,
+        "Shelf::shelve" => id_sums::shelve(alloc, document, out)?,
+        "Basis::add" => id_sums::basis(alloc, document, out)?,
+        "insert_at_root" => divisions::at_root(alloc, document, out)?,
+        "step" => divisions::tail(alloc, document, out)?,
+        "gather" => divisions::gathered(alloc, document, out)?,
+        "reduce_row" => cones::reduced(alloc, document, numbers, out)?,
+        "Log::push" => logs::push(alloc, document, out)?,
+        "entry_for" => logs::entry(alloc, document, numbers, out)?,
+        _ => return Ok(false),
+    }
+    Ok(true)
+}
+
+// Calls what the name says, where words spell its arguments. False where there is no such call.
+fn word_answer(
+    alloc: Global,
+    name: &str,
+    words: &[String],
+    document: &Document,
+    out: &mut Vec<u8>,
+) -> Result<bool, RowFail> {
+    if symmetric::answer(alloc, name, words, &document.gens, out)? {
+        return Ok(true);
+    }
+    if elements::answer(alloc, name, words, document, out)? {
+        return Ok(true);
+    }
+    if reading::answer(alloc, name, words, document, out)? {
+        return Ok(true);
+    }
+    if checking::answer(alloc, name, words, document, out)? {
+        return Ok(true);
+    }
+    if shuffle::answer(alloc, name, words, out)? {
+        return Ok(true);
+    }
+    if passing::answer(alloc, name, words, document, out)? {
+        return Ok(true);
+    }
+    comparing::answer(alloc, name, words, document, out)
+}
+
+// Calls what the name says: on the text, on words, or on numbers.
+fn any_answer(
+    alloc: Global,
+    name: &str,
+    words: &[String],
+    text: &[u8],
+    out: &mut Vec<u8>,
+) -> Result<(), RowFail> {
+    if texts::answer(alloc, name, text, out)? {
+        return Ok(());
+    }
+    let document = document_of(alloc, text)?;
+    if word_answer(alloc, name, words, &document, out)? {
+        return Ok(());
+    }
+    let numbers = numbers_of(alloc, words)?;
+    if number_answer(alloc, name, numbers.as_slice(), &document, out)? {
+        Ok(())
+    } else {
+        Err(RowFail::Refused)
     }
 }
 
@@ -70,14 +132,9 @@ pub fn call(
     text: &[u8],
     out: &mut Vec<u8>,
 ) -> Result<(), AllocError> {
-    let answered = match numbers_of(alloc, words) {
-        Ok(numbers) => match document_of(alloc, heading, text) {
-            Ok(document) => answer(alloc, name, numbers.as_slice(), &document, out),
-            Err(fail) => Err(fail),
-        },
-        Err(fail) => Err(fail),
-    };
-    match answered {
+    let mut whole = heading.to_vec(alloc)?;
+    whole.extend_from_slice(text)?;
+    match any_answer(alloc, name, words, &whole, out) {
         Ok(()) => Ok(()),
         Err(RowFail::NoMemory) => Err(AllocError),
         Err(RowFail::Refused) => out.extend_from_slice(b"refused\n"),

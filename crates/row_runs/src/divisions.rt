@@ -107,7 +107,7 @@ struct Working {
     groups: Items<Items<u32>>,
 }
 
-fn working(alloc: Global, document: &Document, store: &mut Store) -> Result<Working, RowFail>
+fn one_element(alloc: Global, document: &Document, store: &mut Store) -> Result<Working, RowFail>
     ensures working { IfOk result (λ made. IsWorking store.new made.reducers made.groups [] []) }
     ensures room { IfOk result (λ made. HaveRoom made.reducers 16) }
 {
@@ -125,7 +125,7 @@ fn working(alloc: Global, document: &Document, store: &mut Store) -> Result<Work
 /// divides no place.
 pub fn tail(alloc: Global, document: &Document, out: &mut Vec<u8>) -> Result<(), RowFail> {
     let mut store = Store::new(alloc);
-    let made = working(alloc, document, &mut store)?;
+    let made = one_element(alloc, document, &mut store)?;
     let host = store.put(alloc, &shuffle_tree(alloc, document, 1)?)?;
     let mut found = Items::new(alloc);
     let mut kept = Items::new(alloc);
@@ -147,7 +147,7 @@ pub fn tail(alloc: Global, document: &Document, out: &mut Vec<u8>) -> Result<(),
 /// trees of its tail, and then the tree.
 pub fn gathered(alloc: Global, document: &Document, out: &mut Vec<u8>) -> Result<(), RowFail> {
     let mut store = Store::new(alloc);
-    let made = working(alloc, document, &mut store)?;
+    let made = one_element(alloc, document, &mut store)?;
     let host = store.put(alloc, &shuffle_tree(alloc, document, 1)?)?;
     let mut found = Items::new(alloc);
     let mut kept = Items::new(alloc);

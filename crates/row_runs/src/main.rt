@@ -2,25 +2,40 @@
 //! to the next such line; behind `<` the text's last line feed is left out.
 //!
 //! Where the first word names a program, what is printed is the line `> STATUS`, the status by its number, and what the run
-//! wrote. A row `> outside CHUNK READ WRITE COMMENT` before it says how many bytes the source gives and the sink takes in a call,
-//! which call of each fails (0 for none), and how many bytes of a comment stand before the text. Where the first word is `call`, the second word names a call of one of the crates, and numbers may follow. Its arguments are
-//! the questions of a document: the text of the last row `> heading`, and behind it the row's own. What is printed is the
-//! row's line, and the answer; or `refused`, where the arguments are none for this call.
+//! wrote. A row `> outside CHUNK READ WRITE COMMENT` before it says how many bytes the source gives and the sink takes in a
+//! call, which call of each fails (0 for none), and how many bytes of a comment stand before the text.
+//!
+//! Where the first word is `call`, the second word names a call of one of the crates, and numbers may follow. Its arguments are
+//! the questions of a document: the text of the last row `> heading`, and behind it the row's own. Words may follow in place
+//! of the numbers: names, and trees that no document need hold, as `0(1,0(2,3))` by the numbers of the generators or labels
+//! and of the leaves. What is printed is the row's line, and the answer; or `refused`, where the arguments are none for this
+//! call.
 #![tactic(auto)]
 
 mod arguments;
 mod calls;
+mod checking;
+mod checks;
+mod comparing;
 mod cones;
 mod divisions;
+mod elements;
 mod fail;
 mod id_sums;
+mod lines;
 mod logs;
+mod passing;
 mod places;
 mod printing;
+mod reading;
 mod rows;
 mod runs;
+mod shuffle;
 mod sorting;
+mod spelling;
 mod stores;
+mod symmetric;
+mod texts;
 
 use outside_io::{RealSink, RealSource, read_all, write_all};
 use rows::run_all;

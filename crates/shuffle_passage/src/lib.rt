@@ -19,6 +19,3 @@ pub use permuting::{Relabelled, relabellings};
 pub use relabelling::relabelled;
 pub use spelling_back::to_symmetric;
 pub use transferring::transfer_of_answers;
-
-#[cfg(test)]
-mod tests;

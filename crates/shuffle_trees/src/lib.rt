@@ -20,6 +20,3 @@ pub use labelled_trees::Tree as Shape;
 pub use labels::Labels;
 pub use listing::all_trees;
 pub use stree::{STree, vertex_count};
-
-#[cfg(test)]
-mod tests;

@@ -18,8 +18,3 @@ pub use expanding::{
 pub use instance::{Instance, Rule};
 pub use sum::{Sum, SumFail};
 pub use term::Term;
-
-#[cfg(test)]
-mod instance_tests;
-#[cfg(test)]
-mod tests;

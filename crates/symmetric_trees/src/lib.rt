@@ -14,6 +14,3 @@ pub use grafting::{fill, graft};
 pub use labelled_trees::Tree;
 pub use order::{spelling_order, spelling_order_is_total};
 pub use spelling::{Sign, spelled};
-
-#[cfg(test)]
-mod tests;

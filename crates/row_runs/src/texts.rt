@@ -1,0 +1,73 @@
+use crate::fail::RowFail;
+use crate::lines::{end_line, end_number};
+use crate::printing::write_next;
+use certificate_text::{ReadCertFail, print_block, read_blocks};
+use presentation_text::{DocKind, ReadDocFail, print_document, read_document};
+use std::alloc::Global;
+
+// The most bytes that a document has.
+const MOST_BYTES: usize = 16_777_216;
+
+// Writes the line that is refused, and the kind.
+fn fault(alloc: Global, line: u32, kind: DocKind, out: &mut Vec<u8>) -> Result<(), RowFail> {
+    out.extend_from_slice(b"fault")?;
+    write_next(u64::from(line), out)?;
+    out.push(b' ')?;
+    Ok(end_line(format!(in alloc; "{kind:?}")?.as_str(), out)?)
+}
+
+// Writes the document of a text, the lines of its questions, and the line and the place of its tail.
+fn document(alloc: Global, bytes: &[u8], out: &mut Vec<u8>) -> Result<(), RowFail> {
+    if bytes.len() > MOST_BYTES {
+        return Err(RowFail::Refused);
+    }
+    let document = match read_document(alloc, bytes) {
+        Ok(document) => document,
+        Err(ReadDocFail::NoMemory) => return Err(RowFail::NoMemory),
+        Err(ReadDocFail::At(fail)) => return fault(alloc, fail.line, fail.kind, out),
+    };
+    out.extend_from_slice(print_document(alloc, &document)?.as_slice())?;
+    out.extend_from_slice(b"questions")?;
+    for ask in document.asks.as_slice() {
+        write_next(u64::from(ask.line), out)?;
+    }
+    if let Some(tail) = document.tail {
+        out.extend_from_slice(b" tail")?;
+        write_next(u64::from(tail.line), out)?;
+        write_next(tail.from as u64, out)?;
+    }
+    out.push(b'\n')?;
+    Ok(())
+}
+
+// Writes the number of the blocks of a text, and each block.
+fn blocks(alloc: Global, bytes: &[u8], out: &mut Vec<u8>) -> Result<(), RowFail> {
+    if bytes.len() > MOST_BYTES {
+        return Err(RowFail::Refused);
+    }
+    let document = match read_document(alloc, bytes) {
+        Ok(document) => document,
+        Err(ReadDocFail::NoMemory) => return Err(RowFail::NoMemory),
+        Err(ReadDocFail::At(fail)) => return fault(alloc, fail.line, fail.kind, out),
+    };
+    let blocks = match read_blocks(alloc, bytes, &document) {
+        Ok(blocks) => blocks,
+        Err(ReadCertFail::NoMemory) => return Err(RowFail::NoMemory),
+        Err(ReadCertFail::At(fail)) => return fault(alloc, fail.line, fail.kind, out),
+    };
+    end_number(blocks.len() as u64, out)?;
+    for block in blocks.as_slice() {
+        out.extend_from_slice(print_block(alloc, &document, block)?.as_slice())?;
+    }
+    Ok(())
+}
+
+/// Answers the calls that print what a text says. False where there is none of this name.
+pub fn answer(alloc: Global, name: &str, bytes: &[u8], out: &mut Vec<u8>) -> Result<bool, RowFail> {
+    match name {
+        "print_document" => document(alloc, bytes, out)?,
+        "print_block" => blocks(alloc, bytes, out)?,
+        _ => return Ok(false),
+    }
+    Ok(true)
+}
