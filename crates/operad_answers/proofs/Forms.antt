@@ -1,8 +1,7 @@
 -- Normal forms that are collected: there is one, and they decide the ideal.
-use Rattle.std.proofs.Common.{◌≡◌, ◌↔◌, ℕ, zero, suc, ◌-◌, ◌<◌, ◌≤◌, ◌^◌, List, [], ◌∷◌, refl, sym, ◌∙◌, ap, arith, subst}
+use Rattle.std.proofs.Common.{◌≡◌, ◌↔◌, ℕ, zero, suc, ◌-◌, ◌<◌, ◌≤◌, ◌^◌, List, [], ◌∷◌, sym, ◌∙◌, ap, arith, subst}
 use mathlib.Core.List.{◌++◌}
 use Rattle.std.specs.List.{All}
-use Rattle.modular_sums.specs.Lists.{Mem}
 use Rattle.modular_sums.specs.Sums.{scale, Same, AllTerms}
 use Rattle.modular_sums.proofs.Differences.{same_gone}
 use Rattle.modular_sums.proofs.Images.{AllTerms-imp}
@@ -16,21 +15,18 @@ use Rattle.operad_ideals.specs.Presentations.{Presentation}
 use Rattle.operad_ideals.specs.Ideals.{InIdeal}
 use Rattle.operad_ideals.proofs.Ideals.{ideal_zero, ideal-same}
 use Rattle.shuffle_transfer.specs.NormalTrees.{IsNormalTree, IsNormalSum}
+use Rattle.shuffle_transfer.proofs.NormalForms.{rest_same}
 use Rattle.shuffle_completion.proofs.Laws.{normal_forms_decide}
-use Rattle.shuffle_completion.proofs.Existence.{some_form, normal_trees}
+use Rattle.shuffle_completion.proofs.Existence.{some_form}
 use Rattle.symmetric_trees.specs.Generators.{parts_at}
 use Rattle.symmetric_trees.specs.Trees.{IsLabelled}
 use Rattle.operad_ideals.specs.Collected.{IsReduced}
 use Rattle.symmetric_sums.proofs.Expansions.{one_label}
-use Rattle.operad_ideals.proofs.Forms.{one_reduced}
 use Rattle.presentation_text.specs.SumText.{IsPrintable, sum_text}
 use Rattle.presentation_text.proofs.PrintedSums.{read_back}
 use Rattle.operad_answers.specs.OrderedPresentations.{OrderedPresentation, presentation, comparison, IsWellFormed}
 use Rattle.operad_answers.specs.Texts.{Sum, IsForm, IsAnswer}
-use Rattle.operad_ideals.proofs.ReducedSums.{less_same, read_out, read_same, read_reduced}
 use Rattle.operad_answers.proofs.Collected.{reduced_stands}
-use Rattle.operad_ideals.proofs.TreeLists.{sorted}
-use Rattle.operad_answers.proofs.Ordered.{in_order}
 use Rattle.operad_answers.proofs.WellFormed.{well_formed_over_field, order_in, prime_above}
 
 module _ (o : OrderedPresentation) (well_formed : IsWellFormed o) where
@@ -43,21 +39,19 @@ module _ (o : OrderedPresentation) (well_formed : IsWellFormed o) where
   positive : 0 < o.field
   positive = let above = prime_above o.field well_formed.prime in omega (arith, above)
 
-  nothing_reduced : IsReduced o.field (parts_at o.generators) []
+  -- the numbers of a normal form are residues modulo the prime
+  pub form_reduced : (n : ℕ) (e f : Sum) → IsForm o n e f → IsReduced o.field (parts_at o.generators) f
+  form_reduced n e f h = subst (λ m. IsReduced m (parts_at o.generators) f) whole h.collected
+
+  nothing_reduced : IsReduced (suc (o.field - 1)) (parts_at o.generators) []
   nothing_reduced = record { sorted = λ k d l. absurd (omega (arith, l)); ascending = λ i j d l w. absurd (omega (arith, w)); residues = λ k d l. absurd (omega (arith, l)) }
 
   -- zero is its own normal form, in each arity
   pub zero_form : (n : ℕ) → IsForm o n [] []
-  zero_form n = record { normal_form = record { normal = tt; rest = ideal-same (presentation o) n ([] ++ scale (presentation o).q []) [] (same_gone tree_discrete (presentation o).q []) (ideal_zero (presentation o) n) }; reduced = nothing_reduced }
+  zero_form n = record { as_sum = record { normal = tt; rest = ideal-same (presentation o) n ([] ++ scale (presentation o).q []) [] (same_gone tree_discrete (presentation o).q []) (ideal_zero (presentation o) n) }; collected = nothing_reduced }
 
   pub decided : (n : ℕ) (d e f g : Sum) → IsForm o n d f → IsForm o n e g → InIdeal (presentation o) n (d ++ scale (presentation o).q e) ↔ (f ≡ g)
-  decided n d e f g a b = (
-    λ m. one_reduced o.field (parts_at o.generators) f g a.reduced b.reduced (law.0 m),
-    λ same. law.1 (subst (λ h. Same tree_discrete (presentation o).q f h) same (λ t. refl)),
-  )
-    where
-      law : InIdeal (presentation o) n (d ++ scale (presentation o).q e) ↔ Same tree_discrete (presentation o).q f g
-      law = normal_forms_decide (presentation o) well_formed.sound (comparison o) (order_in o) n d e f g a.normal_form b.normal_form
+  decided = normal_forms_decide (presentation o) well_formed.sound (comparison o) (order_in o)
 
   pub one_form : (n : ℕ) (e f g : Sum) → IsForm o n e f → IsForm o n e g → f ≡ g
   one_form n e f g a b = (decided n e e f g a b).0 (ideal-same (presentation o) n (e ++ scale (presentation o).q e) [] (same_gone tree_discrete (presentation o).q e) (ideal_zero (presentation o) n))
@@ -70,7 +64,7 @@ module _ (o : OrderedPresentation) (well_formed : IsWellFormed o) where
   -- ---- normal forms are labelled, and may be printed
 
   pub form_labelled : (n : ℕ) (e f : Sum) → IsForm o n e f → AllTerms f (IsLabelled o.generators n)
-  form_labelled n e f h = AllTerms-imp (IsNormalTree (presentation o) (comparison o) n) (IsLabelled o.generators n) f (λ t k. k.labelled) h.normal_form.normal
+  form_labelled n e f h = AllTerms-imp (IsNormalTree (presentation o) (comparison o) n) (IsLabelled o.generators n) f (λ t k. k.labelled) h.as_sum.normal
 
   small_leaves : (n : ℕ) (t : Tree ℕ) → n ≤ 9 → IsLabelled o.generators n t → AllLeaves t (λ i. (0 < i) × (i < 10 ^ 18))
   small_leaves n t few h = by_leaf t (λ i. (0 < i) × (i < 10 ^ 18)) (λ i k. let w = h.only i k in (w.0, omega (arith, w.1, few)))
@@ -81,7 +75,7 @@ module _ (o : OrderedPresentation) (well_formed : IsWellFormed o) where
   printable n (x ∷ f) few r h (suc k) d l = printable n f few (λ j c s. r (suc j) c (omega (arith, s))) h.1 k d (omega (arith, l))
 
   pub form_printable : (n : ℕ) (e f : Sum) → n ≤ 9 → IsForm o n e f → IsPrintable o.field o.generators f
-  form_printable n e f few h = printable n f few h.reduced.residues (form_labelled n e f h)
+  form_printable n e f few h = printable n f few (form_reduced n e f h).residues (form_labelled n e f h)
 
   -- ---- answers
 
@@ -108,30 +102,21 @@ module _ (o : OrderedPresentation) (well_formed : IsWellFormed o) where
 
       apart : sum_text o.field o.generators a.form ≡ sum_text o.field o.generators b.form → a.form ≡ b.form
       apart = (read_back o.field o.generators well_formed.prime well_formed.table well_formed.words).apart a.form b.form
-          (printable n a.form few one.reduced.residues (form_labelled n d a.form one)) (printable n b.form few two.reduced.residues (form_labelled n e b.form two))
+          (form_printable n d a.form few one) (form_printable n e b.form few two)
 
   -- ---- normal forms that are the same, and reduced
 
   pub form_of_same : (n : ℕ) (e f h : Sum) → IsNormalSum (presentation o) (comparison o) n e f → Same tree_discrete (presentation o).q h f → IsReduced o.field (parts_at o.generators) h → IsForm o n e h
   form_of_same n e f h a same r = record {
-    normal_form = record {
+    as_sum = record {
       normal = AllTerms-imp (StandsIn (presentation o).q h) (IsNormalTree (presentation o) (comparison o) n) h
           (λ t k. has_all tree_discrete (presentation o).q (IsNormalTree (presentation o) (comparison o) n) f a.normal t (has_same tree_discrete (presentation o).q h f same t k))
           (reduced_stands o.field (parts_at o.generators) h positive r);
-      rest = ideal-same (presentation o) n (e ++ scale (presentation o).q h) (e ++ scale (presentation o).q f) (less_same (presentation o).q e h f same) a.rest;
+      rest = rest_same (presentation o) n e f h same a.rest;
     };
-    reduced = r;
+    collected = subst (λ m. IsReduced m (parts_at o.generators) h) (sym whole) r;
   }
 
   -- each element has one
   pub has_form : (n : ℕ) (e : Sum) → AllTerms e (IsLabelled o.generators n) → (f : Sum) × IsForm o n e f
-  has_form n e v =
-      let field = well_formed_over_field o well_formed in
-      let s = some_form (presentation o) field (comparison o) (order_in o) n e v in
-      let l = normal_trees (presentation o) field (comparison o) (order_in o) n in
-      let q = (presentation o).q in
-      let listing = in_order (IsNormalTree (presentation o) (comparison o) n) l.0 l.1 in
-      let there = AllTerms-imp (IsNormalTree (presentation o) (comparison o) n) (λ t. Mem t (sorted l.0)) s.0 (λ t k. (listing.all t).1 k) s.1.normal in
-      let r : IsReduced (suc q) (parts_at o.generators) (read_out q s.0 (sorted l.0))
-      = read_reduced q s.0 (parts_at o.generators) (sorted l.0) listing.ascending (λ t m. ((listing.all t).0 m).sorted) in
-      (read_out q s.0 (sorted l.0), form_of_same n e s.0 (read_out q s.0 (sorted l.0)) s.1 (read_same q s.0 (sorted l.0) listing.ascending there) (subst (λ m. IsReduced m (parts_at o.generators) (read_out q s.0 (sorted l.0))) whole r))
+  has_form n e v = some_form (presentation o) (well_formed_over_field o well_formed) (comparison o) (order_in o) n e v

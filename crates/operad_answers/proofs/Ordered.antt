@@ -1,5 +1,5 @@
 -- Lists of the trees with a property, in the spelling order.
-use Rattle.std.proofs.Common.{◌≡◌, ℕ, List}
+use Rattle.std.proofs.Common.{◌≡◌, ℕ}
 use Rattle.labelled_trees.specs.Trees.{Tree}
 use Rattle.operad_ideals.proofs.TreeLists.{Trees, one_ascending, ascending_once, sorted, sorted_ascending, sorted_has}
 use Rattle.shuffle_completion.specs.Existence.{AreThose}

@@ -13,7 +13,7 @@ use Rattle.operad_ideals.proofs.Ideals.{ideal_zero, ideal-same}
 use Rattle.shuffle_bases.specs.Elements.{Element}
 use Rattle.shuffle_transfer.specs.Labels.{symmetric_tree}
 use Rattle.shuffle_completion.specs.ReducedBases.{IsMinimal, IsReducedBasis, IsReducedElement}
-use Rattle.shuffle_completion.proofs.Laws.{complete_is_reduced, normal_forms_decide}
+use Rattle.shuffle_completion.proofs.Laws.{complete_is_reduced, normal_sums_decide}
 use Rattle.shuffle_completion.proofs.Passing.{sorted_back}
 use Rattle.shuffle_completion.proofs.Existence.{complete_through}
 use Rattle.operad_ideals.specs.SpellingOrder.{order}
@@ -24,6 +24,7 @@ use Rattle.operad_answers.specs.Texts.{Sum, IsForm, IsBasisPart, IsBasisText, Is
 use Rattle.operad_ideals.proofs.TreeLists.{Ascending, each_member}
 use Rattle.operad_answers.proofs.WellFormed.{well_formed_over_field, order_in}
 use Rattle.shuffle_transfer.specs.NormalTrees.{IsNormalSum}
+use Rattle.operad_answers.proofs.Forms.{form_reduced}
 
 abbrev Rule : Type 0
 Rule = Tree ℕ × Sum
@@ -58,9 +59,9 @@ module _ (o : OrderedPresentation) (well_formed : IsWellFormed o) (N : ℕ) (ele
       (subst (λ k. IsNormalSum (presentation o) (comparison o) k ((1, S g.lead) ∷ []) (scale q (moved S g.tail))) arity e.normal_form) in
       record {
         tree_is = tree;
-        tail_is = (normal_forms_decide (presentation o) well_formed.sound (comparison o) (order_in o) n ((1, r.0) ∷ []) ((1, r.0) ∷ []) r.1 (scale q (moved S g.tail)) form.normal_form own).0
+        tail_is = (normal_sums_decide (presentation o) well_formed.sound (comparison o) (order_in o) n ((1, r.0) ∷ []) ((1, r.0) ∷ []) r.1 (scale q (moved S g.tail)) form.as_sum own).0
             (ideal-same (presentation o) n (((1, r.0) ∷ []) ++ scale q ((1, r.0) ∷ [])) [] (same_gone tree_discrete q ((1, r.0) ∷ [])) (ideal_zero (presentation o) n));
-        reduced = form.reduced;
+        reduced = form_reduced o well_formed n ((1, r.0) ∷ []) r.1 form;
       }
 
   rule_part : (n : ℕ) (text : List ℕ) → 2 ≤ n → n ≤ N → IsBasisPart o n text → IsRulePart o elements n text

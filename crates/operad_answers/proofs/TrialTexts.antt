@@ -69,7 +69,7 @@ append_none (x ∷ e) = ap (λ l. x ∷ l) (append_none e)
 -- the form of what isn't in the ideal isn't 0
 some_form : (e f : Sum) → (InTrialIdeal e → ⊥) → IsTrialForm e f → f ≡ [] → ⊥
 some_form e f no_member h none =
-    no_member (subst (InIdeal trial_presentation 5) (append_none e) (subst (λ g. InIdeal trial_presentation 5 (e ++ scale minus_one g)) none h.normal_form.rest))
+    no_member (subst (InIdeal trial_presentation 5) (append_none e) (subst (λ g. InIdeal trial_presentation 5 (e ++ scale minus_one g)) none h.as_sum.rest))
 
 -- ---- the text
 

@@ -112,7 +112,7 @@ module _ (d : Document) (formed : IsWritable d) where
 
       member : f.0 ≡ [] → InIdeal (presentation (written d)) n (difference d.field sides)
       member z =
-          let rest : InIdeal (presentation (written d)) n (difference d.field sides ++ []) = subst (λ g. InIdeal (presentation (written d)) n (difference d.field sides ++ scale (d.field - 1) g)) z f.1.normal_form.rest in
+          let rest : InIdeal (presentation (written d)) n (difference d.field sides ++ []) = subst (λ g. InIdeal (presentation (written d)) n (difference d.field sides ++ scale (d.field - 1) g)) z f.1.as_sum.rest in
           subst (InIdeal (presentation (written d)) n) (append-nil (difference d.field sides)) rest
 
       go : (g : Sum) → f.0 ≡ g → (text : List ℕ) × IsVerdict d (k, sides) text
