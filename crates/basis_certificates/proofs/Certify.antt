@@ -5,7 +5,7 @@ use mathlib.Core.List.{◌++◌}
 use Rattle.std.specs.Prelude.{Option, Some}
 use Rattle.std.specs.declared.cmp.Ordering.{Ordering}
 use Rattle.std.specs.declared.cmp.Ordering.TheVariants.{Less}
-use Rattle.modular_sums.specs.Lists.{Mem, nth}
+use Rattle.modular_sums.specs.Lists.{Distinct, Mem, nth}
 use Rattle.modular_sums.specs.Sums.{scale, moved, expand, Same, AllTerms, Member}
 use Rattle.modular_sums.specs.Laws.{SumLaw}
 use Rattle.modular_sums.proofs.Laws.{sum_law}
@@ -35,7 +35,7 @@ use Rattle.basis_certificates.specs.Holding.{AreGood, CertificateHolds}
 use Rattle.basis_certificates.specs.ShuffleElements.{shuffle_element, shuffle_elements}
 use Rattle.basis_certificates.specs.Laws.{ShowMembers}
 use Rattle.basis_certificates.proofs.Lookups.{nth_mem, mem_nth, nth_of_map, in_order_nth}
-use Rattle.basis_certificates.proofs.Goodness.{good_member, one_key}
+use Rattle.basis_certificates.proofs.Goodness.{distinct_map, each_once, good_member, one_key}
 use Rattle.basis_certificates.proofs.Spellings.{form_valid, one_form, form_back, back_arity}
 use Rattle.basis_certificates.proofs.Multiples.{named, multiple_valid, common_of_form}
 use Rattle.basis_certificates.proofs.Elements.{same_element, entry_monic, entry_in_ideal}
@@ -73,6 +73,9 @@ module _ {C : Type 0} (Shown : List (ℕ × Tree ℕ) → C → Type 0) (p : Pre
   one_lead : (x y : ElemEntry C) → Mem x elems → Mem y elems → F x.lead ≡ F y.lead → x ≡ y
   one_lead x y m n e = one_key (IsGoodElem p cmp Shown) (λ z. z.lead) (λ earlier z h w k. h.lead.new w k) [] elems good x y m n
       (one_form p x.lead y.lead (entry_good x m).lead.spelled (entry_good y n).lead.spelled e)
+
+  pub once : Distinct (shuffle_elements p cmp elems)
+  once = distinct_map E elems (λ x y m n e. one_lead x y m n (ap (λ g. g.lead) e)) (each_once (IsGoodElem p cmp Shown) (λ z. z.lead) (λ earlier z h w k. h.lead.new w k) [] elems good)
 
   monic : AreMonic s
   monic = record {
@@ -243,6 +246,7 @@ pub certify : {C : Type 0} (Shown : List (ℕ × Tree ℕ) → C → Type 0) (p 
     → (N : ℕ) (cert : Certificate C) → ShowMembers Shown p cert.elems → CertificateHolds Shown p cmp N cert → IsCertified p cmp (shuffle_elements p cmp cert.elems) N
 certify Shown p sound proper cmp order N cert members holds = record {
   monic = monic Shown p sound proper cmp order cert.elems members holds.elems;
+  once = once Shown p sound proper cmp order cert.elems members holds.elems;
   in_ideal = in_ideal Shown p sound proper cmp order cert.elems members holds.elems;
   relations = spanned_relation Shown p sound proper cmp order cert.elems members holds.elems N cert.relabels holds.relabels holds.every_relabel;
   s_elements = reduce Shown p sound proper cmp order cert.elems members holds.elems N cert.rows holds.rows holds.every_row;

@@ -119,7 +119,7 @@ module _ (d : Problem) (N m : ℕ) (lower new : List Element) (done : List Job) 
       low = a.low;
       high = high;
       jobs = jobs_next;
-      underway = (order_does_not_matter d.presentation d.compare (lower ++ next) m (lower ++ next) u.distinct (λ g. (λ h. h, λ h. h))).1
+      underway = (order_does_not_matter d.presentation d.compare (lower ++ next) m (lower ++ next) u.certified.once (λ g. (λ h. h, λ h. h))).1
           (task_of j ∷ map task_of done) (map task_of (done ++ (j ∷ []))) (λ y my. images_behind task_of j done y my) u;
       run = a.run ++ (x ∷ []);
       so_far = job_grows d N (suc m) two a.to_most (lower ++ new) (ideal_elements d N (lower ++ new) m (map task_of done) a.underway) a.run a.so_far lower into j job uses f chain finished (a.fresh j (inl refl)) (lower ++ next) follows kept;

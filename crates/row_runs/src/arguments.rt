@@ -63,7 +63,7 @@ pub fn shuffle_terms(
     at: usize,
 ) -> Result<Items<(u32, STree)>, RowFail>
     ensures residues { IfOk result (All (λ x. (0 < x.0) × (x.0 < document.now.field))) }
-    ensures trees { IfOk result (λ terms. (n : ℕ) × (n ≤ 9) × AllTerms terms (IsShuffleTree (inputs_of (over document.now.gens).generators) n)) }
+    ensures trees { IfOk result (λ terms. (n : ℕ) × (n ≤ 9) × AllTerms terms (IsShuffleTree (inputs_of (generators_of document.now.gens)) n)) }
 {
     let sum = element(document, at)?;
     let arity = sum.arity().unwrap_or(0);
@@ -85,7 +85,7 @@ fn shuffle_term(
     term: &Term,
 ) -> Result<(u32, STree), RowFail>
     ensures residue { IfOk result (λ x. (0 < x.0) × (x.0 < document.now.field)) }
-    ensures tree { IfOk result (λ x. IsShuffleTree (inputs_of (over document.now.gens).generators) arity x.1) }
+    ensures tree { IfOk result (λ x. IsShuffleTree (inputs_of (generators_of document.now.gens)) arity x.1) }
 {
     if arity_of(&term.tree, &document.gens) != Some(arity) {
         return Err(RowFail::Refused);

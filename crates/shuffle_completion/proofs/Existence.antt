@@ -89,12 +89,12 @@ module _ (p : Presentation) (good : IsOverField p) (compare : Tree ℕ → Tree 
         record {
           certified = record {
             monic = record { each = λ g m. absurd m; apart = λ g h m n e. absurd m };
+            once = tt;
             in_ideal = λ g m. absurd m;
             relations = λ r m le v o. (starts p good.proper compare).certified.relations r m (omega (arith, le)) v o;
             s_elements = λ m le g h o. absurd o;
           };
           reached = λ g m. absurd m;
-          distinct = tt;
           apart = λ g h m n set place. absurd m;
           tails_free = λ g m. absurd m;
         },

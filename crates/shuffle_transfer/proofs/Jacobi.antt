@@ -175,6 +175,7 @@ relabelled_by v (inr (inr (inr (inr (inr (inr m)))))) = absurd m
 pub certified : IsCertified lie (compare lie.generators by_path) (jacobi ∷ []) 4
 certified = record {
   monic = monic;
+  once = (λ m. m, tt);
   in_ideal = in_ideal;
   relations = relations;
   s_elements = subst (λ s. SElementsReduce s 4) (sym same_setting) reduces;

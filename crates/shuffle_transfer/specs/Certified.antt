@@ -1,7 +1,7 @@
 -- Lists of elements that complete a presentation up to an arity.
 use Rattle.std.specs.Prelude.{ℕ, ◌≤◌, List}
 use Rattle.std.specs.declared.cmp.Ordering.{Ordering}
-use Rattle.modular_sums.specs.Lists.{Mem}
+use Rattle.modular_sums.specs.Lists.{Mem, Distinct}
 use Rattle.modular_sums.specs.Sums.{Member}
 use Rattle.labelled_trees.specs.Trees.{Tree}
 use Rattle.labelled_trees.specs.Equality.{tree_discrete}
@@ -16,12 +16,13 @@ use Rattle.shuffle_transfer.specs.Transfer.{relabelled, shuffled, IsSumOfInserti
 abbrev pub setting : Presentation → (Tree ℕ → Tree ℕ → Ordering) → List Element → Setting
 setting p compare elements = record { arity = inputs_of p.generators; compare = compare; elements = elements; q = p.q }
 
--- The elements are certified through arity N: they are monic with different leading trees and lie in the ideal of the shuffle
--- forms; each relation of arity at most N, relabelled by each permutation, is a sum of insertions of them; and for any two of
+-- The elements are certified through arity N: they are monic with different leading trees, each stands once, and they lie in the ideal of
+-- the shuffle forms; each relation of arity at most N, relabelled by each permutation, is a sum of insertions of them; and for any two of
 -- them, in the order of the list, each S-element of arity at most N reduces
 -- (Dotsenko and Khoroshkin 2010, Groebner bases of shuffle operads, up to an arity).
 pub record IsCertified (p : Presentation) (compare : Tree ℕ → Tree ℕ → Ordering) (elements : List Element) (N : ℕ) : Type 0 where
   pub monic : AreMonic (setting p compare elements)
+  pub once : Distinct elements
   pub in_ideal : (g : Element) → Mem g elements → IsSumOfInsertions p g.arity (terms g)
   pub relations : (r : Relation) → Mem r p.relations → r.arity ≤ N → (v : List ℕ) → Mem v (orderings r.arity)
       → Member tree_discrete (value_of {s = setting p compare elements} {n = r.arity}) p.q (shuffled p (relabelled v r.terms))
