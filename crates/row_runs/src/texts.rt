@@ -1,8 +1,13 @@
+ghost use Rattle.std.specs.Prelude.{map};
+ghost use Rattle.std.specs.List.{All};
+ghost use Rattle.certificate_text.specs.Plain.{plain_block};
+ghost use Rattle.certificate_text.specs.Writable.{IsWritable};
+
 use crate::fail::RowFail;
 use crate::lines::{end_line, end_number};
 use crate::printing::write_next;
-use certificate_text::{ReadCertFail, print_block, read_blocks};
-use presentation_text::{DocKind, ReadDocFail, print_document, read_document};
+use certificate_text::{Block, ReadCertFail, print_block, read_blocks};
+use presentation_text::{DocKind, Document, ReadDocFail, print_document, read_document};
 use std::alloc::Global;
 
 // The most bytes that a document has.
@@ -16,17 +21,8 @@ fn fault(alloc: Global, line: u32, kind: DocKind, out: &mut Vec<u8>) -> Result<(
     Ok(end_line(format!(in alloc; "{kind:?}")?.as_str(), out)?)
 }
 
-// Writes the document of a text, the lines of its questions, and the line and the place of its tail.
-fn document(alloc: Global, bytes: &[u8], out: &mut Vec<u8>) -> Result<(), RowFail> {
-    if bytes.len() > MOST_BYTES {
-        return Err(RowFail::Refused);
-    }
-    let document = match read_document(alloc, bytes) {
-        Ok(document) => document,
-        Err(ReadDocFail::NoMemory) => return Err(RowFail::NoMemory),
-        Err(ReadDocFail::At(fail)) => return fault(alloc, fail.line, fail.kind, out),
-    };
-    out.extend_from_slice(print_document(alloc, &document)?.as_slice())?;
+// Ends by the lines of the questions of a document, and the line and the place of its tail.
+fn end_places(document: &Document, out: &mut Vec<u8>) -> Result<(), RowFail> {
     out.extend_from_slice(b"questions")?;
     for ask in document.asks.as_slice() {
         write_next(u64::from(ask.line), out)?;
@@ -36,7 +32,36 @@ fn document(alloc: Global, bytes: &[u8], out: &mut Vec<u8>) -> Result<(), RowFai
         write_next(u64::from(tail.line), out)?;
         write_next(tail.from as u64, out)?;
     }
-    out.push(b'\n')?;
+    Ok(end_line("", out)?)
+}
+
+// Writes the document of a text, and the places of its parts.
+fn document(alloc: Global, bytes: &[u8], out: &mut Vec<u8>) -> Result<(), RowFail> {
+    if bytes.len() > MOST_BYTES {
+        return Err(RowFail::Refused);
+    }
+    match read_document(alloc, bytes) {
+        Ok(document) => {
+            out.extend_from_slice(print_document(alloc, &document)?.as_slice())?;
+            end_places(&document, out)
+        }
+        Err(ReadDocFail::At(fail)) => fault(alloc, fail.line, fail.kind, out),
+        Err(ReadDocFail::NoMemory) => Err(RowFail::NoMemory),
+    }
+}
+
+// Writes blocks one behind another.
+fn write_blocks(
+    alloc: Global,
+    document: &Document,
+    blocks: &[Block],
+    out: &mut Vec<u8>,
+) -> Result<(), RowFail>
+    requires writable { All (IsWritable document.now.field document.now.gens) (map plain_block blocks.now) }
+{
+    for block in blocks {
+        out.extend_from_slice(print_block(alloc, document, block)?.as_slice())?;
+    }
     Ok(())
 }
 
@@ -45,21 +70,18 @@ fn blocks(alloc: Global, bytes: &[u8], out: &mut Vec<u8>) -> Result<(), RowFail>
     if bytes.len() > MOST_BYTES {
         return Err(RowFail::Refused);
     }
-    let document = match read_document(alloc, bytes) {
-        Ok(document) => document,
-        Err(ReadDocFail::NoMemory) => return Err(RowFail::NoMemory),
-        Err(ReadDocFail::At(fail)) => return fault(alloc, fail.line, fail.kind, out),
-    };
-    let blocks = match read_blocks(alloc, bytes, &document) {
-        Ok(blocks) => blocks,
-        Err(ReadCertFail::NoMemory) => return Err(RowFail::NoMemory),
-        Err(ReadCertFail::At(fail)) => return fault(alloc, fail.line, fail.kind, out),
-    };
-    end_number(blocks.len() as u64, out)?;
-    for block in blocks.as_slice() {
-        out.extend_from_slice(print_block(alloc, &document, block)?.as_slice())?;
+    match read_document(alloc, bytes) {
+        Ok(document) => match read_blocks(alloc, bytes, &document) {
+            Ok(blocks) => {
+                end_number(blocks.len() as u64, out)?;
+                write_blocks(alloc, &document, blocks.as_slice(), out)
+            }
+            Err(ReadCertFail::At(fail)) => fault(alloc, fail.line, fail.kind, out),
+            Err(ReadCertFail::NoMemory) => Err(RowFail::NoMemory),
+        },
+        Err(ReadDocFail::At(fail)) => fault(alloc, fail.line, fail.kind, out),
+        Err(ReadDocFail::NoMemory) => Err(RowFail::NoMemory),
     }
-    Ok(())
 }
 
 /// Answers the calls that print what a text says. False where there is none of this name.
