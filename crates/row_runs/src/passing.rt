@@ -12,6 +12,7 @@ use shuffle_passage::{
 };
 use shuffle_trees::Frame;
 use std::alloc::Global;
+use symmetric_sums::Sum;
 use symmetric_trees::{GenTable, arity_of};
 
 // Writes how many labels the table has, and the number of inputs of each of the first nine.
@@ -134,19 +135,20 @@ fn all_relabelled(alloc: Global, document: &Document, out: &mut Vec<u8>) -> Resu
     Ok(())
 }
 
-// Writes the terms of the element, of arity 2, with its leaves in each other's place.
-fn turned(alloc: Global, document: &Document, out: &mut Vec<u8>) -> Result<(), RowFail> {
-    let rel = element(document, 0)?;
+// The element of arity 2 with its leaves in each other's place.
+fn turn_round(alloc: Global, document: &Document, rel: &Sum) -> Result<Sum, RowFail> {
     if !rel.fits(document.field, &document.gens) {
         return Err(RowFail::Refused);
     }
     match rel.arity() {
-        Some(2) => {
-            let turned = relabelled(alloc, document.field, &document.gens, rel, &[2, 1])?;
-            Ok(end_terms(turned.terms(), out)?)
-        }
+        Some(2) => Ok(relabelled(alloc, document.field, &document.gens, rel, &[2, 1])?),
         _ => Err(RowFail::Refused),
     }
+}
+
+fn turned(alloc: Global, document: &Document, out: &mut Vec<u8>) -> Result<(), RowFail> {
+    let turned = turn_round(alloc, document, element(document, 0)?)?;
+    Ok(end_terms(turned.terms(), out)?)
 }
 
 /// Answers the calls of `shuffle_passage`. False where it has none of this name.

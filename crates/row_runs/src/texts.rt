@@ -8,6 +8,7 @@ use crate::lines::{end_line, end_number};
 use crate::printing::write_next;
 use certificate_text::{Block, ReadCertFail, print_block, read_blocks};
 use presentation_text::{DocKind, Document, ReadDocFail, print_document, read_document};
+use sqlite_items::Items;
 use std::alloc::Global;
 
 // The most bytes that a document has.
@@ -54,12 +55,12 @@ fn document(alloc: Global, bytes: &[u8], out: &mut Vec<u8>) -> Result<(), RowFai
 fn write_blocks(
     alloc: Global,
     document: &Document,
-    blocks: &[Block],
+    blocks: &Items<Block>,
     out: &mut Vec<u8>,
 ) -> Result<(), RowFail>
     requires writable { All (IsWritable document.now.field document.now.gens) (map plain_block blocks.now) }
 {
-    for block in blocks {
+    for block in blocks.as_slice() {
         out.extend_from_slice(print_block(alloc, document, block)?.as_slice())?;
     }
     Ok(())
@@ -74,7 +75,7 @@ fn blocks(alloc: Global, bytes: &[u8], out: &mut Vec<u8>) -> Result<(), RowFail>
         Ok(document) => match read_blocks(alloc, bytes, &document) {
             Ok(blocks) => {
                 end_number(blocks.len() as u64, out)?;
-                write_blocks(alloc, &document, blocks.as_slice(), out)
+                write_blocks(alloc, &document, &blocks, out)
             }
             Err(ReadCertFail::At(fail)) => fault(alloc, fail.line, fail.kind, out),
             Err(ReadCertFail::NoMemory) => Err(RowFail::NoMemory),

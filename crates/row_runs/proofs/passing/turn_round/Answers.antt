@@ -3,7 +3,7 @@ use Rattle.modular_sums.specs.Lists.{Mem}
 use Rattle.shuffle_transfer.specs.Orderings.{IsOrdering}
 use Rattle.symmetric_sums.specs.Terms.{ArityIs}
 use Rattle.symmetric_sums.proofs.Numberings.{one_arity}
-use Rattle.row_runs.proofs.passing.turned.Goals as goal
+use Rattle.row_runs.proofs.passing.turn_round.Goals as goal
 
 two_one : IsOrdering 2 (2 ∷ 1 ∷ [])
 two_one = record { length_is = refl; within = λ u m. low u m; distinct = (λ m. apart m, (λ m. absurd m, tt)) }
