@@ -3,7 +3,7 @@ use Rattle.std.specs.Prelude.{ℕ, ◌≡◌, List}
 use Rattle.operad_run.specs.Forms as forms
 use Rattle.operad_run.specs.declared.status.Status.{Status}
 
--- What `forms` tells is a function of the bytes and the greatest arity: one status and one text.
+-- What `forms` tells is determined by the bytes and the greatest arity: at most one status and one text.
 abbrev pub AnswersAreDetermined : Type 0
 AnswersAreDetermined = (bytes : List ℕ) (n : ℕ) (status other : Status) (text others : List ℕ)
     → forms.Tells bytes n status text → forms.Tells bytes n other others → (status ≡ other) × (text ≡ others)

@@ -87,7 +87,7 @@ impl Sum {
         self.terms.as_slice()
     }
 
-    /// The number of leaves of each tree of the sum, from 1 to 255; `None` exactly where it has no terms.
+    /// The number of leaves of each tree of the sum, at most 255; `None` exactly where it has no terms.
     pub fn arity(&self) -> Option<u8>
         ensures arity { ArityIs self.now result }
     {
