@@ -9,7 +9,7 @@ ghost use Rattle.division.specs.Cones.{IsCone};
 use crate::fail::RowFail;
 use crate::printing::{write_next, write_plain};
 use division::{Cone, add_element, cone_of, meet_all, reduce_row};
-use path_orders::Path;
+use path_orders::{Path, TreeOrder};
 use presentation_text::{Document, write_number};
 use row_sweeps::{Steps, Term};
 use shuffle_passage::labels_of;
@@ -36,8 +36,13 @@ fn listing(alloc: Global, document: &Document, store: &mut Store) -> Result<Vec<
     Ok(ids)
 }
 
-// Their cone by the order of paths, without elements.
-fn free_cone(alloc: Global, document: &Document, store: &mut Store) -> Result<Cone, RowFail>
+// Their cone by an order, without elements.
+fn free_cone<O: TreeOrder>(
+    alloc: Global,
+    document: &Document,
+    store: &mut Store,
+    order: &O,
+) -> Result<Cone, RowFail>
     ensures cone { IfOk result (λ cone. (given : List ℕ) × IsCone given cone) }
     ensures held { IfOk result (λ cone. All (λ id. id < length store.new) cone.ids) }
     ensures prime { IfOk result (λ cone. cone.table.q ≡ document.now.field - 1) }
@@ -49,11 +54,12 @@ fn free_cone(alloc: Global, document: &Document, store: &mut Store) -> Result<Co
     let mut found = Items::new(alloc);
     let mut kept = Items::new(alloc);
     let mut parts = [TreeId::numbered(0); 4];
+    let prime = document.field.prime();
     Ok(cone_of(
         alloc,
         store,
-        &Path {},
-        document.field.prime(),
+        order,
+        prime,
         &[],
         &[],
         &[],
@@ -147,7 +153,7 @@ pub fn reduced(
         return Err(RowFail::Refused);
     };
     let mut store = Store::new(alloc);
-    let mut cone = free_cone(alloc, document, &mut store)?;
+    let mut cone = free_cone(alloc, document, &mut store, &Path {})?;
     if cone.ids.len() != 3 {
         return Err(RowFail::Refused);
     }

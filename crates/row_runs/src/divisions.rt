@@ -90,13 +90,26 @@ pub fn at_root(alloc: Global, document: &Document, out: &mut Vec<u8>) -> Result<
     let mut store = Store::new(alloc);
     let host = store.put(alloc, &shuffle_tree(alloc, document, 1)?)?;
     let reducer = reducer_of(alloc, document, &mut store)?;
-    let mut parts = [TreeId::numbered(0); ROOM];
+    let mut parts = vec![in alloc; TreeId::numbered(0); ROOM]?;
     let mut made = Items::new(alloc);
-    if !divides_root(&store, reducer.lead, reducer.arity, host, &mut parts) {
+    if !divides_root(
+        &store,
+        reducer.lead,
+        reducer.arity,
+        host,
+        parts.as_mut_slice(),
+    ) {
         out.extend_from_slice(b"none\n")?;
         return Ok(());
     }
-    insert_at_root(&mut store, alloc, &reducer, host, &mut parts, &mut made)?;
+    insert_at_root(
+        &mut store,
+        alloc,
+        &reducer,
+        host,
+        parts.as_mut_slice(),
+        &mut made,
+    )?;
     write_trees(alloc, &store, made.as_slice(), out)
 }
 
@@ -129,7 +142,7 @@ pub fn tail(alloc: Global, document: &Document, out: &mut Vec<u8>) -> Result<(),
     let host = store.put(alloc, &shuffle_tree(alloc, document, 1)?)?;
     let mut found = Items::new(alloc);
     let mut kept = Items::new(alloc);
-    let mut parts = [TreeId::numbered(0); ROOM];
+    let mut parts = vec![in alloc; TreeId::numbered(0); ROOM]?;
     let tail = step(
         &mut store,
         alloc,
@@ -137,7 +150,7 @@ pub fn tail(alloc: Global, document: &Document, out: &mut Vec<u8>) -> Result<(),
         made.groups.as_slice(),
         &mut found,
         &mut kept,
-        &mut parts,
+        parts.as_mut_slice(),
         host,
     )?;
     write_trees(alloc, &store, tail.as_slice(), out)
@@ -151,7 +164,7 @@ pub fn gathered(alloc: Global, document: &Document, out: &mut Vec<u8>) -> Result
     let host = store.put(alloc, &shuffle_tree(alloc, document, 1)?)?;
     let mut found = Items::new(alloc);
     let mut kept = Items::new(alloc);
-    let mut parts = [TreeId::numbered(0); ROOM];
+    let mut parts = vec![in alloc; TreeId::numbered(0); ROOM]?;
     let mut places = Items::new(alloc);
     let mut ids = Items::new(alloc);
     meet(&mut places, &mut ids, host)?;
@@ -162,7 +175,7 @@ pub fn gathered(alloc: Global, document: &Document, out: &mut Vec<u8>) -> Result
         made.groups.as_slice(),
         &mut found,
         &mut kept,
-        &mut parts,
+        parts.as_mut_slice(),
         &mut places,
         &mut ids,
     )?;

@@ -11,6 +11,14 @@ fn is_row(line: &[u8]) -> bool {
     }
 }
 
+// What a row reads of its text: behind `<` without the last byte.
+fn text_read<'a>(line: &[u8], text: &'a [u8]) -> &'a [u8] {
+    match (line, text) {
+        ([b'<', ..], [kept @ .., _]) => kept,
+        _ => text,
+    }
+}
+
 // The words of a line that begins a row.
 fn words_of(alloc: Global, line: &[u8]) -> Result<Vec<String>, AllocError> {
     let mut words = Vec::new(alloc);
@@ -93,6 +101,11 @@ fn answer(
     }
 }
 
+// Whether the line is `> heading`.
+fn is_heading(line: &[u8]) -> bool {
+    line == b"> heading".as_slice()
+}
+
 /// What all rows print. A row `> heading` prints nothing: its text stands before that of each call behind it. Nor does a row
 /// `> outside CHUNK READ WRITE COMMENT`: it says how the source and the sink of the next run behave.
 pub fn run_all(alloc: Global, rows: &[u8]) -> Result<Vec<u8>, AllocError> {
@@ -105,11 +118,8 @@ pub fn run_all(alloc: Global, rows: &[u8]) -> Result<Vec<u8>, AllocError> {
             break;
         };
         let (text, further) = row_text(behind);
-        let read = match (line, text) {
-            ([b'<', ..], [kept @ .., _]) => kept,
-            _ => text,
-        };
-        if line == b"> heading".as_slice() {
+        let read = text_read(line, text);
+        if is_heading(line) {
             heading = read;
         } else {
             answer(alloc, line, heading, &mut outside, read, &mut out)?;

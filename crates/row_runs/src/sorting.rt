@@ -84,7 +84,8 @@ fn listing(
     ensures distinct { IfOk result (λ ids. Distinct ids.items) }
 {
     let trees = all_trees(alloc, labels, arity)?;
-    Ok(put_all(alloc, store, trees.as_slice())?)
+    let ids = put_all(alloc, store, trees.as_slice())?;
+    Ok(ids)
 }
 
 // Whether the order has the first tree below the second; false where they have not one arity.

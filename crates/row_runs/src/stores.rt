@@ -1,4 +1,4 @@
-ghost use Rattle.std.specs.Prelude.{◌<◌, length};
+ghost use Rattle.std.specs.Prelude.{◌<◌, length, IfOk, IfSome};
 
 use crate::arguments::shuffle_tree;
 use crate::fail::RowFail;
@@ -35,6 +35,23 @@ pub fn put(alloc: Global, document: &Document, out: &mut Vec<u8>) -> Result<(), 
     Ok(())
 }
 
+// Puts the vertex with this label and the inputs of the tree with this id; none where that is a leaf.
+fn relabel(
+    alloc: Global,
+    store: &mut Store,
+    id: TreeId,
+    label: u16,
+) -> Result<Option<TreeId>, RowFail>
+    requires held { id < length store.old }
+    ensures held { IfOk result (λ found. IfSome found (λ id. id < length store.new)) }
+{
+    let inputs = match store.node(id) {
+        NodeView::Leaf(_) => return Ok(None),
+        NodeView::Node(_, inputs) => SmallVec::from_slice(alloc, inputs)?,
+    };
+    Ok(Some(store.vertex(label, inputs)?))
+}
+
 /// Puts the tree of the question, and then a vertex with the given label and the inputs of its root: what is held with the
 /// id of each.
 pub fn vertex(
@@ -49,10 +66,8 @@ pub fn vertex(
     let mut store = Store::new(alloc);
     let id = store.put(alloc, &shuffle_tree(alloc, document, 0)?)?;
     write_held(alloc, &store, id, out)?;
-    let inputs = match store.node(id) {
-        NodeView::Leaf(_) => return Err(RowFail::Refused),
-        NodeView::Node(_, inputs) => SmallVec::from_slice(alloc, inputs)?,
-    };
-    let again = store.vertex((*label % 65536) as u16, inputs)?;
-    write_held(alloc, &store, again, out)
+    match relabel(alloc, &mut store, id, (*label % 65536) as u16)? {
+        Some(again) => write_held(alloc, &store, again, out),
+        None => Err(RowFail::Refused),
+    }
 }

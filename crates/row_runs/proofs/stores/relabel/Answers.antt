@@ -4,7 +4,7 @@ use Rattle.labelled_trees.specs.Trees.{node, row}
 use Rattle.shuffle_trees.specs.ValidTrees.{IsValid}
 use Rattle.tree_store.specs.Stores.{tree_at}
 use Rattle.tree_store.proofs.Counts.{held_valid}
-use Rattle.row_runs.proofs.stores.vertex.Goals as goal
+use Rattle.row_runs.proofs.stores.relabel.Goals as goal
 
 pub vertex-requires-clause-valid : goal.vertex-requires-clause-valid
 vertex-requires-clause-valid c =
