@@ -8,5 +8,6 @@ pub mod KeptEntries
 pub mod Pushing
 pub mod StartUses
 pub mod StepUses
+pub mod TestEntries
 pub mod Ups
 pub mod Wholes

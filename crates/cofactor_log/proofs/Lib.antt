@@ -9,3 +9,4 @@ pub mod Members
 pub mod Numbers
 pub mod Reaching
 pub mod Starts
+pub mod ZeroEntries

@@ -17,4 +17,5 @@ pub mod Ranking
 pub mod Rowing
 pub mod Ruling
 pub mod TailSteps
+pub mod TestElements
 pub mod WholeTrees

@@ -1,11 +1,7 @@
-ghost use Rattle.std.specs.Prelude.{IfOk};
-ghost use Rattle.std.specs.List.{All};
-ghost use Rattle.symmetric_sums.specs.Terms.{FitsOver};
-
 use crate::fail::RowFail;
 use crate::{
-    checking, comparing, cones, divisions, elements, id_sums, logs, passing, places, reading,
-    shuffle, sorting, stores, symmetric, texts,
+    checking, comparing, elements, passing, places, reading, shuffle, sorting, stores, symmetric,
+    texts,
 };
 use presentation_text::{Document, ReadDocFail, read_document};
 use std::alloc::{AllocError, Global};
@@ -14,9 +10,7 @@ use std::alloc::{AllocError, Global};
 const MOST_BYTES: usize = 16_777_216;
 
 // The document of a text.
-fn document_of(alloc: Global, bytes: &[u8]) -> Result<Document, RowFail>
-    ensures fit { IfOk result (λ document. All (FitsOver document.field document.gens) document.rels) }
-{
+fn document_of(alloc: Global, bytes: &[u8]) -> Result<Document, RowFail> {
     if bytes.len() > MOST_BYTES {
         return Err(RowFail::Refused);
     }
@@ -46,9 +40,7 @@ fn number_answer(
     numbers: &[u32],
     document: &Document,
     out: &mut Vec<u8>,
-) -> Result<bool, RowFail>
-    requires fit { All (FitsOver document.now.field document.now.gens) document.now.rels }
-{
+) -> Result<bool, RowFail> {
     match name {
         "Store::put" => stores::put(alloc, document, out)?,
         "Store::vertex" => stores::vertex(alloc, document, numbers, out)?,
@@ -57,15 +49,6 @@ fn number_answer(
         "Place::of" => places::cut(alloc, document, numbers, out)?,
         "sort_blocks" => sorting::blocks(alloc, document, out)?,
         "sorted" => sorting::all(alloc, document, numbers, out)?,
-        "SSum::add_scaled" => id_sums::add_scaled(alloc, document, numbers, out)?,
-        "Shelf::shelve" => id_sums::shelve(alloc, document, out)?,
-        "Basis::add" => id_sums::basis(alloc, document, out)?,
-        "insert_at_root" => divisions::at_root(alloc, document, out)?,
-        "step" => divisions::tail(alloc, document, out)?,
-        "gather" => divisions::gathered(alloc, document, out)?,
-        "reduce_row" => cones::reduced(alloc, document, numbers, out)?,
-        "Log::push" => logs::push(alloc, document, out)?,
-        "entry_for" => logs::entry(alloc, document, numbers, out)?,
         _ => return Ok(false),
     }
     Ok(true)
