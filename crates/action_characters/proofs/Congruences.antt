@@ -2,8 +2,8 @@
 use Rattle.std.proofs.Common.{◌≡◌, ℕ, suc, ◌+◌, ◌*◌, ◌%◌, List, [], ◌∷◌, refl, sym, ◌∙◌, ap, arith}
 use mathlib.Core.List.{◌++◌}
 use mathlib.Core.Path.{ap₂}
-use Rattle.modular_sums.specs.Residues.{Alike}
-use Rattle.modular_sums.specs.Sums.{coef, scale, Same, expand, Member, AllTerms}
+use Rattle.modular_sums.specs.Residues.{IsCongruent}
+use Rattle.modular_sums.specs.Sums.{coef, scale, Same, expand, IsLinearCombination, AllTerms}
 use Rattle.modular_sums.proofs.Residues.{alike_add, alike_mul}
 use Rattle.modular_sums.proofs.Sums.{coef-append, coef-scale, coef-expand_append, coef-expand_scale, Member-append, Member-scale, Member-same, AllTerms-append, AllTerms-scale}
 use Rattle.modular_sums.proofs.Images.{same_sum, sum_over-append, sum_over-scale}
@@ -48,7 +48,7 @@ AllTerms-expand image P Q (x ∷ e) f h =
 module _ {M I : Type 0} (dec : Discrete M) (value : I → List (ℕ × M)) (q : ℕ) where
   -- the sums differ by a sum of instances
   abbrev pub Congruent : List (ℕ × M) → List (ℕ × M) → Type 0
-  Congruent e f = Member dec value q (e ++ scale q f)
+  Congruent e f = IsLinearCombination dec value q (e ++ scale q f)
 
   -- two sums that are congruent to one
   pub congruent_both : (d f g : List (ℕ × M)) → Congruent d f → Congruent d g → Congruent f g
@@ -94,7 +94,7 @@ module _ {M I : Type 0} (dec : Discrete M) (value : I → List (ℕ × M)) (q : 
       )
           (terms (coef dec a t) (coef dec b t) (coef dec e t) (coef dec f t))
         where
-          terms : (u v w z : ℕ) → Alike q (c * u + w + q * (c * v + z)) (c * (u + q * v) + (w + q * z))
+          terms : (u v w z : ℕ) → IsCongruent q (c * u + w + q * (c * v + z)) (c * (u + q * v) + (w + q * z))
           terms u v w z = let k : c * u + w + q * (c * v + z) ≡ c * (u + q * v) + (w + q * z) = omega arith in ap (λ n. n % suc q) k
 
   -- two linear maps whose values are congruent at each monomial of a sum

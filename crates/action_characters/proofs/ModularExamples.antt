@@ -2,9 +2,9 @@
 use Rattle.std.proofs.Common.{◌≡◌, ℕ, zero, suc, ◌%◌, List, [], ◌∷◌, refl, sym, ◌∙◌, ap, arith, subst, inl, inr}
 use mathlib.Core.List.{◌++◌}
 use native.Mathlib.Decide.{ℕ_discrete}
-use Rattle.modular_sums.specs.Residues.{Alike}
+use Rattle.modular_sums.specs.Residues.{IsCongruent}
 use Rattle.modular_sums.specs.Lists.{Mem}
-use Rattle.modular_sums.specs.Sums.{coef, scale, Same, expand, Member, AllTerms}
+use Rattle.modular_sums.specs.Sums.{coef, scale, Same, expand, IsLinearCombination, AllTerms}
 use Rattle.modular_sums.proofs.Sameness.{same_if_agree}
 use Rattle.modular_sums.proofs.Coefficients.{coef_absent, coef_nothing}
 use Rattle.modular_sums.proofs.Images.{AllTerms-imp}
@@ -34,7 +34,7 @@ abbrev Form : List ℕ → List (ℕ × ℕ) → List (ℕ × ℕ) → Type 0
 Form = IsFormOn ℕ_discrete value 100
 
 -- c times 0 + 1 + 2
-in_span : (c : ℕ) (e : List (ℕ × ℕ)) → Same ℕ_discrete 100 e (expand value ((c, tt) ∷ [])) → Member ℕ_discrete value 100 e
+in_span : (c : ℕ) (e : List (ℕ × ℕ)) → Same ℕ_discrete 100 e (expand value ((c, tt) ∷ [])) → IsLinearCombination ℕ_discrete value 100 e
 in_span c e h = record { uses = (c, tt) ∷ []; adds_up = h }
 
 keeps : KeepsSpans ℕ_discrete 100 value value next
@@ -57,14 +57,14 @@ at_each l t m = coef-expand_sum ℕ_discrete value l t ∙ go t m
 
 -- so one that lacks one of them is zero
 zero_without : (l : List ℕ) (c : ℕ) → Mem c (0 ∷ (1 ∷ (2 ∷ []))) → ((t : ℕ) → Mem t l → t ≡ c → ⊥) → ((t : ℕ) → Mem t l → Mem t (0 ∷ (1 ∷ (2 ∷ []))))
-    → (e : List (ℕ × ℕ)) → AllTerms e (λ t. Mem t l) → Member ℕ_discrete value 100 e → Same ℕ_discrete 100 e []
+    → (e : List (ℕ × ℕ)) → AllTerms e (λ t. Mem t l) → IsLinearCombination ℕ_discrete value 100 e → Same ℕ_discrete 100 e []
 zero_without l c at_c lacks among e h m t = go (mem_discrete ℕ_discrete t l)
   where
-    gone : Alike 100 (sum_over m.uses (λ x. 1)) 0
+    gone : IsCongruent 100 (sum_over m.uses (λ x. 1)) 0
     gone = ap (λ k. k % 101) (sym (at_each m.uses c at_c)) ∙ sym (m.adds_up c)
         ∙ ap (λ k. k % 101) (coef_absent ℕ_discrete e c (AllTerms-imp (λ u. Mem u l) (λ u. u ≡ c → ⊥) e lacks h))
 
-    go : Dec (Mem t l) → Alike 100 (coef ℕ_discrete e t) (coef ℕ_discrete [] t)
+    go : Dec (Mem t l) → IsCongruent 100 (coef ℕ_discrete e t) (coef ℕ_discrete [] t)
     go (yes i) = m.adds_up t ∙ ap (λ k. k % 101) (at_each m.uses t (among t i)) ∙ gone ∙ ap (λ k. k % 101) (sym (coef_nothing ℕ_discrete t))
     go (no f) = ap (λ k. k % 101) (coef_absent ℕ_discrete e t (AllTerms-imp (λ u. Mem u l) (λ u. u ≡ t → ⊥) e (λ u i s. f (subst (λ y. Mem y l) s i)) h) ∙ sym (coef_nothing ℕ_discrete t))
 

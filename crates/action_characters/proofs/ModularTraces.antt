@@ -3,9 +3,9 @@ use Rattle.std.proofs.Common.{◌≡◌, ℕ, suc, ◌+◌, ◌*◌, ◌%◌, Li
 use mathlib.Core.List.{◌++◌}
 use mathlib.Core.Path.{ap₂}
 use Rattle.std.specs.List.{sum_by}
-use Rattle.modular_sums.specs.Residues.{Alike}
+use Rattle.modular_sums.specs.Residues.{IsCongruent}
 use Rattle.modular_sums.specs.Lists.{Mem}
-use Rattle.modular_sums.specs.Sums.{coef, scale, Same, expand, Member}
+use Rattle.modular_sums.specs.Sums.{coef, scale, Same, expand, IsLinearCombination}
 use Rattle.modular_sums.proofs.Sums.{AllTerms-append, AllTerms-scale}
 use Rattle.modular_sums.proofs.Differences.{same_of_zero}
 use Rattle.modular_sums.proofs.Links.{member_one}
@@ -51,7 +51,7 @@ module _ {M N I J : Type 0} (decm : Discrete M) (decn : Discrete N) (q : ℕ) (v
 
   -- the coefficient of a form, as a sum over the other list
   pub coefficient : (e f : List (ℕ × N)) (g : List (ℕ × M)) → IsFormOn decn other q l e f → IsFormOn decm value q k (expand back e) g
-      → (t : M) → Alike q (coef decm g t) (total (λ u. coef decn f u * coef decm (B u) t) l)
+      → (t : M) → IsCongruent q (coef decm g t) (total (λ u. coef decn f u * coef decm (B u) t) l)
   coefficient e f g h i t =
       forms_are_unique M I decm value q k free (expand back e) g (expand B f) i (form_through e f h) t
       ∙ ap (λ n. n % suc q) (coef-expand_sum decm B f t ∙ sum_over-total decn f (λ u. coef decm (B u) t) l free_l.distinct h.on_list)
@@ -62,10 +62,10 @@ traces_commute M N I J decm decn q value other there back keeps keeps_back k l f
     let b = chosen decn l [] (λ u f. IsFormOn decm value q k (back u) f) back_is in
     let A : M → List (ℕ × N) = a.0 in
     let B : N → List (ℕ × M) = b.0 in
-    let first : Alike q (total (λ t. coef decm (tr.forms t) t) k) (total (λ t. total (λ u. coef decn (A t) u * coef decm (B u) t) l) k)
+    let first : IsCongruent q (total (λ t. coef decm (tr.forms t) t) k) (total (λ t. total (λ u. coef decn (A t) u * coef decm (B u) t) l) k)
     = total_alike q (λ t. coef decm (tr.forms t) t) (λ t. total (λ u. coef decn (A t) u * coef decm (B u) t) l) k
     (λ t m. coefficient decm decn q value other back keeps_back k l free free_l B b.1 (there t) (A t) (tr.forms t) (a.1 t m) (tr.each t m) t) in
-    let second : Alike q (total (λ u. coef decn (ts.forms u) u) l) (total (λ u. total (λ t. coef decm (B u) t * coef decn (A t) u) k) l)
+    let second : IsCongruent q (total (λ u. coef decn (ts.forms u) u) l) (total (λ u. total (λ t. coef decm (B u) t * coef decn (A t) u) k) l)
     = total_alike q (λ u. coef decn (ts.forms u) u) (λ u. total (λ t. coef decm (B u) t * coef decn (A t) u) k) l
     (λ u m. coefficient decn decm q other value there keeps l k free_l free A a.1 (back u) (B u) (ts.forms u) (b.1 u m) (ts.each u m) u) in
     let turned : total (λ t. total (λ u. coef decn (A t) u * coef decm (B u) t) l) k ≡ total (λ u. total (λ t. coef decm (B u) t * coef decn (A t) u) k) l
@@ -95,11 +95,11 @@ pub bases_agree : (M I : Type 0) → BasesAgree M I
 bases_agree M I dec value q image keeps k l free free_l to_l to_k r s tr ts =
     let c = chosen dec l [] (λ u f. IsFormOn dec value q k (one u) f) to_k in
     traces_commute M M I I dec dec q value value one image
-    (λ i. subst (Member dec value q) (sym (one_expand (value i))) (member_one dec value q i)) keeps k l free free_l to_l
+    (λ i. subst (IsLinearCombination dec value q) (sym (one_expand (value i))) (member_one dec value q i)) keeps k l free free_l to_l
     (λ u m. (
       expand c.0 (ts.forms u),
       subst (λ e. IsFormOn dec value q k e (expand c.0 (ts.forms u))) (one_expand (image u))
-          (form_through dec dec q value value one (λ i. subst (Member dec value q) (sym (one_expand (value i))) (member_one dec value q i)) k l free free_l c.0 c.1 (image u) (ts.forms u) (ts.each u m)),
+          (form_through dec dec q value value one (λ i. subst (IsLinearCombination dec value q) (sym (one_expand (value i))) (member_one dec value q i)) k l free free_l c.0 c.1 (image u) (ts.forms u) (ts.each u m)),
     ))
     r s
     (trace_same dec value q (λ t. expand image (one t)) image k r (λ t m. expand_one dec q image t) tr)

@@ -3,7 +3,7 @@ use Rattle.std.proofs.Common.{◌≡◌, ℕ, ◌*◌, List, [], ◌∷◌, refl
 use Rattle.std.specs.Prelude.{flat_map}
 use mathlib.Core.Path.{ap₂}
 use mathlib.Core.List.{◌++◌}
-use Rattle.modular_sums.specs.Sums.{scale, expand, Member}
+use Rattle.modular_sums.specs.Sums.{scale, expand, IsLinearCombination}
 use Rattle.modular_sums.proofs.Sums.{Member-append, Member-same}
 use Rattle.modular_sums.proofs.Links.{member_zero, member_one}
 use Rattle.labelled_trees.specs.Trees.{Tree}
@@ -20,7 +20,7 @@ use Rattle.shuffle_transfer.proofs.RelabelledIdeals.{ideal_is_relabelled}
 
 module _ (p : Presentation) (n : ℕ) where
   abbrev pub InSpan : List (ℕ × Tree ℕ) → Type 0
-  InSpan e = Member tree_discrete (element p n) p.q e
+  InSpan e = IsLinearCombination tree_discrete (element p n) p.q e
 
   span_elements : (l : List (Instance p n)) → InSpan (flat_map (element p n) l)
   span_elements [] = member_zero tree_discrete (element p n) p.q

@@ -2,7 +2,7 @@
 use Rattle.std.proofs.Common.{◌≡◌, ℕ, ◌%◌, ◌<◌, ◌≤◌, suc, List, [], ◌∷◌, length, refl, sym, ◌∙◌, ap, arith, subst, inl, inr}
 use mathlib.Core.List.{◌++◌}
 use Rattle.std.specs.List.{sum_by}
-use Rattle.modular_sums.specs.Residues.{Alike}
+use Rattle.modular_sums.specs.Residues.{IsCongruent}
 use Rattle.modular_sums.specs.Lists.{Mem}
 use Rattle.modular_sums.specs.Sums.{coef, scale, Same, expand}
 use Rattle.modular_sums.proofs.Residues.{alike_add}
@@ -134,7 +134,7 @@ module _ (p : Presentation) (n : ℕ) (w : List ℕ) (l : List (Tree ℕ)) (free
 
   -- the coefficients of other forms
   diagonal_alike : (forms : Tree ℕ → List (ℕ × Tree ℕ)) (trees : List (Tree ℕ)) → ((t : Tree ℕ) → Mem t trees → IsCombination p n l (image p n w t) (forms t))
-      → (rows : List (List (ℕ × Tree ℕ))) → AreRows p n w l trees rows → Alike p.q (diagonal trees rows) (total (λ t. coef tree_discrete (forms t) t) trees)
+      → (rows : List (List (ℕ × Tree ℕ))) → AreRows p n w l trees rows → IsCongruent p.q (diagonal trees rows) (total (λ t. coef tree_discrete (forms t) t) trees)
   diagonal_alike forms [] h rows k = refl
   diagonal_alike forms (t ∷ trees) h [] k = absurd k
   diagonal_alike forms (t ∷ trees) h (f ∷ rows) k =

@@ -4,7 +4,7 @@ use Rattle.std.proofs.Common.{◌≡◌, ℕ, suc, ◌%◌, List, [], ◌∷◌,
 use Rattle.std.specs.Prelude.{flat_map}
 use mathlib.Core.List.{◌++◌}
 use native.Mathlib.Decide.{ℕ_discrete}
-use Rattle.modular_sums.specs.Residues.{Alike}
+use Rattle.modular_sums.specs.Residues.{IsCongruent}
 use Rattle.modular_sums.specs.Lists.{Mem, Distinct}
 use Rattle.modular_sums.specs.Sums.{hit, coef, scale, Same, moved, AllTerms}
 use Rattle.modular_sums.proofs.Sums.{hit-no, AllTerms-append, AllTerms-scale}
@@ -35,7 +35,7 @@ module _ (p : Presentation) (n : ℕ) where
   all_labelled (i ∷ l) = AllTerms-append (element p n i) (flat_map (element p n) l) (IsLabelled (arity_of p) n)
       (AllTerms-scale i.residue (moved (placed i.context i.inputs) (rule_terms p i.rule)) (IsLabelled (arity_of p) n) i.labelled) (all_labelled l)
 
-  unlabelled_gone : (e : List (ℕ × Tree ℕ)) → InIdeal p n e → (t : Tree ℕ) → (IsLabelled (arity_of p) n t → ⊥) → Alike p.q (coef tree_discrete e t) 0
+  unlabelled_gone : (e : List (ℕ × Tree ℕ)) → InIdeal p n e → (t : Tree ℕ) → (IsLabelled (arity_of p) n t → ⊥) → IsCongruent p.q (coef tree_discrete e t) 0
   unlabelled_gone e h t out = h.adds_up t ∙ ap (λ k. k % suc p.q) (coef_absent tree_discrete (flat_map (element p n) h.instances) t
       (AllTerms-imp (IsLabelled (arity_of p) n) (λ u. u ≡ t → ⊥) (flat_map (element p n) h.instances) (λ u k e. out (subst (IsLabelled (arity_of p) n) e k)) (all_labelled h.instances)))
 
@@ -85,7 +85,7 @@ none_there (x ∷ e) = go (tree_discrete x.1 (leaf 0)) (none_there e)
 others_same : (e : List (ℕ × Tree ℕ)) → InIdeal lie 3 e → Same tree_discrete 100 (others e) e
 others_same e h t = go (tree_discrete t (leaf 0))
   where
-    go : Dec (t ≡ leaf 0) → Alike 100 (coef tree_discrete (others e) t) (coef tree_discrete e t)
+    go : Dec (t ≡ leaf 0) → IsCongruent 100 (coef tree_discrete (others e) t) (coef tree_discrete e t)
     go (yes s) = ap (λ u. coef tree_discrete (others e) u % 101) s ∙ ap (λ k. k % 101) (coef_absent tree_discrete (others e) (leaf 0) (none_there e))
         ∙ sym (unlabelled_gone lie 3 e h (leaf 0) not_labelled) ∙ ap (λ u. coef tree_discrete e u % 101) (sym s)
     go (no ne) = ap (λ k. k % 101) (others_coef t ne e)

@@ -1,7 +1,7 @@
 -- Lists of uses that add up.
 use Rattle.std.proofs.Common.{◌≡◌, ℕ, suc, ◌-◌, ◌*◌, ◌%◌, ◌<◌, List, [], ◌∷◌, ◌++◌, refl, sym, ap, ◌∙◌, arith}
 use Rattle.std.proofs.lemmas.List.Elements.{All-append, All-from_recursion, recursion_from_All}
-use Rattle.modular_sums.specs.Residues.{Alike}
+use Rattle.modular_sums.specs.Residues.{IsCongruent}
 use Rattle.modular_sums.specs.Sums.{coef, scale, Same}
 use Rattle.modular_sums.proofs.Residues.{alike_mul}
 use Rattle.modular_sums.proofs.Sums.{coef-append, coef-scale}
@@ -20,7 +20,7 @@ use Rattle.modular_sums.specs.Sums.{moved}
 use Rattle.arity_completion.specs.Uses.{AddUpTo}
 
 -- multiples of sums that are the same, by alike factors
-pub same_multiples : (q a b : ℕ) (l : List (ℕ × Tree ℕ)) → Alike q a b → Same tree_discrete q (scale a l) (scale b l)
+pub same_multiples : (q a b : ℕ) (l : List (ℕ × Tree ℕ)) → IsCongruent q a b → Same tree_discrete q (scale a l) (scale b l)
 same_multiples q a b l h t =
     ap (λ n. n % suc q) (coef-scale tree_discrete a l t) ∙ alike_mul q a b (coef tree_discrete l t) (coef tree_discrete l t) h refl
     ∙ ap (λ n. n % suc q) (sym (coef-scale tree_discrete b l t))

@@ -18,7 +18,7 @@ use Rattle.operad_ideals.proofs.Spellings.{sorted_spelling}
 use Rattle.shuffle_insertions.specs.ShuffleTrees.{IsShuffleTree}
 use Rattle.shuffle_transfer.specs.Labels.{inputs_of, shuffle_form, symmetric_tree}
 use Rattle.shuffle_transfer.specs.Transfer.{shuffled}
-use Rattle.shuffle_transfer.proofs.Forth.{spelling, back_law}
+use Rattle.shuffle_transfer.proofs.ShuffleFormsFit.{spelling, back_law}
 use Rattle.shuffle_transfer.proofs.Spanning.{all_forms, all_labelled}
 use Rattle.symmetric_trees.specs.Trees as table
 use Rattle.symmetric_trees.specs.Generators.{parts_at, generators_of}

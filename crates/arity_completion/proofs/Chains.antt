@@ -1,7 +1,7 @@
 -- Chains, and what is kept of them.
 use Rattle.std.proofs.Common.{◌≡◌, ℕ, suc, ◌+◌, ◌*◌, ◌-◌, ◌%◌, List, [], ◌∷◌, ◌++◌, refl, sym, ap, ◌∙◌, arith, append-nil, append_assoc}
 use Rattle.std.proofs.lemmas.List.Elements.{All-nil}
-use Rattle.modular_sums.specs.Residues.{Alike}
+use Rattle.modular_sums.specs.Residues.{IsCongruent}
 use Rattle.modular_sums.specs.Sums.{coef, scale, Same}
 use Rattle.modular_sums.proofs.Residues.{alike_add, alike_drop}
 use Rattle.modular_sums.proofs.Sums.{coef-append, coef-scale}
@@ -39,7 +39,7 @@ pub rows_law : ReducedRowsAreKept
 rows_law m generators rels earlier shelf numbers starts cofactors factor last entry h compare elements n order monic entries are before steps of alone row rest start chain valid same = (
   h.kept compare elements n order monic entries are (before ++ steps) of valid
       (λ t. sym (same t ∙ same-scale (m - 1) factor (alone ++ rest) (all_started m generators rels earlier starts ++ taken (before ++ steps))
-      (row_taken (Rattle.shuffle_transfer.specs.Certified.setting (presentation_of m generators rels) compare elements) n before steps (all_started m generators rels earlier starts) alone row rest start chain) t)),
+      (row_taken (Rattle.shuffle_transfer.specs.GroebnerBases.setting (presentation_of m generators rels) compare elements) n before steps (all_started m generators rels earlier starts) alone row rest start chain) t)),
   h.element.stands n valid,
 )
 
@@ -50,7 +50,7 @@ turned q row more last h z t =
     let r = coef tree_discrete row t in
     let k = coef tree_discrete more t in
     let both = coef-append tree_discrete row more t in
-    let gone : Alike q (coef tree_discrete row t + coef tree_discrete more t) 0 = ap (λ c. c % suc q) (sym both) ∙ sym (h t) ∙ z t in
+    let gone : IsCongruent q (coef tree_discrete row t + coef tree_discrete more t) 0 = ap (λ c. c % suc q) (sym both) ∙ sym (h t) ∙ z t in
     let zero_more : q * coef tree_discrete more t + 0 ≡ q * coef tree_discrete more t = omega arith in
     let turn : q * coef tree_discrete more t + (coef tree_discrete row t + coef tree_discrete more t) ≡ coef tree_discrete row t + (coef tree_discrete more t + q * coef tree_discrete more t) = omega arith in
     ap (λ c. c % suc q) (coef-scale tree_discrete q more t ∙ sym zero_more)
@@ -60,6 +60,6 @@ turned q row more last h z t =
 pub differences_law : DifferencesAreKept
 differences_law m generators rels earlier shelf numbers cofactors entry positive uses fits reduced compare elements n order monic entries steps of row last stands chain none =
     let up = uses compare elements n order monic entries (All-nil (IsStart m generators rels earlier n)) steps of in
-    let taken_is = chain_taken (Rattle.shuffle_transfer.specs.Certified.setting (presentation_of m generators rels) compare elements) n steps row last chain in
+    let taken_is = chain_taken (Rattle.shuffle_transfer.specs.GroebnerBases.setting (presentation_of m generators rels) compare elements) n steps row last chain in
     kept_law m generators rels earlier n entry up.parts row positive fits up.coefs reduced up.stand stands
     (λ t. up.same t ∙ turned (m - 1) row (taken steps) last taken_is none t)

@@ -3,7 +3,7 @@ use Rattle.std.proofs.Common.{◌≡◌, ℕ, suc, ◌*◌, ◌%◌, ◌<◌, Li
 use Rattle.std.specs.Prelude.{slice_index}
 use Rattle.std.proofs.Math.ListN.{length-map}
 use Rattle.std.specs.declared.cmp.Ordering.{Ordering}
-use Rattle.modular_sums.specs.Residues.{Alike}
+use Rattle.modular_sums.specs.Residues.{IsCongruent}
 use Rattle.modular_sums.specs.Sums.{coef, scale, Same, moved}
 use Rattle.modular_sums.proofs.Coefficients.{coef_absent, coef_first}
 use Rattle.modular_sums.proofs.Images.{AllTerms-imp}
@@ -21,7 +21,7 @@ use Rattle.shuffle_places.proofs.Laws.{place_frames}
 use Rattle.shuffle_places.proofs.Sizes.{one_size}
 use Rattle.shuffle_bases.specs.Elements.{Element, terms, Setting, IsLess, AreMonic, Insertion, value_of}
 use Rattle.shuffle_normal_forms.proofs.Leading.{not_less, one_not_zero}
-use Rattle.shuffle_transfer.specs.Certified.{setting}
+use Rattle.shuffle_transfer.specs.GroebnerBases.{setting}
 use Rattle.shuffle_transfer.specs.Labels.{inputs_of, symmetric_tree}
 use Rattle.shuffle_transfer.specs.Transfer.{shuffled}
 use Rattle.symmetric_trees.specs.declared.generators.Generator.{Generator}
@@ -91,7 +91,7 @@ module _ (m : ℕ) (generators : List Generator) (rels earlier : List (List Term
     unfolding coef
     has_terms e =
         let one = coef_first tree_discrete 1 x.1.of.lead x.1.of.tail lead_absent in
-        let same : Alike p.q 0 (coef tree_discrete (terms x.1.of) x.1.of.lead) = subst (λ l. Same tree_discrete p.q (shuffled p l) (terms x.1.of)) e stands.same x.1.of.lead in
+        let same : IsCongruent p.q 0 (coef tree_discrete (terms x.1.of) x.1.of.lead) = subst (λ l. Same tree_discrete p.q (shuffled p l) (terms x.1.of)) e stands.same x.1.of.lead in
         one_not_zero p.q (omega (arith, prime)) (ap (λ k. k % suc p.q) (sym one) ∙ sym same)
 
     as_many : length item.inputs ≡ x.1.of.arity
@@ -119,7 +119,7 @@ module _ (m : ℕ) (generators : List Generator) (rels earlier : List (List Term
   steps_add (x ∷ steps) (c ∷ cofactors) (item ∷ uses) of u =
       let q = p.q in
       let one = add_one m generators rels earlier n item uses (value_of x.1) (scale factor (taken steps)) u.0.residue (step_good x c item of.0 u.0) (step_stands x c item of.0 u.0) (steps_add steps cofactors uses of.1 u.1) in
-      let number : Alike p.q item.coef (factor * (p.q * x.0)) = u.0.coef ∙ ap (λ k. (factor * (p.q * k)) % suc p.q) of.0.number in
+      let number : IsCongruent p.q item.coef (factor * (p.q * x.0)) = u.0.coef ∙ ap (λ k. (factor * (p.q * k)) % suc p.q) of.0.number in
       let first : Same tree_discrete p.q (scale item.coef (value_of x.1) ++ scale factor (taken steps)) (scale (factor * (p.q * x.0)) (value_of x.1) ++ scale factor (taken steps)) =
       same-append p.q (scale item.coef (value_of x.1)) (scale factor (taken steps)) (scale (factor * (p.q * x.0)) (value_of x.1)) (scale factor (taken steps)) (same_multiples p.q item.coef (factor * (p.q * x.0)) (value_of x.1) number) (λ t. refl) in
       subst (AddUpTo m generators rels earlier n (item ∷ uses))

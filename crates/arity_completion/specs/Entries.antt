@@ -8,7 +8,7 @@ use Rattle.labelled_trees.specs.Equality.{tree_discrete}
 use Rattle.shuffle_insertions.specs.Orders.{IsTreeOrder}
 use Rattle.shuffle_insertions.specs.ShuffleTrees.{IsShuffleTree}
 use Rattle.shuffle_bases.specs.Elements.{Element, AreMonic, Insertion}
-use Rattle.shuffle_transfer.specs.Certified.{setting}
+use Rattle.shuffle_transfer.specs.GroebnerBases.{setting}
 use Rattle.shuffle_transfer.specs.Labels.{inputs_of}
 use Rattle.symmetric_trees.specs.declared.generators.Generator.{Generator}
 use Rattle.symmetric_sums.specs.Membership.{presentation_of}
@@ -16,7 +16,7 @@ use Rattle.symmetric_sums.specs.declared.term.Term.{Term}
 use Rattle.shuffle_sums.specs.Shelves.{Shelf}
 use Rattle.division.specs.Cofactors.{AreOf}
 use Rattle.division.specs.declared.cofactor.Cofactor.{Cofactor}
-use Rattle.cofactor_log.specs.Entries.{IsKept}
+use Rattle.cofactor_log.specs.Entries.{KeepsRule}
 use Rattle.cofactor_log.specs.declared.entry.Entry.{Entry}
 use Rattle.arity_completion.specs.Trails.{IsStart, all_started, taken, AreEntriesOf}
 use Rattle.arity_completion.specs.Uses.{IsElementFor, UsesAddUp}
@@ -37,4 +37,4 @@ pub record IsEntryFor (m : ℕ) (generators : List Generator) (rels earlier : Li
       → AreOf (setting (presentation_of m generators rels) compare elements) n shelf steps cofactors
       → AllTerms terms (IsShuffleTree (inputs_of (generators_of generators)) n)
       → Same tree_discrete (m - 1) (scale factor (all_started m generators rels earlier starts ++ taken steps)) terms
-      → IsKept m generators rels earlier entry
+      → KeepsRule m generators rels earlier entry

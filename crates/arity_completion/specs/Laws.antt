@@ -9,7 +9,7 @@ use Rattle.operad_ideals.specs.Presentations.{Presentation}
 use Rattle.shuffle_insertions.specs.Orders.{IsTreeOrder}
 use Rattle.shuffle_insertions.specs.ShuffleTrees.{IsShuffleTree}
 use Rattle.shuffle_bases.specs.Elements.{Element, terms, AreMonic, Insertion}
-use Rattle.shuffle_transfer.specs.Certified.{setting}
+use Rattle.shuffle_transfer.specs.GroebnerBases.{setting}
 use Rattle.shuffle_transfer.specs.Labels.{inputs_of}
 use Rattle.shuffle_transfer.specs.Orderings.{IsOrdering, entry}
 use Rattle.symmetric_sums.specs.Uses.{CitesElement}
@@ -24,7 +24,7 @@ use Rattle.shuffle_sums.specs.Shelves.{Shelf}
 use Rattle.shuffle_reductions.specs.Chains.{IsChain}
 use Rattle.division.specs.Cofactors.{AreOf}
 use Rattle.division.specs.declared.cofactor.Cofactor.{Cofactor}
-use Rattle.cofactor_log.specs.Entries.{IsKept}
+use Rattle.cofactor_log.specs.Entries.{KeepsRule}
 use Rattle.cofactor_log.specs.declared.entry.Entry.{Entry}
 use Rattle.logged_steps.specs.Standing.{StandsFor}
 use Rattle.arity_completion.specs.Entries.{IsEntryFor}
@@ -48,7 +48,7 @@ ReducedRowsAreKept = (m : ℕ) (generators : List Generator) (rels earlier : Lis
     → (alone row rest : List (ℕ × Tree ℕ)) → Same tree_discrete (m - 1) (alone ++ row) (all_started m generators rels earlier starts ++ taken before)
     → IsChain (setting (presentation_of m generators rels) compare elements) n row steps rest
     → AllTerms last (IsShuffleTree (inputs_of (generators_of generators)) n) → Same tree_discrete (m - 1) last (scale factor (alone ++ rest))
-    → IsKept m generators rels earlier entry × StandsFor (presentation_of m generators rels) n (terms_of entry.element) last
+    → KeepsRule m generators rels earlier entry × StandsFor (presentation_of m generators rels) n (terms_of entry.element) last
 
 -- Where a reduced element stands for a row that a chain leads to nothing, the entry with the uses of the chain's cofactors, times -1, keeps the rule.
 abbrev pub DifferencesAreKept : Type 0
@@ -62,7 +62,7 @@ DifferencesAreKept = (m : ℕ) (generators : List Generator) (rels earlier : Lis
     → AreOf (setting (presentation_of m generators rels) compare elements) n shelf steps cofactors
     → (row last : List (ℕ × Tree ℕ)) → StandsFor (presentation_of m generators rels) n (terms_of entry.element) row
     → IsChain (setting (presentation_of m generators rels) compare elements) n row steps last → Same tree_discrete (m - 1) last []
-    → IsKept m generators rels earlier entry
+    → KeepsRule m generators rels earlier entry
 
 -- What carries the entries through a completion: there is nothing to stand for at the start; where an element is added behind the others,
 -- and where one is replaced, an entry that stands for it is pushed, and its number put there.

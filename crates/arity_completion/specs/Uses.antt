@@ -2,7 +2,7 @@
 use Rattle.std.specs.Prelude.{ℕ, ◌≡◌, ◌*◌, ◌-◌, ◌<◌, List, [], ◌∷◌, ◌++◌, map, slice_index}
 use Rattle.std.specs.List.{All}
 use Rattle.std.specs.declared.cmp.Ordering.{Ordering}
-use Rattle.modular_sums.specs.Residues.{Alike}
+use Rattle.modular_sums.specs.Residues.{IsCongruent}
 use Rattle.modular_sums.specs.Sums.{scale, Same, AllTerms}
 use Rattle.labelled_trees.specs.Trees.{Tree, leaf}
 use Rattle.labelled_trees.specs.Equality.{tree_discrete}
@@ -12,7 +12,7 @@ use Rattle.shuffle_insertions.specs.Orders.{IsTreeOrder}
 use Rattle.shuffle_insertions.specs.ShuffleTrees.{IsShuffleTree}
 use Rattle.shuffle_places.specs.Places.{frame_at}
 use Rattle.shuffle_bases.specs.Elements.{Element, AreMonic, Insertion}
-use Rattle.shuffle_transfer.specs.Certified.{setting}
+use Rattle.shuffle_transfer.specs.GroebnerBases.{setting}
 use Rattle.shuffle_transfer.specs.Labels.{inputs_of, symmetric_tree}
 use Rattle.symmetric_trees.specs.Generators.{parts_at, generators_of}
 use Rattle.symmetric_trees.specs.declared.generators.Generator.{Generator}
@@ -43,7 +43,7 @@ pub record IsStartUse (factor : ℕ) (start : Start) (item : Instance) : Type 0 
 -- so many times what the step subtracts: the entry of its element, with the frame at its place passed back
 pub record IsStepUse (m : ℕ) (generators : List Generator) (shelf : Shelf) (numbers : List ℕ) (factor : ℕ) (c : Cofactor) (item : Instance) : Type 0 where
   pub residue : item.coef < m
-  pub coef : Alike (m - 1) item.coef (factor * ((m - 1) * c.coef))
+  pub coef : IsCongruent (m - 1) item.coef (factor * ((m - 1) * c.coef))
   pub rule : item.rule ≡ Step (slice_index numbers c.element)
   pub hole : IsContext (tree_of item.context)
   pub context : tree_of item.context ≡ symmetric_tree (generators_of generators) (frame_at c.place (tree_at shelf.trees c.host)).hole

@@ -6,7 +6,7 @@ use Rattle.std.specs.Prelude.{Option, Some}
 use Rattle.std.specs.declared.cmp.Ordering.{Ordering}
 use Rattle.std.specs.declared.cmp.Ordering.TheVariants.{Less}
 use Rattle.modular_sums.specs.Lists.{Distinct, Mem, nth}
-use Rattle.modular_sums.specs.Sums.{scale, moved, expand, Same, AllTerms, Member}
+use Rattle.modular_sums.specs.Sums.{scale, moved, expand, Same, AllTerms, IsLinearCombination}
 use Rattle.modular_sums.specs.Laws.{SumLaw}
 use Rattle.modular_sums.proofs.Laws.{sum_law}
 use Rattle.modular_sums.proofs.Lists.{mem_map, mem_of_map}
@@ -27,10 +27,10 @@ use Rattle.operad_ideals.specs.Ideals.{InIdeal}
 use Rattle.shuffle_transfer.specs.Orderings.{orderings}
 use Rattle.shuffle_transfer.specs.Labels.{inputs_of, shuffle_form, symmetric_tree}
 use Rattle.shuffle_transfer.specs.Transfer.{relabelled, shuffled, IsSumOfInsertions}
-use Rattle.shuffle_transfer.specs.Certified.{setting, IsCertified}
+use Rattle.shuffle_transfer.specs.GroebnerBases.{setting, IsGroebnerBasis}
 use Rattle.shuffle_transfer.proofs.Orderings.{all_orderings}
 use Rattle.basis_certificates.specs.Certificates.{Red, ElemEntry, RowEntry, Relabelling, RelabelEntry, Certificate, element_in}
-use Rattle.basis_certificates.specs.Entries.{HasOwnLeadingTree, HasUnit, IsGoodElem, IsFit, insertion_of, sum_of, s_element_at, IsRowRed, IsCommonMultiple, IsGoodRow, HasEveryRow, IsRelabelling, IsRelabelRed, IsGoodRelabel, HasEveryRelabel}
+use Rattle.basis_certificates.specs.Entries.{HasOwnLeadingTree, HasUnit, IsGoodElem, IsFitReduction, insertion_of, reductions_sum, s_element_at, IsRowRed, IsCommonMultiple, IsGoodRow, HasEveryRow, IsRelabelling, IsRelabelRed, IsGoodRelabel, HasEveryRelabel}
 use Rattle.basis_certificates.specs.Holding.{AreGood, CertificateHolds}
 use Rattle.basis_certificates.specs.ShuffleElements.{shuffle_element, shuffle_elements}
 use Rattle.basis_certificates.specs.Laws.{ShowMembers}
@@ -107,7 +107,7 @@ module _ {C : Type 0} (Shown : List (ℕ × Tree ℕ) → C → Type 0) (p : Pre
     pub all : AllTerms uses (λ i. Q i.tree)
     pub adds_up : Same tree_discrete p.q e (expand value_of uses)
 
-  insertion_for : (n : ℕ) (r : Red) → IsFit p.generators elems r → leaf_count r.tree ≡ n → Insertion s n
+  insertion_for : (n : ℕ) (r : Red) → IsFitReduction p.generators elems r → leaf_count r.tree ≡ n → Insertion s n
   insertion_for n r fit e = record {
     of = E fit.entry;
     member = mem_map E fit.entry elems (nth_mem elems r.number fit.entry fit.named);
@@ -117,22 +117,22 @@ module _ {C : Type 0} (Shown : List (ℕ × Tree ℕ) → C → Type 0) (p : Pre
     place = fit.place;
   }
 
-  same_value : (n : ℕ) (r : Red) (fit : IsFit p.generators elems r) (e : leaf_count r.tree ≡ n) → Same tree_discrete p.q (insertion_of p elems r.number r.tree r.set) (value_of (insertion_for n r fit e))
+  same_value : (n : ℕ) (r : Red) (fit : IsFitReduction p.generators elems r) (e : leaf_count r.tree ≡ n) → Same tree_discrete p.q (insertion_of p elems r.number r.tree r.set) (value_of (insertion_for n r fit e))
   unfolding insertion_for
   same_value n r fit e =
       subst (λ o. Same tree_discrete p.q (moved (insert (frame_at r.set (F r.tree))) (shuffled p (element_in o))) (inserted (E fit.entry) (F r.tree) r.set)) (sym fit.named)
       (λ t. sym (same_inserted fit.entry (nth_mem elems r.number fit.entry fit.named) (F r.tree) r.set t))
 
-  uses_of : (n : ℕ) (Q : Tree ℕ → Type 0) (reds : List Red) → AllByRecursion (λ r. IsFit p.generators elems r × (leaf_count r.tree ≡ n) × Q (F r.tree)) reds → Uses n Q (sum_of p elems reds)
+  uses_of : (n : ℕ) (Q : Tree ℕ → Type 0) (reds : List Red) → AllByRecursion (λ r. IsFitReduction p.generators elems r × (leaf_count r.tree ≡ n) × Q (F r.tree)) reds → Uses n Q (reductions_sum p elems reds)
   unfolding expand insertion_for
   uses_of n Q [] h = record { uses = []; all = tt; adds_up = λ t. refl }
   uses_of n Q (r ∷ reds) h =
-      let k : Uses n Q (sum_of p elems reds) = uses_of n Q reds h.1 in
+      let k : Uses n Q (reductions_sum p elems reds) = uses_of n Q reds h.1 in
       let i : Insertion s n = insertion_for n r h.0.0 h.0.1 in
       record {
         uses = (r.coefficient, i) ∷ k.uses;
         all = (h.0.2, k.all);
-        adds_up = (laws p.q).same_added (scale r.coefficient (insertion_of p elems r.number r.tree r.set)) (scale r.coefficient (value_of i)) (sum_of p elems reds) (expand value_of k.uses)
+        adds_up = (laws p.q).same_added (scale r.coefficient (insertion_of p elems r.number r.tree r.set)) (scale r.coefficient (value_of i)) (reductions_sum p elems reds) (expand value_of k.uses)
             ((laws p.q).same_scaled r.coefficient (insertion_of p elems r.number r.tree r.set) (value_of i) (same_value n r h.0.0 h.0.1)) k.adds_up;
       }
 
@@ -146,7 +146,7 @@ module _ {C : Type 0} (Shown : List (ℕ × Tree ℕ) → C → Type 0) (p : Pre
         record { uses = k.uses; all = k.all; adds_up = λ t. h.adds_up t ∙ k.adds_up t }
       where
         each_red : (reds : List Red) → AllByRecursion (IsRowRed p.generators cmp elems x.at.tree) reds
-            → AllByRecursion (λ r. IsFit p.generators elems r × (leaf_count r.tree ≡ leaf_count x.at.tree) × (cmp (F r.tree) (F x.at.tree) ≡ Less)) reds
+            → AllByRecursion (λ r. IsFitReduction p.generators elems r × (leaf_count r.tree ≡ leaf_count x.at.tree) × (cmp (F r.tree) (F x.at.tree) ≡ Less)) reds
         each_red [] h = tt
         each_red (r ∷ reds) h = ((h.0.fit, h.0.below.one_arity, h.0.below.smaller), each_red reds h.1)
 
@@ -208,7 +208,7 @@ module _ {C : Type 0} (Shown : List (ℕ × Tree ℕ) → C → Type 0) (p : Pre
 
   module _ (N : ℕ) (relabels : List RelabelEntry) (good_relabels : AreGood (IsGoodRelabel p N elems) [] relabels) (every : HasEveryRelabel p N relabels) where
     abbrev Spanned : Relation → List ℕ → Type 0
-    Spanned r v = Member tree_discrete (value_of {s = setting p cmp (shuffle_elements p cmp elems)} {n = r.arity}) p.q (shuffled p (relabelled v r.terms))
+    Spanned r v = IsLinearCombination tree_discrete (value_of {s = setting p cmp (shuffle_elements p cmp elems)} {n = r.arity}) p.q (shuffled p (relabelled v r.terms))
 
     record EntryFor (m : Relabelling) : Type 0 where
       relation : Relation
@@ -222,7 +222,7 @@ module _ {C : Type 0} (Shown : List (ℕ × Tree ℕ) → C → Type 0) (p : Pre
         let k = uses_of r.arity (λ u. Unit {0}) x.reds (each_red r.arity x.reds h.reds) in
         record { relation = r; named = h.relabelling.named; spanned = record { uses = k.uses; adds_up = λ t. h.adds_up t ∙ k.adds_up t } }
       where
-        each_red : (n : ℕ) (reds : List Red) → AllByRecursion (IsRelabelRed p.generators elems n) reds → AllByRecursion (λ r. IsFit p.generators elems r × (leaf_count r.tree ≡ n) × Unit {0}) reds
+        each_red : (n : ℕ) (reds : List Red) → AllByRecursion (IsRelabelRed p.generators elems n) reds → AllByRecursion (λ r. IsFitReduction p.generators elems r × (leaf_count r.tree ≡ n) × Unit {0}) reds
         each_red n [] h = tt
         each_red n (r ∷ reds) h = ((h.0.fit, h.0.one_arity, tt), each_red n reds h.1)
 
@@ -236,14 +236,14 @@ module _ {C : Type 0} (Shown : List (ℕ × Tree ℕ) → C → Type 0) (p : Pre
     spanned_relation r m le v o = go r.terms refl (mem_nth r p.relations m)
       where
         go : (l : Sum) → r.terms ≡ l → (k : ℕ) × (nth p.relations k ≡ Some r) → Spanned r v
-        go [] e k = subst (λ l. Member tree_discrete (value_of {s = s} {n = r.arity}) p.q (shuffled p (relabelled v l))) (sym e) (member_zero tree_discrete value_of p.q)
+        go [] e k = subst (λ l. IsLinearCombination tree_discrete (value_of {s = s} {n = r.arity}) p.q (shuffled p (relabelled v l))) (sym e) (member_zero tree_discrete value_of p.q)
         go (y ∷ l) e k =
             of_entry r (record { number = k.0; permutation = v }) k.1
             (entry_there (record { number = k.0; permutation = v }) (record { relation = r; named = k.1; has_terms = λ z. cc (e, z); few = le; permutes = ((all_orderings r.arity).2 v).0 o }))
 
 -- the elements of a certificate that holds through N are certified through N
 pub certify : {C : Type 0} (Shown : List (ℕ × Tree ℕ) → C → Type 0) (p : Presentation) → IsSound p → IsProper p → (cmp : Tree ℕ → Tree ℕ → Ordering) → IsTreeOrder (inputs_of p.generators) cmp
-    → (N : ℕ) (cert : Certificate C) → ShowMembers Shown p cert.elems → CertificateHolds Shown p cmp N cert → IsCertified p cmp (shuffle_elements p cmp cert.elems) N
+    → (N : ℕ) (cert : Certificate C) → ShowMembers Shown p cert.elems → CertificateHolds Shown p cmp N cert → IsGroebnerBasis p cmp (shuffle_elements p cmp cert.elems) N
 certify Shown p sound proper cmp order N cert members holds = record {
   monic = monic Shown p sound proper cmp order cert.elems members holds.elems;
   once = once Shown p sound proper cmp order cert.elems members holds.elems;

@@ -6,7 +6,7 @@ use Rattle.std.specs.Prelude.{Option, Some, None}
 use Rattle.std.specs.declared.cmp.Ordering.{Ordering}
 use Rattle.std.specs.declared.cmp.Ordering.TheVariants.{Less, Equal, Greater}
 use native.Mathlib.Decide.{ℕ_discrete, dec_lt}
-use Rattle.modular_sums.specs.Residues.{Alike}
+use Rattle.modular_sums.specs.Residues.{IsCongruent}
 use Rattle.modular_sums.specs.Lists.{Mem, Distinct, nth}
 use Rattle.modular_sums.specs.Sums.{coef, Same, AllTerms}
 use Rattle.modular_sums.proofs.Lists.{mem_left, mem_right}
@@ -137,7 +137,7 @@ look_up {X} l k = go (nth l k) refl
 
 -- ---- sums
 
-pub dec_alike : (q a b : ℕ) → Dec (Alike q a b)
+pub dec_alike : (q a b : ℕ) → Dec (IsCongruent q a b)
 dec_alike q a b = ℕ_discrete (a % suc q) (b % suc q)
 
 -- a monomial stands in the sum, or its coefficient is 0
@@ -151,29 +151,29 @@ monomial_or_zero {M} dec e t (no n) = inr (coef_absent dec e t (away e n))
 
 -- what holds at each monomial of a sum, and where coefficients are 0, holds everywhere
 pub dec_same : {M : Type 0} (dec : Discrete M) (q : ℕ) (e f : List (ℕ × M)) → Dec (Same dec q e f)
-dec_same {M} dec q e f = dec_by (λ h t. all h t) (λ h t m. h t) (dec_members (λ t. Alike q (coef dec e t) (coef dec f t)) (λ t. dec_alike q (coef dec e t) (coef dec f t)) (monomials e ++ monomials f))
+dec_same {M} dec q e f = dec_by (λ h t. all h t) (λ h t m. h t) (dec_members (λ t. IsCongruent q (coef dec e t) (coef dec f t)) (λ t. dec_alike q (coef dec e t) (coef dec f t)) (monomials e ++ monomials f))
   where
-    all : ((t : M) → Mem t (monomials e ++ monomials f) → Alike q (coef dec e t) (coef dec f t)) → (t : M) → Alike q (coef dec e t) (coef dec f t)
+    all : ((t : M) → Mem t (monomials e ++ monomials f) → IsCongruent q (coef dec e t) (coef dec f t)) → (t : M) → IsCongruent q (coef dec e t) (coef dec f t)
     all h t = go (monomial_or_zero dec e t (dec_mem dec t (monomials e))) (monomial_or_zero dec f t (dec_mem dec t (monomials f)))
       where
-        go : Mem t (monomials e) ⊎ (coef dec e t ≡ 0) → Mem t (monomials f) ⊎ (coef dec f t ≡ 0) → Alike q (coef dec e t) (coef dec f t)
+        go : Mem t (monomials e) ⊎ (coef dec e t ≡ 0) → Mem t (monomials f) ⊎ (coef dec f t ≡ 0) → IsCongruent q (coef dec e t) (coef dec f t)
         go (inl m) d = h t (mem_left t (monomials e) (monomials f) m)
         go (inr a) (inl m) = h t (mem_right t (monomials e) (monomials f) m)
         go (inr a) (inr b) = ap (λ n. n % suc q) (a ∙ sym b)
 
 -- whether a fact holds of each monomial whose coefficient isn't 0, where the fact is decided
-pub dec_monomials : {M : Type 0} (dec : Discrete M) (q : ℕ) (e : List (ℕ × M)) (P : M → Type 0) → ((t : M) → Dec (P t)) → Dec ((t : M) → P t → Alike q (coef dec e t) 0)
+pub dec_monomials : {M : Type 0} (dec : Discrete M) (q : ℕ) (e : List (ℕ × M)) (P : M → Type 0) → ((t : M) → Dec (P t)) → Dec ((t : M) → P t → IsCongruent q (coef dec e t) 0)
 dec_monomials {M} dec q e P decide = dec_by (λ h t k. all h t k) (λ h t m k. h t k)
-    (dec_members (λ t. P t → Alike q (coef dec e t) 0) (λ t. implied (decide t) (dec_alike q (coef dec e t) 0)) (monomials e))
+    (dec_members (λ t. P t → IsCongruent q (coef dec e t) 0) (λ t. implied (decide t) (dec_alike q (coef dec e t) 0)) (monomials e))
   where
     implied : {A B : Type 0} → Dec A → Dec B → Dec (A → B)
     implied (yes a) (yes b) = yes (λ x. b)
     implied (yes a) (no n) = no (λ f. n (f a))
     implied (no f) d = yes (λ a. absurd (f a))
 
-    all : ((t : M) → Mem t (monomials e) → P t → Alike q (coef dec e t) 0) → (t : M) → P t → Alike q (coef dec e t) 0
+    all : ((t : M) → Mem t (monomials e) → P t → IsCongruent q (coef dec e t) 0) → (t : M) → P t → IsCongruent q (coef dec e t) 0
     all h t k = go (monomial_or_zero dec e t (dec_mem dec t (monomials e)))
       where
-        go : Mem t (monomials e) ⊎ (coef dec e t ≡ 0) → Alike q (coef dec e t) 0
+        go : Mem t (monomials e) ⊎ (coef dec e t ≡ 0) → IsCongruent q (coef dec e t) 0
         go (inl m) = h t m k
         go (inr z) = ap (λ n. n % suc q) z

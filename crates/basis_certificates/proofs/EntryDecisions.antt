@@ -24,7 +24,7 @@ use Rattle.shuffle_transfer.specs.Labels.{shuffle_form, symmetric_tree, word_dis
 use Rattle.shuffle_transfer.specs.Transfer.{relabelled, shuffled}
 use Rattle.shuffle_transfer.proofs.Orderings.{all_orderings}
 use Rattle.basis_certificates.specs.Certificates.{Red, ElemEntry, Multiple, RowEntry, Relabelling, RelabelEntry}
-use Rattle.basis_certificates.specs.Entries.{HasOwnLeadingTree, HasUnit, IsFit, sum_of, IsCommonMultiple, HasEveryRow, IsBelow, IsRelabelling, HasEveryRelabel, IsRelabelRed, IsGoodRelabel}
+use Rattle.basis_certificates.specs.Entries.{HasOwnLeadingTree, HasUnit, IsFitReduction, reductions_sum, IsCommonMultiple, HasEveryRow, IsReductionBelow, IsRelabelling, HasEveryRelabel, IsRelabelRed, IsGoodRelabel}
 use Rattle.basis_certificates.proofs.Lookups.{nth_within}
 use Rattle.basis_certificates.proofs.Spellings.{spelled_back}
 use Rattle.basis_certificates.proofs.Decisions.{dec_both, dec_not, dec_by, dec_under, dec_le, dec_less, dec_each, dec_members, dec_some, dec_mem, dec_all_terms, Kept, kept, look_up, dec_alike, dec_same}
@@ -45,16 +45,16 @@ module _ {C : Type 0} (p : Presentation) (cmp : Tree ℕ → Tree ℕ → Orderi
 -- ---- reductions
 
 module _ {C : Type 0} (p : Presentation) (elems : List (ElemEntry C)) where
-  pub dec_fit : (r : Red) → Dec (IsFit p.generators elems r)
+  pub dec_fit : (r : Red) → Dec (IsFitReduction p.generators elems r)
   dec_fit r = go (look_up elems r.number)
     where
-      go : ((x : ElemEntry C) × (nth elems r.number ≡ Some x)) ⊎ ((x : ElemEntry C) → nth elems r.number ≡ Some x → ⊥) → Dec (IsFit p.generators elems r)
+      go : ((x : ElemEntry C) × (nth elems r.number ≡ Some x)) ⊎ ((x : ElemEntry C) → nth elems r.number ≡ Some x → ⊥) → Dec (IsFitReduction p.generators elems r)
       go (inr n) = no (λ h. n h.entry h.named)
       go (inl x) = dec_by (λ h. record { entry = x.0; named = x.1; spelled = h.0; place = h.1 })
           (λ h. (h.spelled, let e : h.entry ≡ x.0 = cc (h.named, x.1) in subst (λ y. IsPlace (shuffle_form p.generators r.tree) r.set (shuffle_form p.generators y.lead)) e h.place))
           (dec_both (dec_spelled p r.tree) (dec_place (shuffle_form p.generators r.tree) r.set (shuffle_form p.generators x.0.lead)))
 
-pub dec_below : (p : Presentation) (cmp : Tree ℕ → Tree ℕ → Ordering) (t : Tree ℕ) (r : Red) → Dec (IsBelow p.generators cmp t r)
+pub dec_below : (p : Presentation) (cmp : Tree ℕ → Tree ℕ → Ordering) (t : Tree ℕ) (r : Red) → Dec (IsReductionBelow p.generators cmp t r)
 dec_below p cmp t r = dec_by (λ h. record { smaller = h.0; one_arity = h.1 }) (λ h. (h.smaller, h.one_arity))
     (dec_both (dec_less (cmp (shuffle_form p.generators r.tree) (shuffle_form p.generators t))) (ℕ_discrete (leaf_count r.tree) (leaf_count t)))
 
@@ -223,8 +223,8 @@ module _ {C : Type 0} (p : Presentation) (N : ℕ) (elems : List (ElemEntry C)) 
           (λ h. (
             h.new,
             let e : h.relabelling.relation ≡ k.relation = cc (h.relabelling.named, k.named) in
-                subst (λ r. AllByRecursion (IsRelabelRed p.generators elems r.arity) x.reds × Same tree_discrete p.q (shuffled p (relabelled x.at.permutation r.terms)) (sum_of p elems x.reds)) e (h.reds, h.adds_up),
+                subst (λ r. AllByRecursion (IsRelabelRed p.generators elems r.arity) x.reds × Same tree_discrete p.q (shuffled p (relabelled x.at.permutation r.terms)) (reductions_sum p elems x.reds)) e (h.reds, h.adds_up),
           ))
           (dec_both (dec_members (λ y. y.at ≡ x.at → ⊥) (λ y. dec_not (relabelling_discrete y.at x.at)) earlier)
           (dec_both (dec_each (IsRelabelRed p.generators elems k.relation.arity) (dec_relabel_red k.relation.arity) x.reds)
-          (dec_same tree_discrete p.q (shuffled p (relabelled x.at.permutation k.relation.terms)) (sum_of p elems x.reds))))
+          (dec_same tree_discrete p.q (shuffled p (relabelled x.at.permutation k.relation.terms)) (reductions_sum p elems x.reds))))

@@ -6,7 +6,7 @@ use Rattle.std.specs.Prelude.{Some}
 use Rattle.std.specs.declared.cmp.Ordering.{Ordering}
 use Rattle.std.specs.declared.cmp.Ordering.TheVariants.{Less}
 use native.Mathlib.Decide.{ℕ_discrete}
-use Rattle.modular_sums.specs.Residues.{Alike}
+use Rattle.modular_sums.specs.Residues.{IsCongruent}
 use Rattle.modular_sums.specs.Lists.{Mem, has_by, nth}
 use Rattle.modular_sums.specs.Sums.{coef, scale, AllTerms, Same}
 use Rattle.modular_sums.proofs.Lists.{has_by_mem}
@@ -37,7 +37,7 @@ use Rattle.shuffle_transfer.proofs.Orderings.{all_orderings}
 use Rattle.shuffle_transfer.proofs.NormalTrees.{order_of}
 use Rattle.shuffle_transfer.proofs.Jacobi.{jacobi_relation, lie, wide}
 use Rattle.basis_certificates.specs.Certificates.{Red, ElemEntry, Multiple, RowEntry, Relabelling, RelabelEntry, Certificate}
-use Rattle.basis_certificates.specs.Entries.{IsSpelled, HasOwnLeadingTree, IsGoodElem, IsFit, sum_of, s_element_at, IsCommonMultiple, HasEveryRow, IsRowRed, IsGoodRow, IsRelabelling, HasEveryRelabel, IsGoodRelabel}
+use Rattle.basis_certificates.specs.Entries.{IsSpelled, HasOwnLeadingTree, IsGoodElem, IsFitReduction, reductions_sum, s_element_at, IsCommonMultiple, HasEveryRow, IsRowRed, IsGoodRow, IsRelabelling, HasEveryRelabel, IsGoodRelabel}
 use Rattle.basis_certificates.specs.Holding.{AreGood, CertificateHolds}
 use Rattle.basis_certificates.specs.Laws.{Passes}
 use Rattle.basis_certificates.proofs.Lookups.{nth_within}
@@ -158,7 +158,7 @@ pub form_t1 : shuffle_form lie.generators t1 ≡ t1
 unfolding word_discrete same_cons letter_discrete same_letter ℕ_discrete
 form_t1 = refl
 
-pub fit : (n c : ℕ) (t : Tree ℕ) (set : List ℕ) → IsHost n t set → IsFit lie.generators elems (red c t set)
+pub fit : (n c : ℕ) (t : Tree ℕ) (set : List ℕ) → IsHost n t set → IsFitReduction lie.generators elems (red c t set)
 fit n c t set h = record { entry = elem; named = refl; spelled = host_spelled n t set h; place = subst (IsPlace (shuffle_form lie.generators t) set) (sym form_t1) (host_place n t set h) }
 
 pub host_t1 : IsHost 3 t1 top_two
@@ -197,7 +197,7 @@ entry e = record { lead = t1; element = e; cofactors = tt }
 
 -- t1 leads an element of arity 3 in which it stands, and no greater tree
 pub lead_with : (e : List (ℕ × Tree ℕ)) → AllTerms e (IsLabelled (arity_of lie) 3) → AllTerms (shuffled lie e) (λ s. cmp t1 s ≡ Less → ⊥)
-    → (Alike 100 (coef tree_discrete (shuffled lie e) (shuffle_form lie.generators t1)) 0 → ⊥) → HasOwnLeadingTree lie cmp [] (entry e)
+    → (IsCongruent 100 (coef tree_discrete (shuffled lie e) (shuffle_form lie.generators t1)) 0 → ⊥) → HasOwnLeadingTree lie cmp [] (entry e)
 lead_with e labelled below there = record {
   spelled = host_spelled 3 t1 top_two host_t1;
   element_labelled = labelled;
@@ -205,7 +205,7 @@ lead_with e labelled below there = record {
   new = λ y m. absurd m;
 }
   where
-    above : (s : Tree ℕ) → (cmp t1 s ≡ Less → ⊥) ⊎ (coef tree_discrete (shuffled lie e) s ≡ 0) → cmp t1 s ≡ Less → Alike 100 (coef tree_discrete (shuffled lie e) s) 0
+    above : (s : Tree ℕ) → (cmp t1 s ≡ Less → ⊥) ⊎ (coef tree_discrete (shuffled lie e) s ≡ 0) → cmp t1 s ≡ Less → IsCongruent 100 (coef tree_discrete (shuffled lie e) s) 0
     above s (inl n) less = absurd (n less)
     above s (inr z) less = ap (λ k. k % 101) z
 
@@ -244,9 +244,9 @@ row_reds = (
   ),
 )
 
-row_adds_up : Same tree_discrete 100 (s_element_at lie elems the_multiple) (sum_of lie elems row.reds)
+row_adds_up : Same tree_discrete 100 (s_element_at lie elems the_multiple) (reductions_sum lie elems row.reds)
 unfolding word_discrete same_cons letter_discrete same_letter ℕ_discrete tree_discrete tree_discrete_by row_discrete_by same_leaf same_node same_more coef scale
-row_adds_up = same_if_agree tree_discrete 100 (s_element_at lie elems the_multiple) (sum_of lie elems row.reds) refl
+row_adds_up = same_if_agree tree_discrete 100 (s_element_at lie elems the_multiple) (reductions_sum lie elems row.reds) refl
 
 pub is_common : IsCommonMultiple lie.generators 4 elems the_multiple
 is_common = record {
@@ -270,17 +270,17 @@ pub is_relabelling : (v : List ℕ) → Mem v (orderings 3) → IsRelabelling li
 is_relabelling v m = record { relation = jacobi_relation; named = refl; has_terms = λ z. cc z; few = omega arith; permutes = ((all_orderings 3).2 v).0 m }
 
 abbrev AddsUp : List ℕ → ℕ → Type 0
-AddsUp v c = Same tree_discrete 100 (shuffled lie (relabelled v jacobi_relation.terms)) (sum_of lie elems (red c t1 top_two ∷ []))
+AddsUp v c = Same tree_discrete 100 (shuffled lie (relabelled v jacobi_relation.terms)) (reductions_sum lie elems (red c t1 top_two ∷ []))
 
 adds_up_by : (AddsUp v1 1) × (AddsUp v2 100) × (AddsUp v3 100) × (AddsUp v4 1) × (AddsUp v5 1) × (AddsUp v6 100)
 unfolding word_discrete same_cons letter_discrete same_letter ℕ_discrete tree_discrete tree_discrete_by row_discrete_by same_leaf same_node same_more coef scale
 adds_up_by = (
-  same_if_agree tree_discrete 100 (shuffled lie (relabelled v1 jacobi_relation.terms)) (sum_of lie elems (red 1 t1 top_two ∷ [])) refl,
-  same_if_agree tree_discrete 100 (shuffled lie (relabelled v2 jacobi_relation.terms)) (sum_of lie elems (red 100 t1 top_two ∷ [])) refl,
-  same_if_agree tree_discrete 100 (shuffled lie (relabelled v3 jacobi_relation.terms)) (sum_of lie elems (red 100 t1 top_two ∷ [])) refl,
-  same_if_agree tree_discrete 100 (shuffled lie (relabelled v4 jacobi_relation.terms)) (sum_of lie elems (red 1 t1 top_two ∷ [])) refl,
-  same_if_agree tree_discrete 100 (shuffled lie (relabelled v5 jacobi_relation.terms)) (sum_of lie elems (red 1 t1 top_two ∷ [])) refl,
-  same_if_agree tree_discrete 100 (shuffled lie (relabelled v6 jacobi_relation.terms)) (sum_of lie elems (red 100 t1 top_two ∷ [])) refl,
+  same_if_agree tree_discrete 100 (shuffled lie (relabelled v1 jacobi_relation.terms)) (reductions_sum lie elems (red 1 t1 top_two ∷ [])) refl,
+  same_if_agree tree_discrete 100 (shuffled lie (relabelled v2 jacobi_relation.terms)) (reductions_sum lie elems (red 100 t1 top_two ∷ [])) refl,
+  same_if_agree tree_discrete 100 (shuffled lie (relabelled v3 jacobi_relation.terms)) (reductions_sum lie elems (red 100 t1 top_two ∷ [])) refl,
+  same_if_agree tree_discrete 100 (shuffled lie (relabelled v4 jacobi_relation.terms)) (reductions_sum lie elems (red 1 t1 top_two ∷ [])) refl,
+  same_if_agree tree_discrete 100 (shuffled lie (relabelled v5 jacobi_relation.terms)) (reductions_sum lie elems (red 1 t1 top_two ∷ [])) refl,
+  same_if_agree tree_discrete 100 (shuffled lie (relabelled v6 jacobi_relation.terms)) (reductions_sum lie elems (red 100 t1 top_two ∷ [])) refl,
 )
 
 -- the entry is good, where no earlier one has its permutation

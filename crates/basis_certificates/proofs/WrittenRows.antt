@@ -24,9 +24,9 @@ use Rattle.shuffle_bases.specs.Elements.{Element, terms, Setting, IsLess, AreMon
 use Rattle.operad_ideals.specs.Presentations.{Presentation}
 use Rattle.shuffle_transfer.specs.Labels.{inputs_of, shuffle_form, symmetric_tree}
 use Rattle.shuffle_transfer.specs.Transfer.{shuffled}
-use Rattle.shuffle_transfer.specs.Certified.{setting}
+use Rattle.shuffle_transfer.specs.GroebnerBases.{setting}
 use Rattle.basis_certificates.specs.Certificates.{Red, ElemEntry, Multiple, RowEntry, RelabelEntry, element_in}
-use Rattle.basis_certificates.specs.Entries.{IsSpelled, IsFit, insertion_of, sum_of, s_element_at, IsRowRed, IsCommonMultiple, IsGoodRow, IsRelabelRed, IsGoodRelabel}
+use Rattle.basis_certificates.specs.Entries.{IsSpelled, IsFitReduction, insertion_of, reductions_sum, s_element_at, IsRowRed, IsCommonMultiple, IsGoodRow, IsRelabelRed, IsGoodRelabel}
 use Rattle.basis_certificates.specs.Writing.{IsElemOf, AreElemsOf, IsRedOf, AreRedsOf, IsMultipleOfLeads, IsRowOf, IsRelabelOf}
 use Rattle.basis_certificates.proofs.Lookups.{nth_mem}
 use Rattle.basis_certificates.proofs.Spellings.{spelled_back, form_back, back_arity, back_spelled}
@@ -101,7 +101,7 @@ module _ {C : Type 0} (p : Presentation) (cmp : Tree ℕ → Tree ℕ → Orderi
       subst (λ o. Same tree_discrete p.q (moved (insert (frame_at set (F u))) (shuffled p (element_in o))) (inserted g t set)) (sym x.1)
       (subst (λ z. Same tree_discrete p.q (moved (insert (frame_at set z)) (shuffled p x.0.element)) (inserted g t set)) (sym form) a)
 
-  fit_of : (n : ℕ) (u : ℕ × Insertion s n) (r : Red) → IsRedOf p cmp elements u r → IsFit p.generators elems r
+  fit_of : (n : ℕ) (u : ℕ × Insertion s n) (r : Red) → IsRedOf p cmp elements u r → IsFitReduction p.generators elems r
   fit_of n u r h =
       let x = entry_of p elements elems are r.number u.1.of h.number in
       let form : F r.tree ≡ u.1.tree = ap F h.tree ∙ form_back p n u.1.tree u.1.valid in
@@ -116,13 +116,13 @@ module _ {C : Type 0} (p : Presentation) (cmp : Tree ℕ → Tree ℕ → Orderi
   red_arity : (n : ℕ) (u : ℕ × Insertion s n) (r : Red) → IsRedOf p cmp elements u r → leaf_count r.tree ≡ n
   red_arity n u r h = ap leaf_count h.tree ∙ back_arity p n u.1.tree u.1.valid
 
-  same_sum_of : (n : ℕ) (uses : List (ℕ × Insertion s n)) (reds : List Red) → AreRedsOf p cmp elements uses reds → Same tree_discrete p.q (expand value_of uses) (sum_of p elems reds)
+  same_sum_of : (n : ℕ) (uses : List (ℕ × Insertion s n)) (reds : List Red) → AreRedsOf p cmp elements uses reds → Same tree_discrete p.q (expand value_of uses) (reductions_sum p elems reds)
   unfolding expand
   same_sum_of n [] [] h = λ t. refl
   same_sum_of n [] (r ∷ rs) h = absurd h
   same_sum_of n (u ∷ us) [] h = absurd h
   same_sum_of n (u ∷ us) (r ∷ rs) h =
-      (laws p.q).same_added (scale u.0 (value_of u.1)) (scale r.coefficient (insertion_of p elems r.number r.tree r.set)) (expand value_of us) (sum_of p elems rs)
+      (laws p.q).same_added (scale u.0 (value_of u.1)) (scale r.coefficient (insertion_of p elems r.number r.tree r.set)) (expand value_of us) (reductions_sum p elems rs)
       one (same_sum_of n us rs h.1)
     where
       one : Same tree_discrete p.q (scale u.0 (value_of u.1)) (scale r.coefficient (insertion_of p elems r.number r.tree r.set))

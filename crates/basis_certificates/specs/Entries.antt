@@ -3,7 +3,7 @@ use Rattle.std.specs.Prelude.{ℕ, ◌≡◌, ◌≤◌, List, [], ◌∷◌, �
 use Rattle.std.specs.List.{AllByRecursion}
 use Rattle.std.specs.declared.cmp.Ordering.{Ordering}
 use Rattle.std.specs.declared.cmp.Ordering.TheVariants.{Less}
-use Rattle.modular_sums.specs.Residues.{Alike}
+use Rattle.modular_sums.specs.Residues.{IsCongruent}
 use Rattle.modular_sums.specs.Lists.{Mem, nth}
 use Rattle.modular_sums.specs.Sums.{coef, scale, moved, AllTerms, Same}
 use Rattle.labelled_trees.specs.Trees.{Tree}
@@ -36,7 +36,7 @@ inserted_at p e t set = moved (insert (frame_at set (shuffle_form p.generators t
 
 -- The leading tree has coefficient 1.
 abbrev pub HasUnit : {C : Type 0} → Presentation → ElemEntry C → Type 0
-HasUnit p x = Alike p.q (coef tree_discrete (shuffled p x.element) (shuffle_form p.generators x.lead)) 1
+HasUnit p x = IsCongruent p.q (coef tree_discrete (shuffled p x.element) (shuffle_form p.generators x.lead)) 1
 
 module _ {C : Type 0} (p : Presentation) (cmp : Tree ℕ → Tree ℕ → Ordering) where
   -- The tree of the entry is a sorted spelling, it is the leading tree of the element, and it leads no earlier entry.
@@ -57,7 +57,7 @@ module _ {C : Type 0} (p : Presentation) (cmp : Tree ℕ → Tree ℕ → Orderi
 
 -- The reduction is fit: its number names an entry, its tree is a sorted spelling, and its vertices are a place there whose divisor
 -- is the leading tree of the entry, both in shuffle form.
-pub record IsFit {C : Type 0} (generators : List (List Part)) (elems : List (ElemEntry C)) (r : Red) : Type 0 where
+pub record IsFitReduction {C : Type 0} (generators : List (List Part)) (elems : List (ElemEntry C)) (r : Red) : Type 0 where
   pub entry : ElemEntry C
   pub named : nth elems r.number ≡ Some entry
   pub spelled : IsSpelled generators r.tree
@@ -69,9 +69,9 @@ module _ {C : Type 0} (p : Presentation) (elems : List (ElemEntry C)) where
   insertion_of k t set = inserted_at p (element_in (nth elems k)) t set
 
   -- the sum of the reductions: of each its number times its insertion
-  abbrev pub sum_of : List Red → List (ℕ × Tree ℕ)
-  sum_of [] = []
-  sum_of (r ∷ reds) = scale r.coefficient (insertion_of r.number r.tree r.set) ++ sum_of reds
+  abbrev pub reductions_sum : List Red → List (ℕ × Tree ℕ)
+  reductions_sum [] = []
+  reductions_sum (r ∷ reds) = scale r.coefficient (insertion_of r.number r.tree r.set) ++ reductions_sum reds
 
   -- the S-element: the first element inserted at the first place, less the second inserted at the second
   abbrev pub s_element_at : Multiple → List (ℕ × Tree ℕ)
@@ -97,14 +97,14 @@ module _ {C : Type 0} (generators : List (List Part)) (N : ℕ) (elems : List (E
   HasEveryRow rows = (m : Multiple) → IsCommonMultiple m → (x : RowEntry) × Mem x rows × (x.at ≡ m)
 
 -- The tree of the reduction is smaller, and has the same arity.
-pub record IsBelow (generators : List (List Part)) (cmp : Tree ℕ → Tree ℕ → Ordering) (t : Tree ℕ) (r : Red) : Type 0 where
+pub record IsReductionBelow (generators : List (List Part)) (cmp : Tree ℕ → Tree ℕ → Ordering) (t : Tree ℕ) (r : Red) : Type 0 where
   pub smaller : cmp (shuffle_form generators r.tree) (shuffle_form generators t) ≡ Less
   pub one_arity : leaf_count r.tree ≡ leaf_count t
 
 -- The reduction is fit, and its tree is below t.
 pub record IsRowRed {C : Type 0} (generators : List (List Part)) (cmp : Tree ℕ → Tree ℕ → Ordering) (elems : List (ElemEntry C)) (t : Tree ℕ) (r : Red) : Type 0 where
-  pub fit : IsFit generators elems r
-  pub below : IsBelow generators cmp t r
+  pub fit : IsFitReduction generators elems r
+  pub below : IsReductionBelow generators cmp t r
 
 module _ {C : Type 0} (p : Presentation) (cmp : Tree ℕ → Tree ℕ → Ordering) (N : ℕ) (elems : List (ElemEntry C)) where
   -- The entry is good: it is for a small common multiple that no earlier one is for, and the S-element there is the sum of the
@@ -113,7 +113,7 @@ module _ {C : Type 0} (p : Presentation) (cmp : Tree ℕ → Tree ℕ → Orderi
     pub multiple : IsCommonMultiple p.generators N elems x.at
     pub new : (y : RowEntry) → Mem y earlier → y.at ≡ x.at → ⊥
     pub reds : AllByRecursion (IsRowRed p.generators cmp elems x.at.tree) x.reds
-    pub adds_up : Same tree_discrete p.q (s_element_at p elems x.at) (sum_of p elems x.reds)
+    pub adds_up : Same tree_discrete p.q (s_element_at p elems x.at) (reductions_sum p elems x.reds)
 
 -- ---- entries for relabelled relations
 
@@ -132,7 +132,7 @@ module _ (p : Presentation) (N : ℕ) where
 
 -- The reduction is fit, and its tree has this arity.
 pub record IsRelabelRed {C : Type 0} (generators : List (List Part)) (elems : List (ElemEntry C)) (n : ℕ) (r : Red) : Type 0 where
-  pub fit : IsFit generators elems r
+  pub fit : IsFitReduction generators elems r
   pub one_arity : leaf_count r.tree ≡ n
 
 module _ {C : Type 0} (p : Presentation) (N : ℕ) (elems : List (ElemEntry C)) where
@@ -141,4 +141,4 @@ module _ {C : Type 0} (p : Presentation) (N : ℕ) (elems : List (ElemEntry C)) 
     pub relabelling : IsRelabelling p N x.at
     pub new : (y : RelabelEntry) → Mem y earlier → y.at ≡ x.at → ⊥
     pub reds : AllByRecursion (IsRelabelRed p.generators elems relabelling.relation.arity) x.reds
-    pub adds_up : Same tree_discrete p.q (shuffled p (relabelled x.at.permutation relabelling.relation.terms)) (sum_of p elems x.reds)
+    pub adds_up : Same tree_discrete p.q (shuffled p (relabelled x.at.permutation relabelling.relation.terms)) (reductions_sum p elems x.reds)

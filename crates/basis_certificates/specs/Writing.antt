@@ -1,7 +1,7 @@
 -- The basis certificates of a list of elements in shuffle form.
 use Rattle.std.specs.Prelude.{ℕ, ◌≡◌, ◌≤◌, List, [], ◌∷◌, map, Some}
 use Rattle.std.specs.declared.cmp.Ordering.{Ordering}
-use Rattle.modular_sums.specs.Residues.{Alike}
+use Rattle.modular_sums.specs.Residues.{IsCongruent}
 use Rattle.modular_sums.specs.Lists.{Mem, Distinct, nth}
 use Rattle.modular_sums.specs.Sums.{AllTerms, Same}
 use Rattle.labelled_trees.specs.Trees.{Tree}
@@ -15,7 +15,7 @@ use Rattle.operad_ideals.specs.Parts.{Part}
 use Rattle.operad_ideals.specs.Presentations.{Presentation, arity_of}
 use Rattle.shuffle_transfer.specs.Labels.{symmetric_tree}
 use Rattle.shuffle_transfer.specs.Transfer.{relabelled, shuffled}
-use Rattle.shuffle_transfer.specs.Certified.{setting}
+use Rattle.shuffle_transfer.specs.GroebnerBases.{setting}
 use Rattle.basis_certificates.specs.Certificates.{Red, ElemEntry, Multiple, RowEntry, RelabelEntry, Certificate}
 use Rattle.basis_certificates.specs.Entries.{IsRelabelling, HasEveryRelabel}
 
@@ -48,7 +48,7 @@ pub record IsMultipleOfLeads (generators : List (List Part)) (elements : List El
 module _ (p : Presentation) (cmp : Tree ℕ → Tree ℕ → Ordering) (elements : List Element) where
   -- the reduction is for a number times an insertion
   pub record IsRedOf {n : ℕ} (u : ℕ × Insertion (setting p cmp elements) n) (r : Red) : Type 0 where
-    pub coefficient : Alike p.q r.coefficient u.0
+    pub coefficient : IsCongruent p.q r.coefficient u.0
     pub number : nth elements r.number ≡ Some u.1.of
     pub tree : r.tree ≡ symmetric_tree p.generators u.1.tree
     pub set : r.set ≡ u.1.set

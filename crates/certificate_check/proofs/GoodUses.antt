@@ -12,7 +12,7 @@ use Rattle.symmetric_trees.specs.Trees.{Fits}
 use Rattle.symmetric_trees.specs.declared.generators.Generator.{Generator}
 use Rattle.labelled_trees.specs.Labelled.{IsNumbered}
 use Rattle.symmetric_sums.specs.Terms.{FitsOver, HaveArity, terms_of}
-use Rattle.symmetric_sums.specs.Instances.{sum_at, rule_element, in_place, IsValid, instance_element, IsExpandedTo}
+use Rattle.symmetric_sums.specs.Instances.{sum_at, rule_element, in_place, IsValidInstance, instance_element, IsExpandedTo}
 use Rattle.symmetric_sums.specs.declared.term.Term.{Term}
 use Rattle.symmetric_sums.specs.declared.expanding.Expanded.{Expanded}
 use Rattle.symmetric_sums.specs.declared.expanding.ExpandFail.{ExpandFail}
@@ -50,7 +50,7 @@ sum_at-zero (x ∷ xs) = refl
 -- ---- what is good
 
 -- what is valid is so in one arity
-pub one_arity : (generators : List Generator) (e : List (ℕ × Tree ℕ)) (m n : ℕ) (item : Instance) → IsValid generators e m item → IsValid generators e n item → m ≡ n
+pub one_arity : (generators : List Generator) (e : List (ℕ × Tree ℕ)) (m n : ℕ) (item : Instance) → IsValidInstance generators e m item → IsValidInstance generators e n item → m ≡ n
 one_arity generators [] m n item a b = absurd (a.has_terms refl)
 one_arity generators (x ∷ e) m n item a b = one_label generators m n (in_place item x.1) a.labelled.0 b.labelled.0
 
@@ -76,13 +76,13 @@ module _ (p : ℕ) (generators : List Generator) (rels earlier : List (List Term
   pub used-ok : (item : Instance) (e : List (ℕ × Tree ℕ)) (expanded : Expanded) → CitesElement item.rule → cited p generators rels earlier item ≡ e
       → IsExpandedTo p generators e item (Ok expanded) → IsUsed p generators rels earlier item (Ok expanded)
   used-ok item e expanded cites is h = (
-    record { cites = cites; valid = subst (λ f. IsValid generators f expanded.arity item) (sym is) h.0 },
+    record { cites = cites; valid = subst (λ f. IsValidInstance generators f expanded.arity item) (sym is) h.0 },
     h.1 ∙ ap (λ f. instance_element p f item) (sym is),
   )
 
   pub used-err : (item : Instance) (e : List (ℕ × Tree ℕ)) (fail : ExpandFail) (r : Result Expanded Fault) → cited p generators rels earlier item ≡ e → (IsAhead (length earlier) item.rule → ⊥)
       → IsExpandedTo p generators e item (Err fail) → r ≡ Err (fault_of fail) → IsUsed p generators rels earlier item r
-  used-err item e Unfit r is apart h same = subst (IsUsed p generators rels earlier item) (sym same) (apart, λ n g. h n (subst (λ f. IsValid generators f n item) is g.valid))
+  used-err item e Unfit r is apart h same = subst (IsUsed p generators rels earlier item) (sym same) (apart, λ n g. h n (subst (λ f. IsValidInstance generators f n item) is g.valid))
   used-err item e NoMemory r is apart h same = subst (IsUsed p generators rels earlier item) (sym same) tt
 
   -- ---- the uses so far

@@ -10,7 +10,7 @@ use Rattle.symmetric_sums.proofs.Numberings.{all-left, all-right}
 use Rattle.certificate_text.specs.declared.block.Step.{Step}
 use Rattle.certificate_check.specs.Blocks.{elements_of, StepHolds, StepsHold, last_element, IsWanted, BlockHolds}
 use Rattle.symmetric_sums.specs.Uses.{IsGoodUse, AreGoodUses}
-use Rattle.certificate_check.specs.Answers.{HasUseFault, IsStepFault, IsFirstFault, IsLastFault, IsAnswer}
+use Rattle.certificate_check.specs.Answers.{HasUseFault, IsStepFault, IsFirstFault, IsLastFault, IsBlockVerdict}
 use Rattle.certificate_check.specs.Checking.{AreUsed, IsChecked, IsRefusal}
 use Rattle.certificate_check.specs.declared.answer.CheckCause.{CheckCause}
 use Rattle.certificate_check.specs.declared.answer.CheckCause.TheVariants.{Ahead, UseUnfit, Differs, NotWanted}
@@ -92,7 +92,7 @@ last-at (s ∷ (t ∷ steps)) last l e =
 -- the answer at the first fault
 pub refused-first : (p : ℕ) (generators : List Generator) (rels : List (List Term)) (want : List Term) (steps : List Step) (i : ℕ) (step : Step) (fault : Fault) (answer : CheckAnswer) → i < length steps
     → step ≡ get_or steps i step → StepsHold p generators rels [] (take i steps) → IsChecked p generators rels (elements_of (take i steps)) step (Err fault) → IsRefusal (i + 1) fault answer
-    → IsAnswer p generators rels want steps answer
+    → IsBlockVerdict p generators rels want steps answer
 refused-first p generators rels want steps i step fault Accepted l e h f r = absurd r
 refused-first p generators rels want steps i step fault (Refused k cause) l e h f r =
     let n : length (take i steps) ≡ i = omega (arith, length-take i steps, l) in

@@ -55,7 +55,7 @@ IsLastFault p generators rels want steps k cause =
     (cause ≡ NotWanted) × (k ≡ length steps) × StepsHold p generators rels [] steps × (IsWanted p generators want steps → ⊥)
 
 -- what the checker answers: a block that holds is accepted, and one that is refused doesn't hold
-abbrev pub IsAnswer : ℕ → List Generator → List (List Term) → List Term → List Step → CheckAnswer → Type 0
-IsAnswer p generators rels want steps Accepted = BlockHolds p generators rels want steps
-IsAnswer p generators rels want steps (Refused k cause) =
+abbrev pub IsBlockVerdict : ℕ → List Generator → List (List Term) → List Term → List Step → CheckAnswer → Type 0
+IsBlockVerdict p generators rels want steps Accepted = BlockHolds p generators rels want steps
+IsBlockVerdict p generators rels want steps (Refused k cause) =
     (BlockHolds p generators rels want steps → ⊥) × (IsFirstFault p generators rels steps k cause ⊎ IsLastFault p generators rels want steps k cause)

@@ -8,13 +8,13 @@ use Rattle.symmetric_sums.specs.Terms.{terms_of}
 use Rattle.operad_ideals.specs.Collected.{HaveOneForm}
 use Rattle.symmetric_sums.specs.Uses.{AreGoodUses, sum_of}
 use Rattle.symmetric_sums.specs.declared.term.Term.{Term}
-use Rattle.certificate_text.specs.Tails.{IsReadyStep}
+use Rattle.certificate_text.specs.Tails.{IsCheckableStep}
 use Rattle.certificate_text.specs.declared.block.Step.{Step}
 
 -- ---- what the checker is given
 
-abbrev pub AreReady : ℕ → List Generator → List Step → Type 0
-AreReady p generators = All (IsReadyStep p generators)
+abbrev pub AreCheckable : ℕ → List Generator → List Step → Type 0
+AreCheckable p generators = All (IsCheckableStep p generators)
 
 abbrev pub elements_of : List Step → List (List Term)
 elements_of = map (λ step. step.element)

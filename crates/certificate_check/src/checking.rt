@@ -1,10 +1,10 @@
 ghost use Rattle.std.specs.Prelude.{◌-◌, ◌^◌, ◌<◌, ◌↔◌, IfOk, IsTrue, length};
 ghost use Rattle.std.specs.List.{All};
 ghost use Rattle.symmetric_sums.specs.Terms.{FitsOver};
-ghost use Rattle.certificate_check.specs.Blocks.{AreReady, IsWanted, elements_of};
+ghost use Rattle.certificate_check.specs.Blocks.{AreCheckable, IsWanted, elements_of};
 ghost use Rattle.certificate_check.specs.Soundness.{HeldBlocksAreMembers};
-ghost use Rattle.certificate_text.specs.Tails.{IsReadyStep};
-ghost use Rattle.certificate_check.specs.Answers.{IsAnswer};
+ghost use Rattle.certificate_text.specs.Tails.{IsCheckableStep};
+ghost use Rattle.certificate_check.specs.Answers.{IsBlockVerdict};
 ghost use Rattle.certificate_check.specs.Checking.{IsChecked, IsRefusal};
 
 use crate::uses::{Fault, sum_of_uses};
@@ -33,8 +33,8 @@ pub fn check_block(
     requires few { length block.now.steps < 2 ^ 32 - 1 }
     requires rels { All (FitsOver document.now.field document.now.gens) document.now.rels }
     requires want { FitsOver document.now.field document.now.gens block.now.want }
-    requires steps { AreReady document.now.field document.now.gens block.now.steps }
-    ensures answer { IfOk result (IsAnswer document.now.field document.now.gens document.now.rels block.now.want block.now.steps) }
+    requires steps { AreCheckable document.now.field document.now.gens block.now.steps }
+    ensures answer { IfOk result (IsBlockVerdict document.now.field document.now.gens document.now.rels block.now.want block.now.steps) }
 {
     check_steps(alloc, document, &block.want, block.steps.as_slice())
 }
@@ -49,8 +49,8 @@ pub fn check_steps(
     requires few { length steps.now < 2 ^ 32 - 1 }
     requires rels { All (FitsOver document.now.field document.now.gens) document.now.rels }
     requires want { FitsOver document.now.field document.now.gens want.now }
-    requires steps { AreReady document.now.field document.now.gens steps.now }
-    ensures answer { IfOk result (IsAnswer document.now.field document.now.gens document.now.rels want.now steps.now) }
+    requires steps { AreCheckable document.now.field document.now.gens steps.now }
+    ensures answer { IfOk result (IsBlockVerdict document.now.field document.now.gens document.now.rels want.now steps.now) }
 {
     let mut before: u32 = 0;
     for step in steps {
@@ -86,7 +86,7 @@ fn is_wanted(
     steps: &[Step],
 ) -> Result<bool, AllocError>
     requires want { FitsOver document.now.field document.now.gens want.now }
-    requires steps { AreReady document.now.field document.now.gens steps.now }
+    requires steps { AreCheckable document.now.field document.now.gens steps.now }
     ensures { IfOk result (λ wanted. IsTrue wanted ↔ IsWanted document.now.field document.now.gens want.now steps.now) }
 {
     let field = document.field;
@@ -105,8 +105,8 @@ fn check_step(
     step: &Step,
 ) -> Result<(), Fault>
     requires rels { All (FitsOver document.now.field document.now.gens) document.now.rels }
-    requires earlier { AreReady document.now.field document.now.gens earlier.now }
-    requires step { IsReadyStep document.now.field document.now.gens step.now }
+    requires earlier { AreCheckable document.now.field document.now.gens earlier.now }
+    requires step { IsCheckableStep document.now.field document.now.gens step.now }
     ensures { IsChecked document.now.field document.now.gens document.now.rels (elements_of earlier.now) step.now result }
 {
     let sum = sum_of_uses(alloc, document, earlier, step.uses.as_slice())?;

@@ -1,7 +1,7 @@
 ghost use Rattle.std.specs.Prelude.{◌≡◌, ◌<◌, IfOk};
 ghost use Rattle.std.specs.List.{All};
 ghost use Rattle.symmetric_sums.specs.Terms.{FitsOver, HaveArity};
-ghost use Rattle.certificate_check.specs.Blocks.{AreReady, elements_of};
+ghost use Rattle.certificate_check.specs.Blocks.{AreCheckable, elements_of};
 ghost use Rattle.certificate_check.specs.Checking.{AreUsed, IsUsed};
 
 use crate::CheckCause;
@@ -49,7 +49,7 @@ pub(crate) fn sum_of_uses(
     uses: &[Instance],
 ) -> Result<Sum, Fault>
     requires rels { All (FitsOver document.now.field document.now.gens) document.now.rels }
-    requires steps { AreReady document.now.field document.now.gens earlier.now }
+    requires steps { AreCheckable document.now.field document.now.gens earlier.now }
     requires coefs { All (λ item. item.coef < document.now.field) uses.now }
     ensures used { AreUsed document.now.field document.now.gens document.now.rels (elements_of earlier.now) uses.now result }
     ensures fits { IfOk result (FitsOver document.now.field document.now.gens) }
@@ -77,7 +77,7 @@ fn expand_use(
     item: &Instance,
 ) -> Result<Expanded, Fault>
     requires rels { All (FitsOver document.now.field document.now.gens) document.now.rels }
-    requires steps { AreReady document.now.field document.now.gens earlier.now }
+    requires steps { AreCheckable document.now.field document.now.gens earlier.now }
     requires coef { item.now.coef < document.now.field }
     ensures used { IsUsed document.now.field document.now.gens document.now.rels (elements_of earlier.now) item.now result }
     ensures fits { IfOk result (λ expanded. FitsOver document.now.field document.now.gens expanded.sum) }

@@ -1,8 +1,8 @@
 -- Reading the lines of blocks one after the other.
 use Rattle.std.proofs.Common.{◌≡◌, ◌+◌, ℕ, true, false, List, [], ◌∷◌, map, Some, None, Result, Ok, Err, add-one, ap, refl, subst, sym, ◌∙◌}
 use Rattle.std.specs.Result.{IsErr, IsErrAnd, MatchResult}
-use Rattle.presentation_text.specs.DocumentForms.{LineFault}
-use Rattle.presentation_text.specs.LineForms.{is_unknown}
+use Rattle.presentation_text.specs.DocumentReadings.{LineFault}
+use Rattle.presentation_text.specs.LineReadings.{is_unknown}
 use Rattle.presentation_text.specs.Lines.{counts}
 use Rattle.presentation_text.specs.Readings.{Fault, StopsAs}
 use Rattle.presentation_text.specs.Tokens.{tokens}
@@ -11,8 +11,8 @@ use Rattle.presentation_text.specs.declared.kinds.DocKind.TheVariants.{Block, Di
 use Rattle.presentation_text.specs.declared.kinds.PartFail.{PartFail}
 use Rattle.presentation_text.specs.declared.lexing.Token.{Token}
 use Rattle.presentation_text.specs.declared.lexing.Token.TheVariants.{Word}
-use Rattle.certificate_text.specs.BlockForms.{Base, Follow, Place, at_end, blocks_from, may_follow, refused_at, rest_of_tail_line, tail_line, tail_word_fault, unless_refused, word_line}
-use Rattle.certificate_text.specs.PlaceForms.{GivesFollow, StopsAtLine, place_of}
+use Rattle.certificate_text.specs.BlockReadings.{Base, Follow, LinePlace, at_end, blocks_from, may_follow, refused_at, rest_of_tail_line, tail_line, tail_word_fault, unless_refused, word_line}
+use Rattle.certificate_text.specs.PlaceReadings.{GivesFollow, StopsAtBlockLine, place_of}
 use Rattle.certificate_text.specs.Plain.{PlainBlock, plain_block}
 use Rattle.certificate_text.specs.declared.cert_fail.ReadCertFail.{ReadCertFail}
 use Rattle.certificate_text.specs.declared.cert_fail.ReadCertFail.TheVariants.{At, NoMemory}
@@ -22,15 +22,15 @@ use Rattle.certificate_text.specs.declared.places.Progress.{Progress}
 
 -- ---- the word of a line
 
-pub word_unknown : (version : ℕ) (place : Place) (w : List ℕ) → is_unknown version w ≡ true → tail_word_fault version place w ≡ Some Directive
+pub word_unknown : (version : ℕ) (place : LinePlace) (w : List ℕ) → is_unknown version w ≡ true → tail_word_fault version place w ≡ Some Directive
 unfolding tail_word_fault
 word_unknown version place w e = rw e refl
 
-pub word_cant_follow : (version : ℕ) (place : Place) (w : List ℕ) → is_unknown version w ≡ false → may_follow place w ≡ false → tail_word_fault version place w ≡ Some Block
+pub word_cant_follow : (version : ℕ) (place : LinePlace) (w : List ℕ) → is_unknown version w ≡ false → may_follow place w ≡ false → tail_word_fault version place w ≡ Some Block
 unfolding tail_word_fault
 word_cant_follow version place w e f = rw (e, f) refl
 
-pub word_may_follow : (version : ℕ) (place : Place) (w : List ℕ) → is_unknown version w ≡ false → may_follow place w ≡ true → tail_word_fault version place w ≡ None
+pub word_may_follow : (version : ℕ) (place : LinePlace) (w : List ℕ) → is_unknown version w ≡ false → may_follow place w ≡ true → tail_word_fault version place w ≡ None
 unfolding tail_word_fault
 word_may_follow version place w e f = rw (e, f) refl
 
@@ -55,8 +55,8 @@ line_goes_on base now number ts rest w e f = rw (e, f) refl
 -- ---- what functions that stop at a line give
 
 pub line_fails : {A X : Type 0} (Given : A → Type 0) (reading : Result X LineFault) (r : Result A ReadCertFail) (line : ℕ) (kind : DocKind) → reading ≡ Err (line, kind)
-    → r ≡ Err (At (record { line = line; kind = kind })) → MatchResult r Given (StopsAtLine reading)
-line_fails Given reading r line kind e f = subst (λ x. MatchResult x Given (StopsAtLine reading)) (sym f) e
+    → r ≡ Err (At (record { line = line; kind = kind })) → MatchResult r Given (StopsAtBlockLine reading)
+line_fails Given reading r line kind e f = subst (λ x. MatchResult x Given (StopsAtBlockLine reading)) (sym f) e
 
 pub line_stops : {A : Type 0} (Given : A → Type 0) (Stops : ReadCertFail → Type 0) (r : Result A ReadCertFail) (fail : ReadCertFail) → IsErr r → IsErrAnd r (λ e. e ≡ fail) → Stops fail
     → MatchResult r Given Stops
@@ -65,7 +65,7 @@ line_stops Given Stops (Err other) fail h e stops = subst Stops (sym e) stops
 
 -- what stops at its first line stops
 pub lines_stop : (on : Follow → Result (List PlainBlock) LineFault) (reading : Result Follow LineFault) (whole : Result (List PlainBlock) LineFault) (fail : ReadCertFail)
-    → whole ≡ unless_refused on reading → StopsAtLine reading fail → StopsAtLine whole fail
+    → whole ≡ unless_refused on reading → StopsAtBlockLine reading fail → StopsAtBlockLine whole fail
 lines_stop on reading whole (At fail) e h = e ∙ ap (unless_refused on) h
 lines_stop on reading whole NoMemory e h = tt
 

@@ -3,9 +3,9 @@ use Rattle.std.proofs.Common.{◌≡◌, ℕ, suc, Bool, true, false, not, ◌||
 use Rattle.symmetric_trees.specs.Generators.{IsTable}
 use Rattle.symmetric_trees.specs.declared.generators.Generator.{Generator}
 use Rattle.presentation_text.specs.Accepted.{ElementsAreAccepted, TreesAreAccepted}
-use Rattle.presentation_text.specs.DocumentForms.{LineFault}
+use Rattle.presentation_text.specs.DocumentReadings.{LineFault}
 use Rattle.presentation_text.specs.Grammar.{counted_tokens}
-use Rattle.presentation_text.specs.LineForms.{is, is_unknown}
+use Rattle.presentation_text.specs.LineReadings.{is, is_unknown}
 use Rattle.presentation_text.specs.Lines.{counts}
 use Rattle.presentation_text.specs.Readings.{Fault, ◌>>=◌, end_in}
 use Rattle.presentation_text.specs.Tokens.{tokens}
@@ -13,12 +13,12 @@ use Rattle.presentation_text.specs.declared.kinds.DocKind.{DocKind}
 use Rattle.presentation_text.specs.declared.kinds.DocKind.TheVariants.{Block, Directive}
 use Rattle.presentation_text.specs.declared.lexing.Token.{Token}
 use Rattle.presentation_text.specs.declared.lexing.Token.TheVariants.{Word, Number, Long, Byte, Bad}
-use Rattle.certificate_text.specs.BlockForms.{Base, Follow, Place, at_end, between, block_line, blocks_from, in_block, in_step, may_follow, refused_at, rest_of_tail_line, step_line, sum_in, tail_line, tail_word_fault, unless_refused, unless_word, use_in, want_line, with_step, with_use, word_line}
-use Rattle.certificate_text.specs.BlockText.{AreBlockLines, AreStepLines, AreUseLines, IsSum, end_line, no_blocks, no_steps, no_uses, one_block, one_step, one_use}
+use Rattle.certificate_text.specs.BlockReadings.{Base, Follow, LinePlace, at_end, between, block_line, blocks_from, in_block, in_step, may_follow, refused_at, rest_of_tail_line, step_line, sum_in, tail_line, tail_word_fault, unless_refused, unless_word, use_in, want_line, with_step, with_use, word_line}
+use Rattle.certificate_text.specs.BlockText.{AreBlockLines, AreStepLines, AreUseLines, AreSumTokens, end_line, no_blocks, no_steps, no_uses, one_block, one_step, one_use}
 use Rattle.certificate_text.specs.Plain.{PlainBlock, PlainStep, PlainUse}
 use Rattle.presentation_text.proofs.AcceptedParts.{end_read}
 use Rattle.presentation_text.proofs.LineFormsRead.{both_read, one_value}
-use Rattle.presentation_text.proofs.ToldLines.{is_word}
+use Rattle.presentation_text.proofs.ContentsLines.{is_word}
 use Rattle.certificate_text.proofs.UsesAccepted.{sum_told, use_told}
 
 -- ---- what lines behind a place say
@@ -43,7 +43,7 @@ pub record GoesOnInStep (p : ℕ) (base : Base) (block : PlainBlock) (step : Pla
   pub uses_said : AreUseLines p base.generators use_lines uses
   pub behind : GoesOnInBlock p base (with_step block (record { element = step.element; uses = step.uses ++ uses })) rest blocks
 
-abbrev pub GoesOn : Base → Place → List (List Token) → List PlainBlock → Type 0
+abbrev pub GoesOn : Base → LinePlace → List (List Token) → List PlainBlock → Type 0
 GoesOn base between lines blocks = AreBlockLines base.p base.generators lines blocks
 GoesOn base (in_block block) lines blocks = GoesOnInBlock base.p base block lines blocks
 GoesOn base (in_step block step) lines blocks = GoesOnInStep base.p base block step lines blocks
@@ -64,7 +64,7 @@ pub record IsLineRead (base : Base) (now next : Follow) (line : List Token) : Ty
   pub may : may_follow now.0 word ≡ true
   pub reading_is : rest_of_tail_line base.p base.generators now.0 now.1 word rest ≡ Ok next
 
-let_through : (version : ℕ) (place : Place) (w : List ℕ) → tail_word_fault version place w ≡ None → may_follow place w ≡ true
+let_through : (version : ℕ) (place : LinePlace) (w : List ℕ) → tail_word_fault version place w ≡ None → may_follow place w ≡ true
 unfolding tail_word_fault
 let_through version place w e = by_tests (is_unknown version w) (may_follow place w) e where
   by_tests : (a b : Bool) → (if a then Some Directive else (if not b then Some Block else None)) ≡ None → b ≡ true
@@ -106,7 +106,7 @@ module _ (trees : TreesAreAccepted) (elements : ElementsAreAccepted) (base : Bas
       let on : Leads base (in_block (record { want = sum.0; steps = [] }), done) lines found = subst (λ (x : Follow). Leads base x lines found) (sym next_is) leads in
       let go : GoesOnInBlock p base (record { want = sum.0; steps = [] }) lines on.further = on.goes_on in
       let block : PlainBlock = record { want = sum.0; steps = go.steps } in
-      let said : IsSum p gens ts sum.0 = sum_told elements gens table p ts sum.0 sum.1 in
+      let said : AreSumTokens p gens ts sum.0 = sum_told elements gens table p ts sum.0 sum.1 in
       let all : AreBlockLines p gens ((Word (codes "want") ∷ ts) ∷ (go.step_lines ++ end_line ∷ go.rest)) (block ∷ go.others) = one_block ts go.step_lines go.rest block go.others said go.steps_said go.behind in
       record {
         further = block ∷ go.others;
@@ -220,7 +220,7 @@ module _ (trees : TreesAreAccepted) (elements : ElementsAreAccepted) (base : Bas
     by_test true h m f = subst (λ word. Leads base (in_step block step, done) ((Word word ∷ ts) ∷ lines) found) (sym (h refl)) (use_back next done block step ts lines found f leads)
     by_test false h m f = ended_back done block step ((Word w ∷ ts) ∷ lines) found (block_back next done (with_step block step) w ts lines found m f leads)
 
-  read_back : (place : Place) (done : List PlainBlock) (next : Follow) (w : List ℕ) (ts : List Token) (lines : List (List Token)) (found : List PlainBlock) → may_follow place w ≡ true
+  read_back : (place : LinePlace) (done : List PlainBlock) (next : Follow) (w : List ℕ) (ts : List Token) (lines : List (List Token)) (found : List PlainBlock) → may_follow place w ≡ true
       → rest_of_tail_line p gens place done w ts ≡ Ok next → Leads base next lines found → Leads base (place, done) ((Word w ∷ ts) ∷ lines) found
   read_back between done next w ts lines found may e leads =
       subst (λ word. Leads base (between, done) ((Word word ∷ ts) ∷ lines) found) (sym (is_word w (codes "want") may)) (want_back next done ts lines found e leads)
@@ -233,7 +233,7 @@ module _ (trees : TreesAreAccepted) (elements : ElementsAreAccepted) (base : Bas
       let read = line_told base now next number line e in
       subst (λ l. Leads base now (l ∷ lines) found) (sym read.line_is) (read_back now.0 now.1 next read.word read.rest lines found read.may read.reading_is leads)
 
-  end_told : (place : Place) (done : List PlainBlock) (number : ℕ) (found : List PlainBlock) → at_end place done number ≡ Ok found → Leads base (place, done) [] found
+  end_told : (place : LinePlace) (done : List PlainBlock) (number : ℕ) (found : List PlainBlock) → at_end place done number ≡ Ok found → Leads base (place, done) [] found
   end_told between done number found e = let same : done ≡ found = cc in record { further = []; found_is = sym same ∙ sym (append-nil done); goes_on = no_blocks }
   end_told (in_block block) done number found e = absurd cc
   end_told (in_step block step) done number found e = absurd cc

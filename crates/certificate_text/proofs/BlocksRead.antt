@@ -4,14 +4,14 @@ use Rattle.labelled_trees.specs.Trees.{Tree}
 use Rattle.symmetric_trees.specs.Generators.{IsTable}
 use Rattle.symmetric_trees.specs.declared.generators.Generator.{Generator}
 use Rattle.presentation_text.specs.Accepted.{ElementsAreAccepted, TreesAreAccepted}
-use Rattle.presentation_text.specs.DocumentForms.{LineFault}
+use Rattle.presentation_text.specs.DocumentReadings.{LineFault}
 use Rattle.presentation_text.specs.Grammar.{counted_tokens}
-use Rattle.presentation_text.specs.LineForms.{is, is_unknown}
+use Rattle.presentation_text.specs.LineReadings.{is, is_unknown}
 use Rattle.presentation_text.specs.Lines.{counts}
 use Rattle.presentation_text.specs.Tokens.{tokens}
 use Rattle.presentation_text.specs.declared.lexing.Token.{Token}
 use Rattle.presentation_text.specs.declared.lexing.Token.TheVariants.{Word}
-use Rattle.certificate_text.specs.BlockForms.{Base, Follow, Place, at_end, between, block_line, blocks_from, in_block, in_step, may_follow, rest_of_tail_line, step_line, sum_in, tail_line, unless_refused, use_in, want_line, with_step, with_use, word_line}
+use Rattle.certificate_text.specs.BlockReadings.{Base, Follow, LinePlace, at_end, between, block_line, blocks_from, in_block, in_step, may_follow, rest_of_tail_line, step_line, sum_in, tail_line, unless_refused, use_in, want_line, with_step, with_use, word_line}
 use Rattle.certificate_text.specs.BlockText.{AreBlockLines, AreStepLines, AreUseLines, end_line, no_blocks, no_steps, no_uses, one_block, one_step, one_use}
 use Rattle.certificate_text.specs.Laws.{BlocksAreAccepted}
 use Rattle.certificate_text.specs.Plain.{PlainBlock, PlainStep, PlainUse}
@@ -244,7 +244,7 @@ module _ (trees : TreesAreAccepted) (elements : ElementsAreAccepted) (base : Bas
         };
       }
 
-  line_on : (place : Place) (done : List PlainBlock) (line : List Token) (lines : List (List Token)) (found : List PlainBlock) → Leads base (place, done) (line ∷ lines) found
+  line_on : (place : LinePlace) (done : List PlainBlock) (line : List Token) (lines : List (List Token)) (found : List PlainBlock) → Leads base (place, done) (line ∷ lines) found
       → IsOnTheWay base (place, done) line lines found
   line_on between done line lines found h = want_on done line lines (line ∷ lines) found h.further refl h.goes_on h.found_is
   line_on (in_block block) done line lines found h = from_block done block line lines found (in_block_on done block line lines (line ∷ lines) found h.further refl h.goes_on h.found_is)
@@ -265,7 +265,7 @@ module _ (trees : TreesAreAccepted) (elements : ElementsAreAccepted) (base : Bas
   no_block_line : (block : PlainBlock) (all : List (List Token)) (further : List PlainBlock) → all ≡ [] → GoesOnInBlock p base block all further → ⊥
   no_block_line block all further e go = nothing_behind go.step_lines go.rest end_line (sym e ∙ go.lines_are)
 
-  end_read : (place : Place) (done : List PlainBlock) (number : ℕ) (found : List PlainBlock) → Leads base (place, done) [] found → at_end place done number ≡ Ok found
+  end_read : (place : LinePlace) (done : List PlainBlock) (number : ℕ) (found : List PlainBlock) → Leads base (place, done) [] found → at_end place done number ≡ Ok found
   end_read between done number found h = ap Ok (sym (h.found_is ∙ ap (λ bs. done ++ bs) (none_left [] h.further refl h.goes_on) ∙ append-nil done))
   end_read (in_block block) done number found h = absurd (no_block_line block [] h.further refl h.goes_on)
   end_read (in_step block step) done number found h =

@@ -1,7 +1,7 @@
 pub mod MarkPlaces
 pub mod UseReading
 pub mod BlockReading
-pub mod SaidSums
+pub mod WrittenSums
 pub mod UseTexts
 pub mod TailLines
 pub mod TokensRead

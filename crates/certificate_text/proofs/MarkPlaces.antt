@@ -1,7 +1,7 @@
 -- Single bytes at a place, and the place behind them.
 use Rattle.std.proofs.Common.{◌≡◌, ◌<◌, ◌≤◌, ◌+◌, ◌-◌, ℕ, zero, suc, Bool, true, false, if◌then◌else◌, List, [], ◌∷◌, Ok, add-one, ap, arith, drop, length, length-drop}
-use Rattle.presentation_text.specs.ElementForms.{behind_one}
-use Rattle.presentation_text.specs.TreeForms.{begins_with}
+use Rattle.presentation_text.specs.ElementReadings.{behind_one}
+use Rattle.presentation_text.specs.TreeReadings.{begins_with}
 use Rattle.presentation_text.specs.Readings.{is_mark, mark_in, misfit}
 use Rattle.presentation_text.specs.declared.lexing.Token.{Token}
 use Rattle.presentation_text.proofs.ElementFormsRead.{behind_suc}

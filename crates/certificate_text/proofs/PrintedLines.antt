@@ -14,11 +14,11 @@ use Rattle.presentation_text.specs.Tokens.{IsWord, tokens}
 use Rattle.presentation_text.specs.TreeText.{HasWords}
 use Rattle.presentation_text.specs.declared.lexing.Token.{Token}
 use Rattle.presentation_text.specs.declared.lexing.Token.TheVariants.{Word}
-use Rattle.certificate_text.specs.BlockText.{AreBlockLines, AreStepLines, AreUseLines, IsSum, end_line, no_blocks, no_steps, no_uses, one_block, one_step, one_use}
+use Rattle.certificate_text.specs.BlockText.{AreBlockLines, AreStepLines, AreUseLines, AreSumTokens, end_line, no_blocks, no_steps, no_uses, one_block, one_step, one_use}
 use Rattle.certificate_text.specs.Laws.{BlocksAreAccepted}
 use Rattle.certificate_text.specs.Plain.{PlainBlock, PlainStep, PlainUse}
 use Rattle.certificate_text.specs.PrintedBlocks.{PrintedBlocksAreReadBack, block_text, step_text, sum_line, use_text}
-use Rattle.certificate_text.specs.Writable.{IsSaidSum, IsWritable, IsWritableStep, IsWritableUse}
+use Rattle.certificate_text.specs.Writable.{IsWrittenSum, IsWritableBlock, IsWritableStep, IsWritableUse}
 use Rattle.presentation_text.proofs.LineTexts.{counts-word, lines-line_of, no_feed-word, tokens-words}
 use Rattle.presentation_text.proofs.PrintedDocuments.{demanded_once, printed_as}
 use Rattle.certificate_text.proofs.PrintedUses.{use_printed, use_words}
@@ -37,7 +37,7 @@ module _ (p : ℕ) (generators : List Generator) (prime : IsFieldPrime p) (table
     pub are : Are found
     pub counted : (rest : List ℕ) → counted_tokens (lines (text ++ rest)) ≡ found ++ counted_tokens (lines rest)
 
-  sum_said : (e : List (ℕ × Tree ℕ)) → IsSaidSum p generators e → IsSum p generators (tokens (sum_text p generators e)) e
+  sum_said : (e : List (ℕ × Tree ℕ)) → IsWrittenSum p generators e → AreSumTokens p generators (tokens (sum_text p generators e)) e
   sum_said e h =
       let printed = printed_as p generators prime table words h.0 e h.1 in
       record {
@@ -48,7 +48,7 @@ module _ (p : ℕ) (generators : List Generator) (prime : IsFieldPrime p) (table
       }
 
   -- the line of a word and a sum
-  sum_counted : (word : List ℕ) (e : List (ℕ × Tree ℕ)) (rest : List ℕ) → IsWord word → tokens word ≡ Word word ∷ [] → IsSaidSum p generators e
+  sum_counted : (word : List ℕ) (e : List (ℕ × Tree ℕ)) (rest : List ℕ) → IsWord word → tokens word ≡ Word word ∷ [] → IsWrittenSum p generators e
       → counted_tokens (lines (sum_line p generators word e ++ rest)) ≡ (Word word ∷ tokens (sum_text p generators e)) ∷ counted_tokens (lines rest)
   sum_counted word e rest is_word one h =
       let printed = printed_as p generators prime table words h.0 e h.1 in
@@ -90,12 +90,12 @@ module _ (p : ℕ) (generators : List Generator) (prime : IsFieldPrime p) (table
             (uses.counted (further ++ rest) ∙ ap (λ ls. uses.found ++ ls) (more.counted rest) ∙ sym (append_assoc uses.found more.found (counted_tokens (lines rest))));
       }
 
-  blocks_printed : (blocks : List PlainBlock) → All (IsWritable p generators) blocks → HasLines (flat_map (block_text p generators) blocks) (λ ls. AreBlockLines p generators ls blocks)
+  blocks_printed : (blocks : List PlainBlock) → All (IsWritableBlock p generators) blocks → HasLines (flat_map (block_text p generators) blocks) (λ ls. AreBlockLines p generators ls blocks)
   blocks_printed [] h = record { found = []; are = no_blocks; counted = λ rest. refl }
   blocks_printed (block ∷ blocks) h =
-      let own = All-head (IsWritable p generators) block blocks h in
+      let own = All-head (IsWritableBlock p generators) block blocks h in
       let steps = steps_printed block.steps own.steps in
-      let more = blocks_printed blocks (All-tail (IsWritable p generators) block blocks h) in
+      let more = blocks_printed blocks (All-tail (IsWritableBlock p generators) block blocks h) in
       let ts = tokens (sum_text p generators block.want) in
       let first = sum_line p generators (codes "want") block.want in
       let stepped = flat_map (step_text p generators) block.steps in

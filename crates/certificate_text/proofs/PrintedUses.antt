@@ -17,7 +17,7 @@ use Rattle.presentation_text.specs.Accepted.{IsDemanded}
 use Rattle.presentation_text.specs.Lines.{HasNoFeed}
 use Rattle.presentation_text.specs.SumText.{is_negative, magnitude}
 use Rattle.presentation_text.specs.Tokens.{tokens}
-use Rattle.presentation_text.specs.TreeForms.{any_arity}
+use Rattle.presentation_text.specs.TreeReadings.{any_arity}
 use Rattle.presentation_text.specs.TreeText.{HasWords, tree_text, tree_tokens}
 use Rattle.presentation_text.specs.declared.lexing.Token.{Token}
 use Rattle.presentation_text.specs.declared.lexing.Token.TheVariants.{Word, Number, Byte}

@@ -11,15 +11,15 @@ use Rattle.presentation_text.specs.Grammar.{counted_tokens}
 use Rattle.presentation_text.specs.Lines.{counts, lines}
 use Rattle.presentation_text.specs.Tokens.{tokens}
 use Rattle.presentation_text.specs.declared.document.Document.{Document}
-use Rattle.certificate_text.specs.BlockForms.{Base, base_of, between, blocks_from}
+use Rattle.certificate_text.specs.BlockReadings.{Base, base_of, between, blocks_from}
 use Rattle.certificate_text.specs.BlockText.{AreBlockLines}
 use Rattle.certificate_text.specs.Plain.{PlainBlock, plain_block, plain_step}
 use Rattle.certificate_text.specs.Tails.{IsReadyBlock}
-use Rattle.certificate_text.specs.Writable.{IsWritable}
+use Rattle.certificate_text.specs.Writable.{IsWritableBlock}
 use Rattle.certificate_text.specs.declared.block.Block.{Block}
 use Rattle.certificate_text.specs.declared.cert_fail.ReadCertFail.{ReadCertFail}
 use Rattle.certificate_text.proofs.BlocksRead.{blocks_accepted}
-use Rattle.certificate_text.proofs.SaidSums.{block_ready, of_image}
+use Rattle.certificate_text.proofs.WrittenSums.{block_ready, of_image}
 use Rattle.certificate_text.proofs.TailLines.{slice_is}
 use Rattle.certificate_text.proofs.WritableBlocks.{blocks_few, blocks_writable}
 use Rattle.presentation_text.proofs.TextEnds.{few_lines}
@@ -48,13 +48,13 @@ module _ (trees : TreesAreAccepted) (elements : ElementsAreAccepted) (base : Bas
   are_lines : AreBlockLines base.p base.generators (counted_tokens (lines text)) (map plain_block blocks)
   are_lines = (blocks_accepted trees elements base table number (lines text) (map plain_block blocks)).0 reading
 
-  pub read_writable : All (IsWritable base.p base.generators) (map plain_block blocks)
+  pub read_writable : All (IsWritableBlock base.p base.generators) (map plain_block blocks)
   read_writable = blocks_writable base.p base.generators positive (counted_tokens (lines text)) (map plain_block blocks) are_lines
 
   pub read_ready : length text ≤ 16777216 → All (IsReadyBlock base.p base.generators) blocks
   read_ready short =
       let most = length (counted_tokens (lines text)) in
-      let Meets = λ (block : PlainBlock). IsWritable base.p base.generators block × (length block.steps ≤ most) in
+      let Meets = λ (block : PlainBlock). IsWritableBlock base.p base.generators block × (length block.steps ≤ most) in
       let few : All (λ (block : PlainBlock). length block.steps ≤ most) (map plain_block blocks) = blocks_few base.p base.generators positive (counted_tokens (lines text)) (map plain_block blocks) are_lines in
       let both : All Meets (map plain_block blocks) = λ k d l. (read_writable k d l, few k d l) in
       let enough = counted_few text in
@@ -74,9 +74,9 @@ module _ (trees : TreesAreAccepted) (elements : ElementsAreAccepted) (document :
   abbrev Given : List Block → Type 0
   Given blocks = blocks_from (base_of document) (between, []) number (lines text) ≡ Ok (map plain_block blocks)
 
-  pub tail_writable : MatchResult r Given Stops → IfOk r (λ blocks. All (IsWritable document.field document.gens) (map plain_block blocks))
+  pub tail_writable : MatchResult r Given Stops → IfOk r (λ blocks. All (IsWritableBlock document.field document.gens) (map plain_block blocks))
   tail_writable h =
-      given Given (λ blocks. All (IsWritable document.field document.gens) (map plain_block blocks)) Stops r h
+      given Given (λ blocks. All (IsWritableBlock document.field document.gens) (map plain_block blocks)) Stops r h
       (λ blocks reading. read_writable trees elements (base_of document) sound.1 (prime_positive document.field sound.0) number text blocks reading)
 
   pub tail_ready : length bytes ≤ 16777216 → MatchResult r Given Stops → IfOk r (All (IsReadyBlock document.field document.gens))

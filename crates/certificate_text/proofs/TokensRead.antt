@@ -1,17 +1,17 @@
 -- What single tokens are, where they were read.
 use Rattle.std.proofs.Common.{◌≡◌, ℕ, suc, Bool, true, false, if◌then◌else◌, List, [], ◌∷◌, ◌++◌, codes, length, Some, None, Ok, ap, refl, subst, ◌∙◌}
 use Rattle.symmetric_sums.specs.declared.instance.Rule.{Rule}
-use Rattle.presentation_text.specs.ElementForms.{behind_one}
-use Rattle.presentation_text.specs.TreeForms.{begins_with}
-use Rattle.presentation_text.specs.LineForms.{is, known}
+use Rattle.presentation_text.specs.ElementReadings.{behind_one}
+use Rattle.presentation_text.specs.TreeReadings.{begins_with}
+use Rattle.presentation_text.specs.LineReadings.{is, known}
 use Rattle.presentation_text.specs.Readings.{is_mark, number_in, word_in}
 use Rattle.presentation_text.specs.declared.kinds.DocKind.TheVariants.{Syntax}
 use Rattle.presentation_text.specs.declared.lexing.Token.{Token}
 use Rattle.presentation_text.specs.declared.lexing.Token.TheVariants.{Word, Number, Byte}
-use Rattle.certificate_text.specs.BlockForms.{cited_in, cites_step, coefficient_in}
+use Rattle.certificate_text.specs.BlockReadings.{cited_in, cites_step, coefficient_in}
 use Rattle.certificate_text.specs.UseText.{cited_rule}
 use Rattle.presentation_text.proofs.LineFormsRead.{both_read, number_read, was_known, word_read}
-use Rattle.presentation_text.proofs.ToldLines.{is_word}
+use Rattle.presentation_text.proofs.ContentsLines.{is_word}
 use Rattle.presentation_text.proofs.TreesAcceptedTrees.{marked}
 
 -- ---- a coefficient

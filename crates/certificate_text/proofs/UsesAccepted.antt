@@ -7,15 +7,15 @@ use Rattle.symmetric_trees.specs.Generators.{IsTable}
 use Rattle.symmetric_trees.specs.declared.generators.Generator.{Generator}
 use Rattle.symmetric_sums.specs.declared.instance.Rule.{Rule}
 use Rattle.presentation_text.specs.Accepted.{ElementsAreAccepted, TreesAreAccepted}
-use Rattle.presentation_text.specs.ElementForms.{element_in}
-use Rattle.presentation_text.specs.Elements.{element_tokens, said}
+use Rattle.presentation_text.specs.ElementReadings.{element_in}
+use Rattle.presentation_text.specs.Elements.{element_tokens, written_sum}
 use Rattle.presentation_text.specs.Readings.{end_in, mark_in}
-use Rattle.presentation_text.specs.TreeForms.{any_arity, demands_of}
+use Rattle.presentation_text.specs.TreeReadings.{any_arity, demands_of}
 use Rattle.presentation_text.specs.TreeText.{tree_tokens}
 use Rattle.presentation_text.specs.declared.lexing.Token.{Token}
 use Rattle.presentation_text.specs.declared.lexing.Token.TheVariants.{Word, Number, Byte}
-use Rattle.certificate_text.specs.BlockForms.{cited_in, coefficient_in, free_tree_in, inputs_in, sum_in, use_in}
-use Rattle.certificate_text.specs.BlockText.{IsSum}
+use Rattle.certificate_text.specs.BlockReadings.{cited_in, coefficient_in, free_tree_in, inputs_in, sum_in, use_in}
+use Rattle.certificate_text.specs.BlockText.{AreSumTokens}
 use Rattle.certificate_text.specs.Plain.{PlainUse}
 use Rattle.certificate_text.specs.UseText.{IsUse, behind_tokens, inputs_tokens, signed_residue}
 use Rattle.presentation_text.proofs.AcceptedParts.{end_read}
@@ -29,7 +29,7 @@ use Rattle.certificate_text.proofs.PrintedUses.{IsInput}
 -- ---- sums
 
 module _ (elements : ElementsAreAccepted) (generators : List Generator) (table : IsTable generators) (p : ℕ) (ts : List Token) (sum : List (ℕ × Tree ℕ)) where
-  pub sum_told : sum_in p generators ts ≡ Ok sum → IsSum p generators ts sum
+  pub sum_told : sum_in p generators ts ≡ Ok sum → AreSumTokens p generators ts sum
   unfolding sum_in
   sum_told e =
       let element = both_read (element_in generators (demands_of 1 None) ts) _ sum e in
@@ -38,7 +38,7 @@ module _ (elements : ElementsAreAccepted) (generators : List Generator) (table :
       let end = both_read (end_in rest) _ sum element.2 in
       let accepted = (elements generators table 1 None ts rest terms).0 element.1 in
       let none : rest ≡ [] = end_read rest end.0 end.1 in
-      let says : said p terms ≡ sum = cc (end.2) in
+      let says : written_sum p terms ≡ sum = cc (end.2) in
       record {
         terms = terms;
         spelled = accepted.0 ∙ ap (λ r. element_tokens generators terms ++ r) none ∙ append-nil (element_tokens generators terms);
@@ -46,7 +46,7 @@ module _ (elements : ElementsAreAccepted) (generators : List Generator) (table :
         sum_is = sym says;
       }
 
-  pub sum_read : IsSum p generators ts sum → sum_in p generators ts ≡ Ok sum
+  pub sum_read : AreSumTokens p generators ts sum → sum_in p generators ts ≡ Ok sum
   unfolding sum_in
   sum_read h =
       let there : element_in generators (demands_of 1 None) ts ≡ Ok (h.terms, []) =

@@ -2,7 +2,7 @@
 use Rattle.std.specs.Prelude.{ℕ, ◌≡◌, ◌↔◌, List, [], Ok}
 use Rattle.symmetric_trees.specs.Generators.{IsTable}
 use Rattle.presentation_text.specs.Grammar.{counted_tokens}
-use Rattle.certificate_text.specs.BlockForms.{Base, between, blocks_from}
+use Rattle.certificate_text.specs.BlockReadings.{Base, between, blocks_from}
 use Rattle.certificate_text.specs.BlockText.{AreBlockLines}
 use Rattle.certificate_text.specs.Plain.{PlainBlock}
 

@@ -1,8 +1,8 @@
 pub mod Plain
 pub mod UseText
 pub mod BlockText
-pub mod BlockForms
-pub mod PlaceForms
+pub mod BlockReadings
+pub mod PlaceReadings
 pub mod Writable
 pub mod Tails
 pub mod PrintedBlocks

@@ -12,9 +12,9 @@ use Rattle.presentation_text.specs.DocumentText.{line_of}
 use Rattle.presentation_text.specs.Lines.{lines}
 use Rattle.presentation_text.specs.SumText.{is_negative, magnitude, sum_text}
 use Rattle.presentation_text.specs.TreeText.{HasWords, tree_text}
-use Rattle.certificate_text.specs.BlockForms.{Base, between, blocks_from}
+use Rattle.certificate_text.specs.BlockReadings.{Base, between, blocks_from}
 use Rattle.certificate_text.specs.Plain.{PlainUse, PlainStep, PlainBlock}
-use Rattle.certificate_text.specs.Writable.{IsWritable}
+use Rattle.certificate_text.specs.Writable.{IsWritableBlock}
 
 -- a residue as the number of least absolute value, with '-' before it where it is negative
 abbrev pub coefficient_text : ℕ → ℕ → List ℕ
@@ -51,4 +51,4 @@ block_text p generators block =
 -- The text of writable blocks, one behind the other, is read back to the same blocks, whatever its length.
 abbrev pub PrintedBlocksAreReadBack : Type 0
 PrintedBlocksAreReadBack = (base : Base) → IsFieldPrime base.p → IsTable base.generators → HasWords base.generators → (number : ℕ) (blocks : List PlainBlock)
-    → All (IsWritable base.p base.generators) blocks → blocks_from base (between, []) number (lines (flat_map (block_text base.p base.generators) blocks)) ≡ Ok blocks
+    → All (IsWritableBlock base.p base.generators) blocks → blocks_from base (between, []) number (lines (flat_map (block_text base.p base.generators) blocks)) ≡ Ok blocks

@@ -4,7 +4,7 @@ use Rattle.std.specs.List.{All}
 use Rattle.symmetric_trees.specs.declared.generators.Generator.{Generator}
 use Rattle.symmetric_sums.specs.Terms.{FitsOver}
 use Rattle.presentation_text.specs.declared.document.Document.{Document}
-use Rattle.certificate_text.specs.BlockForms.{read_tail}
+use Rattle.certificate_text.specs.BlockReadings.{read_tail}
 use Rattle.certificate_text.specs.Plain.{plain_block}
 use Rattle.certificate_text.specs.declared.block.Block.{Block}
 use Rattle.certificate_text.specs.declared.block.Step.{Step}
@@ -16,14 +16,14 @@ abbrev pub AreReadAs : List ℕ → Document → List Block → Type 0
 AreReadAs bytes document blocks = read_tail bytes document document.tail ≡ Ok (map plain_block blocks)
 
 -- why a tail is refused: its first fault, or memory ran out
-abbrev pub IsRefused : List ℕ → Document → ReadCertFail → Type 0
-IsRefused bytes document (At fail) = read_tail bytes document document.tail ≡ Err (fail.line, fail.kind)
-IsRefused bytes document NoMemory = Unit {0}
+abbrev pub IsTailRefused : List ℕ → Document → ReadCertFail → Type 0
+IsTailRefused bytes document (At fail) = read_tail bytes document document.tail ≡ Err (fail.line, fail.kind)
+IsTailRefused bytes document NoMemory = Unit {0}
 
 -- ---- what a checker asks of blocks
 
 -- the step's element fits the field and the table, and the coefficients of its uses are residues
-pub record IsReadyStep (p : ℕ) (generators : List Generator) (step : Step) : Type 0 where
+pub record IsCheckableStep (p : ℕ) (generators : List Generator) (step : Step) : Type 0 where
   pub element : FitsOver p generators step.element
   pub coefs : All (λ item. item.coef < p) step.uses
 
@@ -31,4 +31,4 @@ pub record IsReadyStep (p : ℕ) (generators : List Generator) (step : Step) : T
 pub record IsReadyBlock (p : ℕ) (generators : List Generator) (block : Block) : Type 0 where
   pub want : FitsOver p generators block.want
   pub few : length block.steps < 2 ^ 32 - 1
-  pub steps : All (IsReadyStep p generators) block.steps
+  pub steps : All (IsCheckableStep p generators) block.steps

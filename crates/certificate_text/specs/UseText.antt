@@ -6,7 +6,7 @@ use Rattle.symmetric_trees.specs.declared.generators.Generator.{Generator}
 use Rattle.symmetric_sums.specs.declared.instance.Rule.{Rule}
 use Rattle.symmetric_sums.specs.declared.instance.Rule.TheVariants.{Rel, Step}
 use Rattle.presentation_text.specs.Accepted.{IsDemanded}
-use Rattle.presentation_text.specs.TreeForms.{any_arity}
+use Rattle.presentation_text.specs.TreeReadings.{any_arity}
 use Rattle.presentation_text.specs.TreeText.{tree_tokens}
 use Rattle.presentation_text.specs.declared.lexing.Token.{Token}
 use Rattle.presentation_text.specs.declared.lexing.Token.TheVariants.{Word, Number, Byte}
@@ -65,8 +65,8 @@ abbrev pub cited_rule : Bool → ℕ → Rule
 cited_rule cites_step cited = if cites_step then Step (min cited greatest_cited) else Rel (min cited greatest_cited)
 
 -- the use that is written
-abbrev pub said_use : ℕ → WrittenUse → PlainUse
-said_use p written = record {
+abbrev pub written_use : ℕ → WrittenUse → PlainUse
+written_use p written = record {
   coef = signed_residue p written.negative written.number;
   context = written.context;
   rule = cited_rule written.cites_step written.cited;
@@ -78,4 +78,4 @@ pub record IsUse (p : ℕ) (generators : List Generator) (tokens : List Token) (
   pub written : WrittenUse
   pub spelled : tokens ≡ use_tokens generators written
   pub trees : HasUseTrees generators written
-  pub item_is : item ≡ said_use p written
+  pub item_is : item ≡ written_use p written

@@ -2,9 +2,9 @@ ghost use Rattle.std.specs.Prelude.{◌≡◌, ◌≤◌, List, IfOk, MatchResul
 ghost use Rattle.std.specs.List.{All};
 ghost use Rattle.symmetric_sums.specs.Terms.{FitsOver, terms_of};
 ghost use Rattle.presentation_text.specs.Readings.{StopsAs};
-ghost use Rattle.certificate_text.specs.BlockForms as spec;
+ghost use Rattle.certificate_text.specs.BlockReadings as spec;
 ghost use Rattle.certificate_text.specs.Plain.{plain_block, plain_step};
-ghost use Rattle.certificate_text.specs.PlaceForms as forms;
+ghost use Rattle.certificate_text.specs.PlaceReadings as forms;
 
 use crate::block::{Block, Step};
 use crate::uses::use_line;

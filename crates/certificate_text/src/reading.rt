@@ -3,13 +3,13 @@ ghost use Rattle.std.specs.List.{All};
 ghost use Rattle.presentation_text.specs.Lines.{lines as lines_of};
 ghost use Rattle.presentation_text.specs.Presentations.{IsReadAs};
 ghost use Rattle.presentation_text.specs.Tokens.{tokens as tokens_of};
-ghost use Rattle.certificate_text.specs.BlockForms as spec;
-ghost use Rattle.certificate_text.specs.BlockForms.{between};
+ghost use Rattle.certificate_text.specs.BlockReadings as spec;
+ghost use Rattle.certificate_text.specs.BlockReadings.{between};
 ghost use Rattle.certificate_text.specs.Laws.{BlocksAreAccepted};
-ghost use Rattle.certificate_text.specs.PlaceForms as forms;
+ghost use Rattle.certificate_text.specs.PlaceReadings as forms;
 ghost use Rattle.certificate_text.specs.Plain.{plain_block};
-ghost use Rattle.certificate_text.specs.Writable.{IsWritable};
-ghost use Rattle.certificate_text.specs.Tails.{AreReadAs, IsReadyBlock, IsRefused};
+ghost use Rattle.certificate_text.specs.Writable.{IsWritableBlock};
+ghost use Rattle.certificate_text.specs.Tails.{AreReadAs, IsReadyBlock, IsTailRefused};
 
 use crate::block::Block;
 use crate::cert_fail::{CertFail, ReadCertFail};
@@ -33,7 +33,7 @@ fn tail_line(
     line: &[u8],
 ) -> Result<Progress, ReadCertFail>
     ensures { MatchResult result (λ next. spec.tail_line (spec.base_of document.now) (forms.follow_of now) number (tokens_of line.now) ≡ Ok (forms.follow_of next))
-        (forms.StopsAtLine (spec.tail_line (spec.base_of document.now) (forms.follow_of now) number (tokens_of line.now))) }
+        (forms.StopsAtBlockLine (spec.tail_line (spec.base_of document.now) (forms.follow_of now) number (tokens_of line.now))) }
 {
     let found = match tokens(alloc, line) {
         Ok(found) => found,
@@ -63,7 +63,7 @@ fn blocks_of(
 ) -> Result<Items<Block>, ReadCertFail>
     requires few { first + length text.now < 2 ^ 32 }
     ensures { MatchResult result (λ blocks. spec.blocks_from (spec.base_of document.now) (between, []) first (lines_of text.now) ≡ Ok (map plain_block blocks))
-        (forms.StopsAtLine (spec.blocks_from (spec.base_of document.now) (between, []) first (lines_of text.now))) }
+        (forms.StopsAtBlockLine (spec.blocks_from (spec.base_of document.now) (between, []) first (lines_of text.now))) }
 {
     let mut now = Progress {
         place: Place::Between,
@@ -104,9 +104,9 @@ pub fn read_blocks(
 ) -> Result<Items<Block>, ReadCertFail>
     requires short { length bytes.now ≤ 16777216 }
     requires read { IsReadAs bytes.now document.now }
-    ensures blocks { MatchResult result (AreReadAs bytes.now document.now) (IsRefused bytes.now document.now) }
+    ensures blocks { MatchResult result (AreReadAs bytes.now document.now) (IsTailRefused bytes.now document.now) }
     ensures ready { IfOk result (All (IsReadyBlock document.now.field document.now.gens)) }
-    ensures writable { IfOk result (λ blocks. All (IsWritable document.now.field document.now.gens) (map plain_block blocks)) }
+    ensures writable { IfOk result (λ blocks. All (IsWritableBlock document.now.field document.now.gens) (map plain_block blocks)) }
 {
     let Some(tail) = document.tail else {
         return Ok(Items::new(alloc));

@@ -2,7 +2,7 @@ ghost use Rattle.std.specs.Prelude.{◌≡◌, ◌≤◌, ◌<◌, ◌+◌, Err,
 ghost use Rattle.std.specs.List.{All};
 ghost use Rattle.labelled_trees.specs.Meaning.{tree_of};
 ghost use Rattle.presentation_text.specs.Readings.{StopsAs};
-ghost use Rattle.certificate_text.specs.BlockForms as spec;
+ghost use Rattle.certificate_text.specs.BlockReadings as spec;
 ghost use Rattle.certificate_text.specs.Plain.{plain_use};
 ghost use Rattle.certificate_text.specs.UseText.{greatest_cited, signed_residue as residue_of};
 

@@ -7,7 +7,7 @@ ghost use Rattle.presentation_text.specs.DocumentText.{blank_before};
 ghost use Rattle.certificate_text.specs.Plain.{plain_block, plain_step, plain_use};
 ghost use Rattle.certificate_text.specs.PrintedBlocks as text;
 ghost use Rattle.certificate_text.specs.PrintedBlocks.{PrintedBlocksAreReadBack};
-ghost use Rattle.certificate_text.specs.Writable.{IsCited, IsSaidSum, IsWritable, IsWritableStep, IsWritableUse};
+ghost use Rattle.certificate_text.specs.Writable.{IsCited, IsWrittenSum, IsWritableBlock, IsWritableStep, IsWritableUse};
 
 use crate::block::{Block, Step};
 use presentation_text::{Document, write_number, write_sum, write_tree};
@@ -96,7 +96,7 @@ fn write_sum_line(
     sum: &Sum,
     out: &mut Vec<u8>,
 ) -> Result<(), AllocError>
-    requires said { IsSaidSum field table.now (terms_of sum.now) }
+    requires said { IsWrittenSum field table.now (terms_of sum.now) }
     ensures { OnOk result (out.new.items ≡ out.old.items ++ text.sum_line field table.now word.now (terms_of sum.now)) }
 {
     write_word(word, out)?;
@@ -128,7 +128,7 @@ fn write_step(
 /// cite relations and steps, and their trees may be read. `AllocError` comes for want of memory alone; `out` may then hold a
 /// part of the text.
 pub fn write_block(document: &Document, block: &Block, out: &mut Vec<u8>) -> Result<(), AllocError>
-    requires writable { IsWritable document.now.field document.now.gens (plain_block block.now) }
+    requires writable { IsWritableBlock document.now.field document.now.gens (plain_block block.now) }
     ensures text { OnOk result (out.new.items ≡ out.old.items ++ text.block_text document.now.field document.now.gens (plain_block block.now)) }
 {
     write_sum_line(document.field, &document.gens, "want", &block.want, out)?;
@@ -140,7 +140,7 @@ pub fn write_block(document: &Document, block: &Block, out: &mut Vec<u8>) -> Res
 
 /// The text of a block, as `write_block` puts it. `AllocError` comes for want of memory alone.
 pub fn print_block(alloc: Global, document: &Document, block: &Block) -> Result<Vec<u8>, AllocError>
-    requires writable { IsWritable document.now.field document.now.gens (plain_block block.now) }
+    requires writable { IsWritableBlock document.now.field document.now.gens (plain_block block.now) }
     ensures text { IfOk result (λ found. found.items ≡ text.block_text document.now.field document.now.gens (plain_block block.now)) }
 {
     let mut out = Vec::new(alloc);

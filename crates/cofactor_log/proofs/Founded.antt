@@ -8,7 +8,7 @@ use Rattle.symmetric_sums.specs.declared.instance.Instance.{Instance}
 use Rattle.symmetric_sums.specs.declared.instance.Rule.TheVariants.{Step}
 use Rattle.symmetric_sums.specs.declared.term.Term.{Term}
 use Rattle.symmetric_trees.specs.declared.generators.Generator.{Generator}
-use Rattle.cofactor_log.specs.Entries.{AreKept, IsKept, elements_of}
+use Rattle.cofactor_log.specs.Entries.{KeepRule, KeepsRule, elements_of}
 use Rattle.cofactor_log.specs.Marks.{CitesWithin, IsFounded}
 use Rattle.cofactor_log.specs.Resting.{CiteEntry, uses_at}
 use Rattle.symmetric_sums.specs.Uses.{AreGoodUses, IsGoodUse}
@@ -47,7 +47,7 @@ module _ (p : ℕ) (generators : List Generator) (rels : List (List Term)) where
     found : (item : Instance) × IsGoodUse p generators rels earlier good.0 item × (item.rule ≡ Step k) → (0 < k) × (k ≤ length earlier)
     found (item, good_use, e) = numbered_within earlier k (λ z. good_use.valid.has_terms (ap (rule_element p generators rels earlier) e ∙ z))
 
-  pub kept-founded : (entries : List Entry) → AreKept p generators rels entries → IsFounded entries
+  pub kept-founded : (entries : List Entry) → KeepRule p generators rels entries → IsFounded entries
   kept-founded entries kept i k c = at_place (uses-within entries i k c) where
     at_place : (j : ℕ) × (i ≡ suc j) × (j < length entries) → (0 < k) × (k < i)
     at_place (j, e, l) =

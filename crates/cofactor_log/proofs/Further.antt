@@ -7,13 +7,13 @@ use Rattle.labelled_trees.specs.Trees.{Tree}
 use Rattle.symmetric_trees.specs.Generators.{parts_at}
 use Rattle.symmetric_trees.specs.declared.generators.Generator.{Generator}
 use Rattle.operad_ideals.specs.Collected.{HaveOneForm}
-use Rattle.symmetric_sums.specs.Instances.{IsValid, instance_element, rule_element, sum_at}
+use Rattle.symmetric_sums.specs.Instances.{IsValidInstance, instance_element, rule_element, sum_at}
 use Rattle.symmetric_sums.specs.Terms.{terms_of}
 use Rattle.symmetric_sums.specs.declared.instance.Instance.{Instance}
 use Rattle.symmetric_sums.specs.declared.instance.Rule.{Rule}
 use Rattle.symmetric_sums.specs.declared.instance.Rule.TheVariants.{Rel, Swap, Step}
 use Rattle.symmetric_sums.specs.declared.term.Term.{Term}
-use Rattle.cofactor_log.specs.Entries.{IsKept, elements_of}
+use Rattle.cofactor_log.specs.Entries.{KeepsRule, elements_of}
 use Rattle.symmetric_sums.specs.Uses.{IsGoodUse, cited, sum_of}
 use Rattle.cofactor_log.specs.declared.entry.Entry.{Entry}
 
@@ -35,7 +35,7 @@ module _ (p : ℕ) (generators : List Generator) (rels : List (List Term)) (entr
   good-further : (n : ℕ) (uses : List Instance) → AllByRecursion (IsGoodUse p generators rels (elements_of (take m entries)) n) uses → AllByRecursion (IsGoodUse p generators rels (elements_of entries) n) uses
   good-further n [] h = tt
   good-further n (x ∷ uses) h = (
-    record { cites = h.0.cites; valid = subst (λ e. IsValid generators e n x) (rule-further x.rule h.0.valid.has_terms) h.0.valid },
+    record { cites = h.0.cites; valid = subst (λ e. IsValidInstance generators e n x) (rule-further x.rule h.0.valid.has_terms) h.0.valid },
     good-further n uses h.1,
   )
 
@@ -44,7 +44,7 @@ module _ (p : ℕ) (generators : List Generator) (rels : List (List Term)) (entr
   sum-further n [] h = refl
   sum-further n (x ∷ uses) h = ap₂ (λ (e f : List (ℕ × Tree ℕ)). instance_element p e x ++ f) (rule-further x.rule h.0.valid.has_terms) (sum-further n uses h.1)
 
-  pub kept-further : (entry : Entry) → IsKept p generators rels (elements_of (take m entries)) entry → IsKept p generators rels (elements_of entries) entry
+  pub kept-further : (entry : Entry) → KeepsRule p generators rels (elements_of (take m entries)) entry → KeepsRule p generators rels (elements_of entries) entry
   kept-further entry h =
       let n = h.uses.0 in
       let good = recursion_from_All (IsGoodUse p generators rels (elements_of (take m entries)) h.uses.0) entry.uses h.uses.1 in

@@ -24,7 +24,7 @@ use Rattle.symmetric_sums.proofs.Expansions.{element-all}
 use Rattle.symmetric_sums.proofs.Members.{sound}
 use Rattle.symmetric_sums.proofs.OneForms.{one_form_member}
 use Rattle.symmetric_sums.proofs.UseMembers.{uses_labelled, uses_members}
-use Rattle.cofactor_log.specs.Entries.{IsKept, elements_of}
+use Rattle.cofactor_log.specs.Entries.{KeepsRule, elements_of}
 use Rattle.cofactor_log.specs.Logs.{IsElementOver, IsLog, Logged}
 use Rattle.cofactor_log.specs.Members.{EntriesAreMembers}
 use Rattle.symmetric_sums.specs.Uses.{IsGoodUse, cited, sum_of}
@@ -43,7 +43,7 @@ element_is p generators (x ∷ terms) h =
 
 module _ (p : ℕ) (generators : List Generator) (rels : List (List Term)) (positive : 0 < p) (relations : All (λ rel. IsElement generators (terms_of rel)) rels) where
   -- an entry over members
-  entry_member : (earlier : List (List Term)) (entry : Entry) → All (λ step. IsMember p generators rels (terms_of step)) earlier → IsElement generators (terms_of entry.element) → IsKept p generators rels earlier entry
+  entry_member : (earlier : List (List Term)) (entry : Entry) → All (λ step. IsMember p generators rels (terms_of step)) earlier → IsElement generators (terms_of entry.element) → KeepsRule p generators rels earlier entry
       → IsMember p generators rels (terms_of entry.element)
   entry_member earlier entry members element h =
       let n = h.uses.0 in

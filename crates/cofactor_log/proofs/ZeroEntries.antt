@@ -6,7 +6,7 @@ use Rattle.symmetric_trees.specs.declared.generators.Generator.{Generator}
 use Rattle.operad_ideals.specs.Collected.{IsCollected}
 use Rattle.symmetric_sums.specs.declared.term.Term.{Term}
 use Rattle.symmetric_sums.specs.declared.instance.Instance.{Instance}
-use Rattle.cofactor_log.specs.Entries.{IsKept}
+use Rattle.cofactor_log.specs.Entries.{KeepsRule}
 
 nothing_collected : (p : ℕ) (parts : ℕ → List Part) → IsCollected p parts [] []
 nothing_collected p parts = record {
@@ -15,10 +15,10 @@ nothing_collected p parts = record {
 }
 
 pub zero_is_kept : (p : ℕ) (generators : List Generator) (rels earlier : List (List Term)) (element : List Term) (uses : List Instance) → element ≡ [] → uses ≡ []
-    → IsKept p generators rels earlier (record { element = element; uses = uses })
+    → KeepsRule p generators rels earlier (record { element = element; uses = uses })
 zero_is_kept p generators rels earlier element uses e f =
-    subst (λ x. IsKept p generators rels earlier (record { element = x; uses = uses })) (sym e)
-    (subst (λ x. IsKept p generators rels earlier (record { element = []; uses = x })) (sym f)
+    subst (λ x. KeepsRule p generators rels earlier (record { element = x; uses = uses })) (sym e)
+    (subst (λ x. KeepsRule p generators rels earlier (record { element = []; uses = x })) (sym f)
     (record {
       element = record { residues = λ k d l. absurd (omega (arith, l)); trees = λ k d l. absurd (omega (arith, l)) };
       coefs = λ k d l. absurd (omega (arith, l));

@@ -14,13 +14,13 @@ elements_of = map (λ entry. entry.element)
 
 -- An entry keeps the rule over earlier elements: its element fits, the coefficients of its uses are residues, the uses are valid
 -- instances, in one arity, of relations or of earlier elements, and its element and their sum collect to the same sum.
-pub record IsKept (p : ℕ) (generators : List Generator) (rels earlier : List (List Term)) (entry : Entry) : Type 0 where
+pub record KeepsRule (p : ℕ) (generators : List Generator) (rels earlier : List (List Term)) (entry : Entry) : Type 0 where
   pub element : FitsOver p generators entry.element
   pub coefs : All (λ item. item.coef < p) entry.uses
   pub uses : AreGoodUses p generators rels earlier entry.uses
   pub same : HaveOneForm p (parts_at generators) (terms_of entry.element) (sum_of p generators rels earlier entry.uses)
 
 -- each entry keeps the rule over those before it
-abbrev pub AreKept : ℕ → List Generator → List (List Term) → List Entry → Type 0
-AreKept p generators rels entries =
-    (k : ℕ) (d : Entry) → k < length entries → IsKept p generators rels (elements_of (take k entries)) (slice_index_or entries k d)
+abbrev pub KeepRule : ℕ → List Generator → List (List Term) → List Entry → Type 0
+KeepRule p generators rels entries =
+    (k : ℕ) (d : Entry) → k < length entries → KeepsRule p generators rels (elements_of (take k entries)) (slice_index_or entries k d)

@@ -1,10 +1,10 @@
 ghost use Rattle.std.specs.Prelude.{◌≡◌, ◌<◌, ◌≤◌, ◌-◌, ◌++◌, ◌∷◌, [], ℕ, List, IfOk, length, take, slice_get, Some};
 ghost use Rattle.std.specs.List.{All};
 ghost use Rattle.symmetric_sums.specs.Terms.{FitsOver, HaveResidues};
-ghost use Rattle.cofactor_log.specs.Entries.{IsKept, elements_of};
+ghost use Rattle.cofactor_log.specs.Entries.{KeepsRule, elements_of};
 ghost use Rattle.cofactor_log.specs.Logs.{IsLog, IsPushed, IsSomeSum, logged};
 ghost use Rattle.cofactor_log.specs.Members.{EntriesAreMembers};
-ghost use Rattle.cofactor_log.specs.Resting.{IsRest, RestsOn, UsesRestOn};
+ghost use Rattle.cofactor_log.specs.Resting.{ListsReached, RestsOn, UsesRestOn};
 ghost use Rattle.symmetric_sums.specs.Uses.{AreGoodUses};
 
 use crate::Entry;
@@ -125,8 +125,8 @@ impl Log {
     pub fn entry(&self, number: u32) -> &Entry
         requires held { (0 < number) × (number ≤ length self.now.entries) }
         ensures entry { slice_get self.now.entries (number - 1) ≡ Some result.now }
-        ensures kept { IsKept self.now.field self.now.gens self.now.rels (elements_of (take (number - 1) self.now.entries)) result.now }
-        ensures again { IsKept self.now.field self.now.gens self.now.rels (elements_of self.now.entries) result.now }
+        ensures kept { KeepsRule self.now.field self.now.gens self.now.rels (elements_of (take (number - 1) self.now.entries)) result.now }
+        ensures again { KeepsRule self.now.field self.now.gens self.now.rels (elements_of self.now.entries) result.now }
     {
         &self.entries.as_slice()[number as usize - 1]
     }
@@ -136,7 +136,7 @@ impl Log {
     /// that are there, and the element is their sum, up to symmetry. `LogFull` comes exactly where the log holds 2^31
     /// entries, else `NoMemory` for want of memory alone. After an error the log is as before.
     pub fn push(&mut self, _alloc: Global, entry: Entry) -> Result<u32, LogFail>
-        requires kept { IsKept self.old.field self.old.gens self.old.rels (elements_of self.old.entries) entry }
+        requires kept { KeepsRule self.old.field self.old.gens self.old.rels (elements_of self.old.entries) entry }
         ensures answer { IsPushed self.old entry result self.new }
     {
         is_sum(&entry.element);
@@ -154,7 +154,7 @@ impl Log {
     /// which is the last. The number is from 1 to the number of entries. `AllocError` comes for want of memory alone.
     pub fn rests_on(&self, alloc: Global, number: u32) -> Result<Vec<u32>, AllocError>
         requires held { (0 < number) × (number ≤ length self.now.entries) }
-        ensures rest { IfOk result (λ found. IsRest (RestsOn self.now.entries number) found.items) }
+        ensures rest { IfOk result (λ found. ListsReached (RestsOn self.now.entries number) found.items) }
         ensures last { IfOk result (λ found. (front : List ℕ) × (found.items ≡ front ++ number ∷ [])) }
     {
         let mut marks = unmarked(alloc, number as usize)?;
@@ -168,7 +168,7 @@ impl Log {
     /// one arity, of relations or of entries. `AllocError` comes for want of memory alone.
     pub fn uses_rest_on(&self, alloc: Global, uses: &[Instance]) -> Result<Vec<u32>, AllocError>
         requires good { AreGoodUses self.now.field self.now.gens self.now.rels (elements_of self.now.entries) uses.now }
-        ensures rest { IfOk result (λ found. IsRest (UsesRestOn self.now.entries uses.now) found.items) }
+        ensures rest { IfOk result (λ found. ListsReached (UsesRestOn self.now.entries uses.now) found.items) }
     {
         let mut marks = unmarked(alloc, self.entries().len())?;
         let reached = marks.as_mut_slice();

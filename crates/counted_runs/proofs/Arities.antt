@@ -1,7 +1,7 @@
 -- The start, the end of an arity, and the end of the completion.
 use Rattle.std.proofs.Common.{suc, ◌+◌, [], refl, ap, arith}
 use Rattle.shuffle_reductions.proofs.Laws.{multiples_are_greater}
-use Rattle.shuffle_transfer.specs.Certified.{setting}
+use Rattle.shuffle_transfer.specs.GroebnerBases.{setting}
 use Rattle.shuffle_completion.proofs.Laws.{starts, arity_ends, complete_is_reduced}
 use Rattle.counted_runs.proofs.RunsSoFar.{runs_so_far}
 use Rattle.counted_runs.specs.LoopLaws.{LoopBegins, ArityIsDone, LoopEnds}

@@ -8,7 +8,7 @@ use Rattle.shuffle_bases.specs.Elements.{Element, Setting}
 use Rattle.shuffle_reductions.specs.Chains.{HasNoZeros}
 use Rattle.shuffle_reductions.specs.Chains as chains
 use Rattle.shuffle_bases.specs.Elements.{Insertion}
-use Rattle.shuffle_reductions.specs.Extensions.{over, Extends}
+use Rattle.shuffle_reductions.specs.Extensions.{with_elements, Extends}
 use Rattle.shuffle_completion.specs.Completion.{IsTailReduced, AreTailsReduced}
 use Rattle.counted_runs.specs.Reductions.{ReducesTo}
 use Rattle.counted_runs.specs.Stages.{IsBecoming, AreBecoming}
@@ -78,10 +78,10 @@ fewer_pending s n t pending (g ∷ l) (h ∷ m) b f = (go b.0, fewer_pending s n
     go (inr (inr k)) = inr (inr (k.0, k.1, λ m. k.2 (inr m)))
 
 -- a tail that is reduced
-pub tail_by : (s : Setting) (more : List Element) → Extends s more → (n : ℕ) (g h : Element) → g.arity ≡ n → h.arity ≡ n → h.lead ≡ g.lead → (count : ℕ) → ReducesTo (over s more) n g.tail h.tail count → HasNoZeros s.q h.tail
+pub tail_by : (s : Setting) (more : List Element) → Extends s more → (n : ℕ) (g h : Element) → g.arity ≡ n → h.arity ≡ n → h.lead ≡ g.lead → (count : ℕ) → ReducesTo (with_elements s more) n g.tail h.tail count → HasNoZeros s.q h.tail
     → IsTailReduced s g h
 tail_by s more ext n g h a b lead count r zeros =
-    let k = subst (λ i. (uses : List (ℕ × Insertion (over s more) i)) × chains.IsChain (over s more) i g.tail uses h.tail) (sym a) (r.uses, r.chain) in
+    let k = subst (λ i. (uses : List (ℕ × Insertion (with_elements s more) i)) × chains.IsChain (with_elements s more) i g.tail uses h.tail) (sym a) (r.uses, r.chain) in
     record { arity_is = b ∙ sym a; lead_is = lead; more = more; extends = ext; uses = k.0; chain = k.1; finished = r.finished; no_zeros = zeros }
 
 -- leading trees of different elements are different, where elements with one leading tree are one

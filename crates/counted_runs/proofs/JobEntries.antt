@@ -9,10 +9,10 @@ use Rattle.shuffle_places.proofs.Laws.{multiples_fit}
 use Rattle.shuffle_bases.specs.Elements.{Element, Insertion}
 use Rattle.shuffle_reductions.specs.Chains.{IsChain}
 use Rattle.operad_ideals.specs.Presentations.{Relation, Presentation}
-use Rattle.shuffle_transfer.specs.Certified.{setting}
+use Rattle.shuffle_transfer.specs.GroebnerBases.{setting}
 use Rattle.shuffle_transfer.proofs.Orderings.{all_orderings}
 use Rattle.shuffle_completion.specs.Completion.{Task, IsUnderway, IsTask}
-use Rattle.counted_runs.specs.Items.{Question, Problem, arity_in, completion, Item, relabelling, two_places, tail_of, question, traced, IsItem}
+use Rattle.counted_runs.specs.Items.{Question, Problem, item_arity, completion, Item, relabelling, two_places, tail_of, question, traced, IsItem}
 use Rattle.counted_runs.specs.Rows.{AreIdealElements}
 use Rattle.counted_runs.specs.Runs.{EntryOf, IsEntry, HasFinished}
 use Rattle.counted_runs.specs.FullRuns.{HasItem, HasLeadingTree, IsLastLead}
@@ -38,10 +38,10 @@ one_arity d n m (question k) h g = sym h.2 ∙ ap (λ (e : Question). e.arity) (
 one_arity d n m (traced c t) h g = one_size n m t h.2.shuffle g.2.shuffle
 
 -- a job is an item of its arity
-pub job_item : (d : Problem) (lower : List Element) (n : ℕ) → ((g : Element) → Mem g lower → IsShuffleTree (arity_in d) g.arity g.lead) → (j : Job) → IsJob d.presentation lower n j → IsItem d n (item_of j)
+pub job_item : (d : Problem) (lower : List Element) (n : ℕ) → ((g : Element) → Mem g lower → IsShuffleTree (item_arity d) g.arity g.lead) → (j : Job) → IsJob d.presentation lower n j → IsItem d n (item_of j)
 job_item d lower n valid (relabel k r v) h = (r, h.0, h.1, h.2, ((all_orderings n).2 v).0 h.3)
 job_item d lower n valid (combine g k t first second) h = (
-  multiples_fit (arity_in d) g.arity k.arity n g.lead k.lead t first second (valid g h.0) (valid k h.1) h.4,
+  multiples_fit (item_arity d) g.arity k.arity n g.lead k.lead t first second (valid g h.0) (valid k h.1) h.4,
   h.4.overlap.first_at.connected,
   h.4.overlap.second_at.connected,
 )

@@ -4,7 +4,7 @@ use Rattle.std.specs.declared.cmp.Ordering.TheVariants.{Less}
 use mathlib.Core.List.{◌++◌}
 use native.Mathlib.Decide.{ℕ_discrete}
 use Rattle.modular_sums.specs.Lists.{Mem, Distinct, Nth}
-use Rattle.modular_sums.specs.Residues.{Alike}
+use Rattle.modular_sums.specs.Residues.{IsCongruent}
 use Rattle.modular_sums.specs.Sums.{coef, AllTerms}
 use Rattle.modular_sums.proofs.Coefficients.{coef_nothing}
 use Rattle.modular_sums.proofs.Images.{AllTerms-imp}
@@ -27,7 +27,7 @@ use Rattle.operad_ideals.specs.Presentations.{Relation}
 use Rattle.shuffle_transfer.specs.Orderings.{IsOrdering, orderings}
 use Rattle.shuffle_transfer.specs.Labels.{labels, inputs_of}
 use Rattle.shuffle_transfer.specs.Transfer.{relabelled, shuffled}
-use Rattle.shuffle_transfer.specs.Certified.{setting}
+use Rattle.shuffle_transfer.specs.GroebnerBases.{setting}
 use Rattle.shuffle_transfer.specs.NormalTrees.{by_path, compare}
 use Rattle.shuffle_transfer.proofs.Orderings.{all_orderings}
 use Rattle.shuffle_transfer.proofs.Labels.{are_labels}
@@ -94,7 +94,7 @@ begin_lead : (t : Tree ℕ) → IsLastLead begin t → HasLeadingTree one t
 unfolding begin
 begin_lead t h = go (three_trees t h.valid)
   where
-    not_zero : Alike 100 (coef tree_discrete (form_by first_order) t1) 0 → ⊥
+    not_zero : IsCongruent 100 (coef tree_discrete (form_by first_order) t1) 0 → ⊥
     not_zero z = let k = (coefs jacobi_relation refl).0 in absurd (omega (arith, k, z))
 
     go : (t ≡ t1) ⊎ ((t ≡ t2) ⊎ (t ≡ t3)) → HasLeadingTree one t
@@ -107,7 +107,7 @@ only_lead : (u : Tree ℕ) → IsLastLead begin u → t1 ≡ u
 unfolding begin
 only_lead u h = (last_leads_are_one lie (compare lie.generators by_path) ordered begin).0 t1 u itself h
   where
-    there : Alike 100 (coef tree_discrete (form_by first_order) t1) 0 → ⊥
+    there : IsCongruent 100 (coef tree_discrete (form_by first_order) t1) 0 → ⊥
     there z = let k = (coefs jacobi_relation refl).0 in absurd (omega (arith, k, z))
 
     itself : IsLastLead begin t1
@@ -161,7 +161,7 @@ stop_stopped : HasStopped stop
 unfolding stop
 stop_stopped = (insertion_t1, stands)
   where
-    stands : Alike 100 (coef tree_discrete (form_by second_order) t1) 0 → ⊥
+    stands : IsCongruent 100 (coef tree_discrete (form_by second_order) t1) 0 → ⊥
     stands z = let k = (coefs jacobi_relation refl).1 in absurd (omega (arith, k, z))
 
 stop_fresh : HasItem (begin ∷ []) stop.item → ⊥

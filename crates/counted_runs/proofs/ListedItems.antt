@@ -19,7 +19,7 @@ use Rattle.shuffle_transfer.specs.Labels.{labels}
 use Rattle.shuffle_transfer.proofs.Labels.{are_labels}
 use Rattle.shuffle_transfer.proofs.Orderings.{all_orderings}
 use Rattle.action_characters.specs.CycleTypes.{cycle_types}
-use Rattle.counted_runs.specs.Items.{Question, Problem, arity_in, Purpose, completion, certificate, Item, relabelling, two_places, tail_of, question, traced, IsItem}
+use Rattle.counted_runs.specs.Items.{Question, Problem, item_arity, Purpose, completion, certificate, Item, relabelling, two_places, tail_of, question, traced, IsItem}
 use Rattle.counted_runs.specs.Enough.{counts_relation, counts_question, tree_number, relation_number, question_number}
 use Rattle.action_characters.proofs.CycleTypes.{cycle_types_listed}
 use Rattle.counted_runs.proofs.VertexSets.{few_vertices, rising_lists, length_rising, connected_rising}
@@ -107,7 +107,7 @@ either certificate = inr (inl refl)
 
 module _ (d : Problem) (n k : ℕ) where
   abbrev trees_of : List (Tree ℕ)
-  trees_of = all_trees (labels d.presentation.generators) (arity_in d) n
+  trees_of = all_trees (labels d.presentation.generators) (item_arity d) n
 
   abbrev sets : List (List ℕ)
   sets = rising_lists 1 k
@@ -140,7 +140,7 @@ module _ (d : Problem) (n k : ℕ) where
   -- ---- their number
 
   tree_count : IsWide d.presentation → length trees_of ≡ tree_number d n
-  tree_count wide = (listed (labels d.presentation.generators) (arity_in d) (are_labels d.presentation wide) n).1
+  tree_count wide = (listed (labels d.presentation.generators) (item_arity d) (are_labels d.presentation wide) n).1
 
   relabelling_count : (z : Purpose) → length (relabellings_for z) ≡ relation_number d n
   unfolding relabellings_for
@@ -192,11 +192,11 @@ module _ (d : Problem) (n k : ℕ) where
   -- ---- each item stands there
 
   module _ (wide : IsWide d.presentation) where
-    listed_tree : (t : Tree ℕ) → IsShuffleTree (arity_in d) n t → Mem t trees_of
-    listed_tree t h = (listed (labels d.presentation.generators) (arity_in d) (are_labels d.presentation wide) n).0.each t h
+    listed_tree : (t : Tree ℕ) → IsShuffleTree (item_arity d) n t → Mem t trees_of
+    listed_tree t h = (listed (labels d.presentation.generators) (item_arity d) (are_labels d.presentation wide) n).0.each t h
 
-    listed_set : n ≡ suc k → (t : Tree ℕ) (a : List ℕ) → IsShuffleTree (arity_in d) n t → IsConnected t a → Mem a sets
-    listed_set e t a h c = connected_rising k t a (let f = few_vertices (arity_in d) n t h in omega (arith, f, e)) c
+    listed_set : n ≡ suc k → (t : Tree ℕ) (a : List ℕ) → IsShuffleTree (item_arity d) n t → IsConnected t a → Mem a sets
+    listed_set e t a h c = connected_rising k t a (let f = few_vertices (item_arity d) n t h in omega (arith, f, e)) c
 
     abbrev after_relabellings : List Item
     after_relabellings = flat_map pairs_for both ++ (map tail_of trees_of ++ asked)

@@ -5,7 +5,7 @@ use Rattle.modular_sums.specs.Lists.{Mem, Distinct}
 use Rattle.labelled_trees.specs.Trees.{Tree}
 use Rattle.labelled_trees.specs.Equality.{tree_discrete}
 use Rattle.modular_sums.specs.Sums.{coef}
-use Rattle.modular_sums.specs.Residues.{Alike}
+use Rattle.modular_sums.specs.Residues.{IsCongruent}
 use Rattle.modular_sums.proofs.Lists.{mem_left, mem_right, mem_map}
 use Rattle.modular_sums.proofs.Sums.{coef-scale}
 use Rattle.modular_sums.proofs.Images.{AllTerms-imp}
@@ -16,11 +16,11 @@ use Rattle.shuffle_normal_forms.specs.NormalForms.{IsLeadingTree}
 use Rattle.shuffle_normal_forms.proofs.Leading.{not_less}
 use Rattle.shuffle_reductions.specs.Chains.{IsChain}
 use Rattle.shuffle_reductions.proofs.Laws.{elements_extend_themselves}
-use Rattle.shuffle_transfer.specs.Certified.{setting}
+use Rattle.shuffle_transfer.specs.GroebnerBases.{setting}
 use Rattle.shuffle_completion.specs.Completion.{Task, IsUnderway, IsMultipleOf}
 use Rattle.shuffle_completion.proofs.NewElements.{inverse_not_zero}
 use Rattle.shuffle_completion.proofs.Laws.{task_ends_in_zero, task_ends_in_element, order_does_not_matter, arity_begins}
-use Rattle.counted_runs.specs.Items.{Problem, arity_in, Item, tail_of, IsItem}
+use Rattle.counted_runs.specs.Items.{Problem, item_arity, Item, tail_of, IsItem}
 use Rattle.counted_runs.specs.Runs.{EntryOf, IsEntry, run_length, HasFinished, HasStopped}
 use Rattle.counted_runs.specs.FullRuns.{HasItem, HasLeadingTree, IsLastLead}
 use Rattle.counted_runs.specs.Calls.{completing, call_of, CountsStoppedCompletion}
@@ -91,7 +91,7 @@ module _ (d : Problem) (N m : ℕ) (lower new : List Element) (done : List Job) 
         go (inl i) = a.fresh k (inr mk) i
         go (inr e) = once.0 (subst (λ i. Mem i (map item_of left)) (sym e) (mem_map item_of k left mk))
 
-    no_tails_next : (t : Tree ℕ) → IsShuffleTree (arity_in d) (suc m) t → HasItem (a.run ++ (x ∷ [])) (tail_of t) → ⊥
+    no_tails_next : (t : Tree ℕ) → IsShuffleTree (item_arity d) (suc m) t → HasItem (a.run ++ (x ∷ [])) (tail_of t) → ⊥
     no_tails_next t v h = go ((law.items x (tail_of t)).0 h)
       where
         go : HasItem a.run (tail_of t) ⊎ (item_of j ≡ tail_of t) → ⊥
@@ -183,7 +183,7 @@ module _ (d : Problem) (N : ℕ) (given : IsGiven d) (l : List Element) (tasks :
       (AllTerms-imp (λ t. IsShuffleTree over.arity g.arity t × IsLess over t g.lead) (λ t. t ≡ g.lead → ⊥) g.tail
       (λ t h e. not_less over given.order u.certified.monic g.arity t g.lead h.1 e) monic.tail_valid))
 
-  there : Alike d.presentation.q (coef tree_discrete f g.lead) 0 → ⊥
+  there : IsCongruent d.presentation.q (coef tree_discrete f g.lead) 0 → ⊥
   there z = inverse_not_zero d.presentation.q multiple.factor multiple.inverse given.positive multiple.inverts
       (let e : multiple.factor ≡ multiple.factor * 1 = omega arith in
       ap (λ k. k % suc d.presentation.q) (e ∙ ap (λ k. multiple.factor * k) (sym coef_lead) ∙ sym (coef-scale tree_discrete multiple.factor (terms g) g.lead)) ∙ sym (multiple.is g.lead) ∙ z)
@@ -195,7 +195,7 @@ module _ (d : Problem) (N : ℕ) (given : IsGiven d) (l : List Element) (tasks :
         (λ v h e. not_less over given.order u.certified.monic g.arity v t (given.order.transitive v g.lead t h.1 less) e) monic.tail_valid,
   )
 
-  above : (t : Tree ℕ) → IsLess over g.lead t → Alike d.presentation.q (coef tree_discrete f t) 0
+  above : (t : Tree ℕ) → IsLess over g.lead t → IsCongruent d.presentation.q (coef tree_discrete f t) 0
   above t less =
       let z : multiple.factor * coef tree_discrete (terms g) t ≡ 0 = (let e : multiple.factor * 0 ≡ 0 = omega arith in ap (λ k. multiple.factor * k) (greater t less) ∙ e) in
       multiple.is t ∙ ap (λ k. k % suc d.presentation.q) (coef-scale tree_discrete multiple.factor (terms g) t ∙ z)
@@ -205,7 +205,7 @@ module _ (d : Problem) (N : ℕ) (given : IsGiven d) (l : List Element) (tasks :
     where
       own : IsLastLead x g.lead
       own = record {
-        valid = subst (λ k. IsShuffleTree (arity_in d) k g.lead) (sym n) monic.lead_valid;
+        valid = subst (λ k. IsShuffleTree (item_arity d) k g.lead) (sym n) monic.lead_valid;
         leads = subst (λ k. IsLeadingTree (setting d.presentation d.compare []) x.arity k g.lead) (sym e) (record { there = there; above = λ t v less. above t less });
       }
 

@@ -16,7 +16,7 @@ use Rattle.shuffle_transfer.specs.Orderings.{IsOrdering}
 use Rattle.shuffle_completion.specs.ReducedBases.{IsReducedBasis}
 use Rattle.counted_runs.specs.Items.{Problem, Purpose, completion, Item, relabelling, two_places, tail_of, question, traced, IsItem}
 use Rattle.counted_runs.specs.Rows.{SameSum, AreIdealElements, IsSElement}
-use Rattle.counted_runs.specs.Runs.{AtLast, EntryOf, HasFinished, HasStopped, IsEntry, IsRun, IsFinishedRun, IsStoppedRun}
+use Rattle.counted_runs.specs.Runs.{AtLast, EntryOf, HasFinished, HasStopped, IsEntry, IsCountedRun, IsFinishedRun, IsStoppedRun}
 use Rattle.counted_runs.specs.FullRuns.{IsRelationOrPair, IsQuestionOrTrace, HasLeadingTree, HoldsElement, HasItem, IsLastLead, KeepsLead, IsPairEntry, HasPair, IsFullRun}
 use Rattle.counted_runs.specs.Calls.{completing, call_of, IsMadeOf}
 use Rattle.counted_runs.specs.RunLaws.{HaveNoCommonItem}
@@ -68,7 +68,7 @@ module _ (d : Problem) (N : ℕ) where
   apart_from : (run : List E) (x : E) → (HasItem run x.item → ⊥) → HaveNoCommonItem run (x ∷ [])
   apart_from run x f y z m n e = f (y, m, e ∙ ap (λ (w : E). w.item) (alone x z n))
 
-  one_run : (x : E) → IsEntry d N x → IsRun d N (x ∷ [])
+  one_run : (x : E) → IsEntry d N x → IsCountedRun d N (x ∷ [])
   one_run x h = record { entries = λ y m. subst (IsEntry d N) (sym (alone x y m)) h; once = (λ m. m, tt); finished = tt }
 
   one_finished : (x : E) → IsEntry d N x → HasFinished x → IsFinishedRun d N (x ∷ [])

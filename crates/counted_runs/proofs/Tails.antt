@@ -15,11 +15,11 @@ use Rattle.shuffle_reductions.proofs.SElements.{members_in_order}
 use Rattle.shuffle_reductions.proofs.Laws.{elements_extend_themselves}
 use Rattle.operad_ideals.specs.Presentations.{Relation}
 use Rattle.shuffle_transfer.specs.Orderings.{IsOrdering, orderings}
-use Rattle.shuffle_transfer.specs.Certified.{setting}
+use Rattle.shuffle_transfer.specs.GroebnerBases.{setting}
 use Rattle.shuffle_transfer.proofs.Orderings.{all_orderings}
 use Rattle.shuffle_completion.specs.Completion.{multiple, AreAll}
 use Rattle.shuffle_completion.proofs.Ideals.{span_in_ideal}
-use Rattle.counted_runs.specs.Items.{Problem, arity_in, completion, Item, relabelling, two_places, tail_of}
+use Rattle.counted_runs.specs.Items.{Problem, item_arity, completion, Item, relabelling, two_places, tail_of}
 use Rattle.counted_runs.specs.Rows.{AreIdealElements}
 use Rattle.counted_runs.specs.Runs.{EntryOf, IsEntry}
 use Rattle.counted_runs.specs.FullRuns.{HasItem, HasLeadingTree}
@@ -127,10 +127,10 @@ tails_begin d N m given lower new done spent a pending once each is = record {
     stands g (inl k) = let l = a.low g k in inl (omega (arith, l))
     stands g (inr k) = inr (a.high g k, each g k)
 
-    valid : (t : Tree ℕ) → Mem t pending → IsShuffleTree (arity_in d) (suc m) t
+    valid : (t : Tree ℕ) → Mem t pending → IsShuffleTree (item_arity d) (suc m) t
     valid t mt =
         let k = is t mt in
-        subst (IsShuffleTree (arity_in d) (suc m)) k.2 (subst (λ i. IsShuffleTree (arity_in d) i k.0.lead) (a.high k.0 k.1)
+        subst (IsShuffleTree (item_arity d) (suc m)) k.2 (subst (λ i. IsShuffleTree (item_arity d) i k.0.lead) (a.high k.0 k.1)
         (a.underway.certified.monic.each k.0 (mem_right k.0 lower new k.1)).lead_valid)
 
 -- ---- a tail is reduced

@@ -26,9 +26,9 @@ use Rattle.operad_ideals.specs.Parts.{skew}
 use Rattle.operad_ideals.specs.Presentations.{Relation, Presentation, arity_of, IsWide, IsSound, IsProper}
 use Rattle.shuffle_transfer.specs.Labels.{labels, inputs_of, word_discrete, same_cons, letter_discrete, same_letter}
 use Rattle.shuffle_transfer.specs.Transfer.{relabelled, shuffled}
-use Rattle.shuffle_transfer.specs.Certified.{setting}
+use Rattle.shuffle_transfer.specs.GroebnerBases.{setting}
 use Rattle.shuffle_transfer.specs.NormalTrees.{by_path, compare}
-use Rattle.shuffle_transfer.proofs.Forth.{back_labelled}
+use Rattle.shuffle_transfer.proofs.ShuffleFormsFit.{back_labelled}
 use Rattle.shuffle_transfer.proofs.Labels.{are_labels}
 use Rattle.shuffle_transfer.proofs.NormalTrees.{order_of}
 use Rattle.shuffle_completion.specs.Completion.{IsMultipleOf}

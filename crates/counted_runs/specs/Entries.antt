@@ -12,10 +12,10 @@ use Rattle.operad_ideals.specs.Presentations.{Relation}
 use Rattle.shuffle_transfer.specs.Orderings.{IsOrdering}
 use Rattle.shuffle_transfer.specs.Labels.{symmetric_tree}
 use Rattle.shuffle_transfer.specs.Transfer.{relabelled, shuffled}
-use Rattle.shuffle_transfer.specs.Certified.{setting}
+use Rattle.shuffle_transfer.specs.GroebnerBases.{setting}
 use Rattle.shuffle_completion.specs.ReducedBases.{IsReducedBasis}
 use Rattle.action_characters.specs.CycleTypes.{IsCycleType, type_permutation}
-use Rattle.counted_runs.specs.Items.{Question, Problem, arity_in, Purpose, relabelling, two_places, tail_of, question, traced}
+use Rattle.counted_runs.specs.Items.{Question, Problem, item_arity, Purpose, relabelling, two_places, tail_of, question, traced}
 use Rattle.counted_runs.specs.Rows.{SameSum, AreIdealElements}
 use Rattle.counted_runs.specs.Runs.{EntryOf, IsEntry}
 
@@ -43,7 +43,7 @@ module _ (d : Problem) (N : ℕ) where
     -- a question
     pub asked : (k : ℕ) (e : Question) → x.item ≡ question k → Nth k d.questions e → e.arity ≡ n → SameSum d.presentation x.row (shuffled d.presentation e.terms) → IsEntry d N x
     -- a cycle type with a tree
-    pub traces : (c : List ℕ) (t : Tree ℕ) → x.item ≡ traced c t → d.traces ≡ true → IsReducedBasis d.presentation d.compare x.elements N → IsCycleType n c → IsShuffleTree (arity_in d) n t
+    pub traces : (c : List ℕ) (t : Tree ℕ) → x.item ≡ traced c t → d.traces ≡ true → IsReducedBasis d.presentation d.compare x.elements N → IsCycleType n c → IsShuffleTree (item_arity d) n t
         → SameSum d.presentation x.row (shuffled d.presentation (relabelled (type_permutation c) ((1, symmetric_tree d.presentation.generators t) ∷ []))) → IsEntry d N x
 
 -- That holds of each chain over monic elements of the ideal.

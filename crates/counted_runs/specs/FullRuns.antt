@@ -12,7 +12,7 @@ use Rattle.shuffle_normal_forms.specs.NormalForms.{IsLeadingTree}
 use Rattle.operad_ideals.specs.Presentations.{Relation, Presentation}
 use Rattle.shuffle_transfer.specs.Orderings.{IsOrdering}
 use Rattle.shuffle_transfer.specs.Labels.{inputs_of}
-use Rattle.shuffle_transfer.specs.Certified.{setting}
+use Rattle.shuffle_transfer.specs.GroebnerBases.{setting}
 use Rattle.shuffle_completion.specs.ReducedBases.{IsReducedBasis}
 use Rattle.counted_runs.specs.Items.{Problem, Purpose, Item, relabelling, two_places, tail_of, question, traced}
 use Rattle.counted_runs.specs.Rows.{SameSum, IsSElement}

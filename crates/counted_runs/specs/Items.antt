@@ -27,8 +27,8 @@ pub record Problem : Type 0 where
   pub traces : Bool
 
 -- the arity of each label of a problem
-abbrev pub arity_in : Problem → ℕ → ℕ
-arity_in d = inputs_of d.presentation.generators
+abbrev pub item_arity : Problem → ℕ → ℕ
+item_arity d = inputs_of d.presentation.generators
 
 -- The trees of each question are labelled by 1 to its arity.
 abbrev pub AsksElements : Problem → Type 0
@@ -52,7 +52,7 @@ pub data Item : Type 0 where
 -- The items of arity n of a problem.
 abbrev pub IsItem : Problem → ℕ → Item → Type 0
 IsItem d n (relabelling z k w) = (r : Relation) × Nth k d.presentation.relations r × (r.arity ≡ n) × (is_empty r.terms ≡ false) × IsOrdering n w
-IsItem d n (two_places z t first second) = IsShuffleTree (arity_in d) n t × IsConnected t first × IsConnected t second
-IsItem d n (tail_of t) = IsShuffleTree (arity_in d) n t
+IsItem d n (two_places z t first second) = IsShuffleTree (item_arity d) n t × IsConnected t first × IsConnected t second
+IsItem d n (tail_of t) = IsShuffleTree (item_arity d) n t
 IsItem d n (question k) = (e : Question) × Nth k d.questions e × (e.arity ≡ n)
-IsItem d n (traced c t) = (d.traces ≡ true) × IsCycleType n c × IsShuffleTree (arity_in d) n t
+IsItem d n (traced c t) = (d.traces ≡ true) × IsCycleType n c × IsShuffleTree (item_arity d) n t

@@ -8,7 +8,7 @@ use Rattle.shuffle_bases.specs.Elements.{Element}
 use Rattle.shuffle_normal_forms.specs.FreeTrees.{is_empty}
 use Rattle.operad_ideals.specs.Presentations.{Relation, Presentation}
 use Rattle.shuffle_transfer.specs.Orderings.{orderings}
-use Rattle.shuffle_completion.specs.Completion.{Task, relation, multiple, sum_of}
+use Rattle.shuffle_completion.specs.Completion.{Task, relation, multiple, task_sum}
 use Rattle.counted_runs.specs.Items.{completion, Item, relabelling, two_places}
 
 -- A job of the completion: a relation, with its number, relabelled by a permutation; or two elements with a small common multiple
@@ -29,7 +29,7 @@ item_of (combine g h t first second) = two_places completion t first second
 
 -- the sum that it reduces
 abbrev pub row_of : Presentation → Job → List (ℕ × Tree ℕ)
-row_of p j = sum_of p (task_of j)
+row_of p j = task_sum p (task_of j)
 
 -- It is a job of arity n, where these are the elements of lower arity.
 abbrev pub IsJob : Presentation → List Element → ℕ → Job → Type 0

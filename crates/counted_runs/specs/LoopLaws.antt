@@ -5,7 +5,7 @@ use Rattle.modular_sums.specs.Lists.{Mem, Distinct}
 use Rattle.labelled_trees.specs.Trees.{Tree}
 use Rattle.shuffle_bases.specs.Elements.{Element, IsMonic}
 use Rattle.shuffle_reductions.specs.Chains.{HasNoZeros}
-use Rattle.shuffle_transfer.specs.Certified.{setting}
+use Rattle.shuffle_transfer.specs.GroebnerBases.{setting}
 use Rattle.shuffle_completion.specs.Completion.{IsMultipleOf}
 use Rattle.counted_runs.specs.Items.{Problem}
 use Rattle.counted_runs.specs.Calls.{CountsStoppedCompletion, CountsFullRun}

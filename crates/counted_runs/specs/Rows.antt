@@ -10,7 +10,7 @@ use Rattle.shuffle_bases.specs.Elements.{Element, terms, IsMonic, AreMonic, s_el
 use Rattle.operad_ideals.specs.Presentations.{Relation, Presentation}
 use Rattle.shuffle_transfer.specs.Labels.{symmetric_tree}
 use Rattle.shuffle_transfer.specs.Transfer.{relabelled, shuffled, IsSumOfInsertions}
-use Rattle.shuffle_transfer.specs.Certified.{setting}
+use Rattle.shuffle_transfer.specs.GroebnerBases.{setting}
 use Rattle.action_characters.specs.CycleTypes.{type_permutation}
 use Rattle.counted_runs.specs.Items.{Question, Problem, Item, relabelling, two_places, tail_of, question, traced}
 

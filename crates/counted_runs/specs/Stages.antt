@@ -11,9 +11,9 @@ use Rattle.shuffle_normal_forms.specs.FreeTrees.{is_empty}
 use Rattle.shuffle_reductions.specs.Extensions.{Extends}
 use Rattle.operad_ideals.specs.Presentations.{Relation, IsSound, IsWide, IsProper}
 use Rattle.shuffle_transfer.specs.Orderings.{IsOrdering}
-use Rattle.shuffle_transfer.specs.Certified.{setting}
+use Rattle.shuffle_transfer.specs.GroebnerBases.{setting}
 use Rattle.shuffle_completion.specs.Completion.{Task, IsCompletedThrough, IsUnderway, AreAll, IsTailReduced}
-use Rattle.counted_runs.specs.Items.{Problem, arity_in, completion, relabelling, two_places, tail_of}
+use Rattle.counted_runs.specs.Items.{Problem, item_arity, completion, relabelling, two_places, tail_of}
 use Rattle.counted_runs.specs.Runs.{EntryOf, run_length}
 use Rattle.counted_runs.specs.FullRuns.{HasItem}
 use Rattle.counted_runs.specs.RunsSoFar.{IsRunSoFar}
@@ -26,7 +26,7 @@ pub record IsGiven (d : Problem) : Type 0 where
   pub wide : IsWide d.presentation
   pub proper : IsProper d.presentation
   pub positive : 0 < d.presentation.q
-  pub order : IsTreeOrder (arity_in d) d.compare
+  pub order : IsTreeOrder (item_arity d) d.compare
 
 -- Each relation with terms of arity at most m is an item with each permutation, and each small common multiple of arity at most m of
 -- two elements of lower arity, in one of their two orders.
@@ -71,7 +71,7 @@ module _ (d : Problem) (N : ℕ) where
     pub before : HasAll d m (lower ++ new) run
     pub items : (j : Job) → Mem j done → HasItem run (item_of j)
     pub fresh : (j : Job) → Mem j left → HasItem run (item_of j) → ⊥
-    pub no_tails : (t : Tree ℕ) → IsShuffleTree (arity_in d) (suc m) t → HasItem run (tail_of t) → ⊥
+    pub no_tails : (t : Tree ℕ) → IsShuffleTree (item_arity d) (suc m) t → HasItem run (tail_of t) → ⊥
     pub counted : spent ≡ run_length run
 
   -- The completion is at the tails of arity m + 1: of the elements those with pending leading trees still have their tails, the others
@@ -86,7 +86,7 @@ module _ (d : Problem) (N : ℕ) where
     pub becoming : AreBecoming (setting d.presentation d.compare elements) (suc m) pending elements now
     pub leads_once : Distinct (map (λ g. g.lead) now)
     pub once : Distinct pending
-    pub valid : (t : Tree ℕ) → Mem t pending → IsShuffleTree (arity_in d) (suc m) t
+    pub valid : (t : Tree ℕ) → Mem t pending → IsShuffleTree (item_arity d) (suc m) t
     pub run : List (EntryOf d)
     pub so_far : IsRunSoFar d N (suc m) now run
     pub all : HasAll d (suc m) now run

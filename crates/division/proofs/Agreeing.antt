@@ -8,7 +8,7 @@ use Rattle.std.specs.Ordering.{nat_cmp}
 use Rattle.std.specs.Cmp.{nat_cmp_is}
 use Rattle.modular_sums.specs.Sums.{AllTerms, moved}
 use Rattle.labelled_trees.specs.Trees.{Tree}
-use Rattle.modular_sums.specs.Falling.{IsAbove, Falls, HaveResidues}
+use Rattle.modular_sums.specs.Falling.{IsAbove, Falls, AreNonzeroResidues}
 use Rattle.division.specs.Laws.{trees_in}
 use Rattle.division.specs.Given.{numbers_in}
 
@@ -37,7 +37,7 @@ agreeing_length f t [] (p ∷ ps) e = absurd (cc e)
 agreeing_length f t (x ∷ l) [] e = absurd (cc e)
 agreeing_length f t (x ∷ l) (p ∷ ps) e = let rest : map f (trees_in l) ≡ map t ps = cc e in ap suc (agreeing_length f t l ps rest)
 
-pub agreeing_residues : (q : ℕ) (l : List (ℕ × Tree ℕ)) (ps : List ℕ) → HaveResidues q l → HaveResidues q (zip (numbers_in l) ps)
+pub agreeing_residues : (q : ℕ) (l : List (ℕ × Tree ℕ)) (ps : List ℕ) → AreNonzeroResidues q l → AreNonzeroResidues q (zip (numbers_in l) ps)
 agreeing_residues q [] ps h = tt
 agreeing_residues q (x ∷ l) [] h = tt
 agreeing_residues q (x ∷ l) (p ∷ ps) h = (h.0, h.1, agreeing_residues q l ps h.2)

@@ -11,7 +11,7 @@ use Rattle.division.specs.declared.reducer.Reducer.{Reducer}
 use Rattle.division.specs.Insertions.{Grows}
 use Rattle.division.specs.Dividers.{AreReducers, AreDividers}
 use Rattle.division.specs.Gathered.{AreGathered, AllOver, ArePlaces}
-use Rattle.division.specs.Laws.{IsElementOf}
+use Rattle.division.specs.Laws.{IsReducerOf}
 use Rattle.division.proofs.MadeTrees.{grown_tree, grown_ids}
 use Rattle.division.proofs.TailSteps.{reducers_later}
 use Rattle.shuffle_sums.specs.Sorting.{trees_at, AreOfOneArity, Rise}
@@ -50,7 +50,7 @@ pub record HasGathered (old new : List (Tree ℕ)) (reducers : List Reducer) (fo
 
 module _ (old new : List (Tree ℕ)) (reducers : List Reducer) (found : List (Option ℕ)) (given ids : List ℕ) (tails : List (List ℕ)) (r : HasGathered old new reducers found given ids tails)
     (compare : Tree ℕ → Tree ℕ → Ordering) (q : ℕ) (coefs : List (List ℕ)) (s : Setting) (n : ℕ) (g : CanGather compare q old reducers coefs given s n) where
-  element_later : (e : ℕ) (d : Reducer) (h : Element) → slice_get reducers e ≡ Some d → IsElementOf old d h → IsElementOf new d h
+  element_later : (e : ℕ) (d : Reducer) (h : Element) → slice_get reducers e ≡ Some d → IsReducerOf old d h → IsReducerOf new d h
   element_later e d h f i = record {
     lead_is = i.lead_is ∙ sym (grown_tree old new r.grows d.lead (r.before e d f).lead_low);
     tail_is = i.tail_is ∙ sym (grown_ids old new r.grows d.tail (r.before e d f).tail_low);

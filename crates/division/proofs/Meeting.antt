@@ -18,7 +18,7 @@ use Rattle.division.specs.declared.reducer.Reducer.{Reducer}
 use Rattle.division.specs.Insertions.{Grows}
 use Rattle.division.specs.Dividers.{IsFirstDivider, AreReducers, AreGroups, AreDividers, FoundGrows}
 use Rattle.division.specs.KeptTails.{AreKept}
-use Rattle.division.specs.Gathered.{IsStepOf, IsGatheredAt, AllOver, AreGathered, AreOver, ArePlaces, Came, Longer, StandAt, SamePlaces, IsWorking}
+use Rattle.division.specs.Gathered.{IsStepOf, IsGatheredAt, AllOver, AreGathered, AreOver, ArePlaces, CameFrom, Longer, StandAt, SamePlaces, IsWorking}
 use Rattle.division.proofs.KeptLists.{entry_pushed, entry_stays, set_here, entry_set}
 use Rattle.division.proofs.MadeTrees.{grows_same, grows_both, grown_tree, grows_length}
 use Rattle.division.proofs.TailSteps.{told_later, inserted_later, reducers_later, dividers_later}
@@ -87,10 +87,10 @@ All-front P xs x h = λ n d lt. subst P (get_or_append_left xs (x ∷ []) d n lt
 
 -- ---- entries that came
 
-pub came_same : (ids tail : List ℕ) → Came ids ids tail
+pub came_same : (ids tail : List ℕ) → CameFrom ids ids tail
 came_same ids tail = λ p x e. inl e
 
-pub came_pushed : (ids : List ℕ) (id : ℕ) → Came ids (ids ++ (id ∷ [])) (id ∷ [])
+pub came_pushed : (ids : List ℕ) (id : ℕ) → CameFrom ids (ids ++ (id ∷ [])) (id ∷ [])
 came_pushed ids id = λ p x e. by p x (entry_pushed ids id p x e)
   where
     by : (p x : ℕ) → (slice_get ids p ≡ Some x) ⊎ ((p ≡ length ids) × (id ≡ x)) → (slice_get ids p ≡ Some x) ⊎ ((k : ℕ) × (slice_get (id ∷ []) k ≡ Some x))
@@ -107,14 +107,14 @@ lone : (x j y : ℕ) → slice_get (x ∷ []) j ≡ Some y → x ≡ y
 lone x zero y e = cc e
 lone x (suc j) y e = absurd (cc e)
 
-pub came_taken : (old new : List ℕ) (k : ℕ) (tail : List ℕ) → Came old new (take k tail) → Came old new tail
+pub came_taken : (old new : List ℕ) (k : ℕ) (tail : List ℕ) → CameFrom old new (take k tail) → CameFrom old new tail
 came_taken old new k tail h = λ p x e. by p x (h p x e)
   where
     by : (p x : ℕ) → (slice_get old p ≡ Some x) ⊎ ((j : ℕ) × (slice_get (take k tail) j ≡ Some x)) → (slice_get old p ≡ Some x) ⊎ ((j : ℕ) × (slice_get tail j ≡ Some x))
     by p x (inl e) = inl e
     by p x (inr e) = inr (e.0, take_entry k tail e.0 x e.1)
 
-came_more : (old ids later : List ℕ) (k x : ℕ) (tail : List ℕ) → Came old ids (take k tail) → Came ids later (x ∷ []) → k < length tail → x ≡ get_or tail k x → Came old later (take (k + 1) tail)
+came_more : (old ids later : List ℕ) (k x : ℕ) (tail : List ℕ) → CameFrom old ids (take k tail) → CameFrom ids later (x ∷ []) → k < length tail → x ≡ get_or tail k x → CameFrom old later (take (k + 1) tail)
 came_more old ids later k x tail h g lt is = λ p y e. by p y (g p y e)
   where
     next : (take k tail) ++ (x ∷ []) ≡ take (k + 1) tail
@@ -128,7 +128,7 @@ came_more old ids later k x tail h g lt is = λ p y e. by p y (g p y e)
     by p y (inl e) = old_one p y (h p y e)
     by p y (inr e) = inr (length (take k tail), subst (λ l. slice_get l (length (take k tail)) ≡ Some y) next (last_entry (take k tail) x ∙ ap Some (lone x e.0 y e.1)))
 
-pub came_last : (old ids later : List ℕ) (k x : ℕ) (tail : List ℕ) → Came old ids (take k tail) → Came ids later (x ∷ []) → k < length tail → x ≡ get_or tail k x → Came old later tail
+pub came_last : (old ids later : List ℕ) (k x : ℕ) (tail : List ℕ) → CameFrom old ids (take k tail) → CameFrom ids later (x ∷ []) → k < length tail → x ≡ get_or tail k x → CameFrom old later tail
 came_last old ids later k x tail h g lt is = came_taken old later (k + 1) tail (came_more old ids later k x tail h g lt is)
 
 -- What holds on the way: these were met.
@@ -137,7 +137,7 @@ pub record IsMeeting (old : List ℕ) (places : List (Option ℕ)) (ids found do
   pub longer : Longer old ids
   pub there : StandAt ids found done
   pub held : (n : ℕ) → All (λ i. i < n) old → All (λ i. i < n) done → All (λ i. i < n) ids
-  pub only : Came old ids done
+  pub only : CameFrom old ids done
 
 pub meeting_none : (places : List (Option ℕ)) (ids : List ℕ) → ArePlaces places ids → IsMeeting ids places ids [] []
 meeting_none places ids h = record { are_places = h; longer = ([], sym (append-nil ids)); there = refl; held = λ n a b. a; only = came_same ids [] }
@@ -146,7 +146,7 @@ pub longer_both : (a b c : List ℕ) → Longer a b → Longer b c → Longer a 
 longer_both a b c h g = (h.0 ++ g.0, g.1 ∙ ap (λ l. l ++ g.0) h.1 ∙ append_assoc a h.0 g.0)
 
 pub meeting_more : (old : List ℕ) (before places : List (Option ℕ)) (ids later found tail : List ℕ) (k x p : ℕ) → IsMeeting old before ids found (take k tail) → k < length tail → x ≡ get_or tail k x
-    → ArePlaces places later → Longer ids later → slice_get later p ≡ Some x → ((n : ℕ) → All (λ i. i < n) ids → x < n → All (λ i. i < n) later) → Came ids later (x ∷ [])
+    → ArePlaces places later → Longer ids later → slice_get later p ≡ Some x → ((n : ℕ) → All (λ i. i < n) ids → x < n → All (λ i. i < n) later) → CameFrom ids later (x ∷ [])
     → IsMeeting old places later (found ++ (p ∷ [])) (take (k + 1) tail)
 meeting_more old before places ids later found tail k x p h lt is hp hl e hh hc = record {
   only = came_more old ids later k x tail h.only hc lt is;
@@ -265,7 +265,7 @@ module _ (trees later : List (Tree ℕ)) (reducers : List Reducer) (ids ids' giv
   given_before : (arity : ℕ → ℕ) (n : ℕ) → AllOver arity n later given → AllOver arity n trees given
   given_before arity n b = λ p i e. subst (IsShuffleTree arity n) (grown_tree trees later grows i (held_entry (length trees) ids held p i (longer_stays given ids longer p i e))) (b p i e)
 
-  over_later : (tail : List ℕ) → Came ids ids' tail → ((arity : ℕ → ℕ) (n : ℕ) → AreOver arity trees reducers → AllOver arity n trees given → AllOver arity n trees ids) → (x : ℕ) (found' : List (Option ℕ))
+  over_later : (tail : List ℕ) → CameFrom ids ids' tail → ((arity : ℕ → ℕ) (n : ℕ) → AreOver arity trees reducers → AllOver arity n trees given → AllOver arity n trees ids) → (x : ℕ) (found' : List (Option ℕ))
       → IsStepOf later reducers found' x tail → (at : ℕ) → slice_get ids at ≡ Some x → AreReducers later reducers
       → (arity : ℕ → ℕ) (n : ℕ) → AreOver arity later reducers → AllOver arity n later given → AllOver arity n later ids'
   over_later tail came h x found' s at stands hl arity n a b = λ p i e. by p i (came p i e)
@@ -319,7 +319,7 @@ module _ (first trees later : List (Tree ℕ)) (reducers : List Reducer) (groups
       let same : get_or ids p id ≡ id = cc (l, e) in s ∙ ap Some same
 
   pub gathering_more : (x : ℕ) (tail at : List ℕ) (now : List (List ℕ)) → length tails < length ids → slice_get ids (length tails) ≡ Some x → now ≡ tails ++ (at ∷ []) → IsStepOf later reducers found' x tail → StandAt ids' at tail
-      → All (λ i. i < length later) ids' → Came ids ids' tail → IsGathering first later reducers groups start found' kept' places' given ids' now
+      → All (λ i. i < length later) ids' → CameFrom ids ids' tail → IsGathering first later reducers groups start found' kept' places' given ids' now
   gathering_more x tail at now lt stands e s there held came = subst (IsGathering first later reducers groups start found' kept' places' given ids') (sym e) record {
     grows = grows_both first trees later h.grows grows;
     found_grows = λ i o e. fg i o (h.found_grows i o e);

@@ -37,7 +37,7 @@ use Rattle.division.proofs.Elements.{free_told}
 use Rattle.shuffle_sums.specs.Sorting.{trees_at, Rise}
 use Rattle.shuffle_sums.proofs.RisingBlocks.{position_within}
 use Rattle.shuffle_reductions.specs.Swept.{tree_in, IsRuleOf, IsTableOver}
-use Rattle.division.specs.Given.{numbers_in, AreGiven, IsFit}
+use Rattle.division.specs.Given.{numbers_in, AreGiven, IsFitSetting}
 use Rattle.division.specs.Ranks.{tail_at, AreRanks, AreRules, CanRule}
 use Rattle.division.proofs.Agreeing.{agreeing_moved, agreeing_length, agreeing_residues, agreeing_falls, agreeing_below, all_cons, below_all}
 
@@ -82,7 +82,7 @@ stand_low ids (j ∷ places) (x ∷ tail) e =
     all_cons (length ids) j places (slice_get_within ids j x here) (stand_low ids places tail rest)
 
 -- the elements belong to the labels
-pub elements_over : (trees : List (Tree ℕ)) (reducers : List Reducer) (coefs : List (List ℕ)) (s : Setting) → IsFit s → AreGiven trees reducers coefs s → AreOver s.arity trees reducers
+pub elements_over : (trees : List (Tree ℕ)) (reducers : List Reducer) (coefs : List (List ℕ)) (s : Setting) → IsFitSetting s → AreGiven trees reducers coefs s → AreOver s.arity trees reducers
 elements_over trees reducers coefs s fit are e r q =
     let a = are.only e r q in
     let m = fit.monic.each a.0 a.1 in (
@@ -98,7 +98,7 @@ reversed Equal e h = cc h
 reversed Greater e h = cc h
 
 module _ (trees : List (Tree ℕ)) (reducers : List Reducer) (coefs : List (List ℕ)) (found : List (Option ℕ)) (given ids : List ℕ) (tails : List (List ℕ)) (order ranks : List ℕ)
-    (s : Setting) (n : ℕ) (fit : IsFit s) (are : AreGiven trees reducers coefs s) (hr : AreReducers trees reducers) (hd : AreDividers trees reducers found)
+    (s : Setting) (n : ℕ) (fit : IsFitSetting s) (are : AreGiven trees reducers coefs s) (hr : AreReducers trees reducers) (hd : AreDividers trees reducers found)
     (gathered : AreGathered trees reducers found given ids tails) (given_over : AllOver s.arity n trees given)
     (rise : Rise s.compare (trees_at trees ids order)) (are_ranks : AreRanks order ranks (length ids)) where
   -- each gathered tree is a shuffle tree of the arity

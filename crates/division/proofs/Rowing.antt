@@ -20,22 +20,22 @@ use Rattle.labelled_trees.specs.Trees.{Tree, leaf}
 use Rattle.shuffle_insertions.proofs.Comparing.{nat_less}
 use Rattle.shuffle_bases.specs.Elements.{Setting}
 use Rattle.shuffle_reductions.specs.Chains.{HasNoZeros, IsChain, IsFinished, IsStopped}
-use Rattle.modular_sums.specs.Falling.{IsAbove, Falls, IsFalling, HaveResidues}
-use Rattle.modular_sums.specs.PositionChains.{HasNoZeros as HasNoZerosThere, IsChain as IsChainThere, IsFinished as IsFinishedThere, IsStopped as IsStoppedThere}
+use Rattle.modular_sums.specs.Falling.{IsAbove, Falls, IsFalling, AreNonzeroResidues}
+use Rattle.modular_sums.specs.PositionChains.{HasNoZeroPositions as HasNoZerosThere, IsPositionChain as IsChainThere, HasNoRuledPosition as IsFinishedThere, HasRuledPosition as IsStoppedThere}
 use Rattle.modular_sums.specs.PositionRows.{dense}
 use Rattle.modular_sums.proofs.PositionRows.{coef-dense}
 use Rattle.modular_sums.proofs.PositionChains.{first_same}
 use Rattle.tree_store.specs.Stores.{tree_at}
-use Rattle.row_sweeps.specs.Sweeps.{LeadsTo as LeadsThere}
+use Rattle.row_sweeps.specs.Sweeps.{SweepLeadsTo as LeadsThere}
 use Rattle.row_sweeps.specs.Terms.{pairs}
 use Rattle.row_sweeps.specs.declared.row.Term.{Term}
 use Rattle.shuffle_sums.specs.Sums.{pairs as ids_of}
 use Rattle.shuffle_sums.specs.declared.sum.Term.{Term as IdTerm}
-use Rattle.shuffle_reductions.specs.Swept.{tree_in, over, RisesBy}
+use Rattle.shuffle_reductions.specs.Swept.{tree_in, on_trees, RisesBy}
 use Rattle.shuffle_reductions.specs.SweepLaws.{SweptLaw}
 use Rattle.shuffle_reductions.proofs.SweptThrough.{swept}
 use Rattle.division.specs.Cones.{trees_of, IsCone, IsConeOver}
-use Rattle.division.specs.Rows.{id_at, LeadsTo, StandsFor}
+use Rattle.division.specs.Rows.{id_at, LeadsTo, IsSumAtPlaces}
 use Rattle.division.specs.declared.cones.Cone.{Cone}
 
 -- ---- positions and ids
@@ -53,15 +53,15 @@ module _ (given : List ℕ) (cone : Cone) (c : IsCone given cone) where
       let lt = slice_get_within cone.ids k id e in
       (c.ranks.within k lt, ap (slice_index cone.ids) (c.ranks.back k lt) ∙ get_or_from_slice_get cone.ids k id 0 e)
 
-falls_over : (s : Setting) (t : List (Tree ℕ)) (n : ℕ) → length t ≡ n → RisesBy s t → (l : List (ℕ × ℕ)) → AllTerms l (λ p. p < n) → Falls nat_cmp l → Falls s.compare (over t l)
+falls_over : (s : Setting) (t : List (Tree ℕ)) (n : ℕ) → length t ≡ n → RisesBy s t → (l : List (ℕ × ℕ)) → AllTerms l (λ p. p < n) → Falls nat_cmp l → Falls s.compare (on_trees t l)
 falls_over s t n size r [] w h = tt
 falls_over s t n size r (x ∷ l) w h = (above l w.1 h.0, falls_over s t n size r l w.1 h.1)
   where
-    above : (l : List (ℕ × ℕ)) → AllTerms l (λ p. p < n) → IsAbove nat_cmp x.1 l → IsAbove s.compare (tree_in t x.1) (over t l)
+    above : (l : List (ℕ × ℕ)) → AllTerms l (λ p. p < n) → IsAbove nat_cmp x.1 l → IsAbove s.compare (tree_in t x.1) (on_trees t l)
     above [] u h = tt
     above (y ∷ l) u h = r y.1 x.1 (nat_less y.1 x.1 h) (let lt = w.0 in omega (arith, lt, size))
 
-residues_over : (q : ℕ) (t : List (Tree ℕ)) (l : List (ℕ × ℕ)) → HaveResidues q l → HaveResidues q (over t l)
+residues_over : (q : ℕ) (t : List (Tree ℕ)) (l : List (ℕ × ℕ)) → AreNonzeroResidues q l → AreNonzeroResidues q (on_trees t l)
 residues_over q t [] h = tt
 residues_over q t (x ∷ l) h = (h.0, h.1, residues_over q t l h.2)
 
@@ -77,7 +77,7 @@ module _ (given : List ℕ) (cone : Cone) (c : IsCone given cone) (s : Setting) 
   at : (p : ℕ) → p < length cone.ids → tree_in there p ≡ tree_at trees (id_at cone p)
   at p lt = get_or-map (λ k. tree_at trees (slice_index cone.ids k)) cone.order.items p 0 (leaf 0) (let l = order_length given cone c in omega (arith, l, lt))
 
-  over_ids : (e : List (ℕ × ℕ)) → AllTerms e (λ p. p < length cone.ids) → over there e ≡ moved (tree_at trees) (moved (id_at cone) e)
+  over_ids : (e : List (ℕ × ℕ)) → AllTerms e (λ p. p < length cone.ids) → on_trees there e ≡ moved (tree_at trees) (moved (id_at cone) e)
   over_ids e w = moved_eq (tree_in there) (λ p. tree_at trees (id_at cone p)) (λ p. p < length cone.ids) e w at ∙ sym (moved-moved (id_at cone) (tree_at trees) e)
 
   in_trees : (e : List (ℕ × ℕ)) → AllTerms e (λ p. p < length cone.ids) → AllTerms e (λ p. p < length there)
@@ -86,7 +86,7 @@ module _ (given : List ℕ) (cone : Cone) (c : IsCone given cone) (s : Setting) 
   law : SweptLaw s n there h.insertions cone.table.rules
   law = swept s h.order n there h.insertions cone.table.rules h.table
 
-  module _ (sum placed : List (ℕ × ℕ)) (stands : StandsFor cone sum placed) (row : List ℕ) (filled : (t : ℕ) → slice_index row t ≡ coef ℕ_discrete placed t)
+  module _ (sum placed : List (ℕ × ℕ)) (stands : IsSumAtPlaces cone sum placed) (row : List ℕ) (filled : (t : ℕ) → slice_index row t ≡ coef ℕ_discrete placed t)
       (rest : List (ℕ × ℕ)) (before after : ℕ) (keep : Bool) (log now : List (ℕ × ℕ)) (l : LeadsThere cone.table.q cone.table.rules (dense row) rest before after keep log now) where
     pub rest_within : AllTerms rest (λ p. p < length cone.ids)
     rest_within = subst (λ k. AllTerms rest (λ p. p < k)) c.sized l.within
@@ -98,17 +98,17 @@ module _ (given : List ℕ) (cone : Cone) (c : IsCone given cone) (s : Setting) 
     leads ids e =
         let chain = first_same s.q cone.table.rules l.steps placed (dense row) rest same_row (subst (λ q. IsChainThere q cone.table.rules (dense row) l.steps rest) h.prime l.chain) in
         let through = law.chain placed l.steps rest (in_trees placed stands.within) chain in
-        let first : over there placed ≡ moved (tree_at trees) sum = over_ids placed stands.within ∙ ap (moved (tree_at trees)) stands.same in
-        let last : over there rest ≡ moved (tree_at trees) ids = over_ids rest rest_within ∙ ap (moved (tree_at trees)) (sym e) in
+        let first : on_trees there placed ≡ moved (tree_at trees) sum = over_ids placed stands.within ∙ ap (moved (tree_at trees)) stands.same in
+        let last : on_trees there rest ≡ moved (tree_at trees) ids = over_ids rest rest_within ∙ ap (moved (tree_at trees)) (sym e) in
         record {
           steps = l.steps;
           uses = through.0;
           are_uses = through.1;
-          chain = subst (λ f. IsChain s n (moved (tree_at trees) sum) through.0 f) last (subst (λ f. IsChain s n f through.0 (over there rest)) first through.2);
+          chain = subst (λ f. IsChain s n (moved (tree_at trees) sum) through.0 f) last (subst (λ f. IsChain s n f through.0 (on_trees there rest)) first through.2);
           counted = l.counted;
           logged = l.logged;
           falls = subst (IsFalling s.compare (suc s.q)) last (record {
-            residues = residues_over (suc s.q) there rest (subst (λ q. HaveResidues (suc q) rest) h.prime l.falls.residues);
+            residues = residues_over (suc s.q) there rest (subst (λ q. AreNonzeroResidues (suc q) rest) h.prime l.falls.residues);
             falls = falls_over s there (length cone.ids) size h.table.rises rest rest_within l.falls.falls;
           });
           no_zeros = subst (HasNoZeros s.q) last (law.no_zeros rest (in_trees rest rest_within) (subst (λ q. HasNoZerosThere q rest) h.prime l.no_zeros));
@@ -116,12 +116,12 @@ module _ (given : List ℕ) (cone : Cone) (c : IsCone given cone) (s : Setting) 
 
     pub finished : (ids : List (ℕ × ℕ)) → ids ≡ moved (id_at cone) rest → IsFinishedThere cone.table.q cone.table.rules rest → IsFinished s (moved (tree_at trees) ids)
     finished ids e f =
-        let last : over there rest ≡ moved (tree_at trees) ids = over_ids rest rest_within ∙ ap (moved (tree_at trees)) (sym e) in
+        let last : on_trees there rest ≡ moved (tree_at trees) ids = over_ids rest rest_within ∙ ap (moved (tree_at trees)) (sym e) in
         subst (IsFinished s) last (law.finished rest (in_trees rest rest_within) (subst (λ q. IsFinishedThere q cone.table.rules rest) h.prime f))
 
     pub stopped : (ids : List (ℕ × ℕ)) → ids ≡ moved (id_at cone) rest → IsStoppedThere cone.table.q cone.table.rules rest → IsStopped s (moved (tree_at trees) ids)
     stopped ids e f =
-        let last : over there rest ≡ moved (tree_at trees) ids = over_ids rest rest_within ∙ ap (moved (tree_at trees)) (sym e) in
+        let last : on_trees there rest ≡ moved (tree_at trees) ids = over_ids rest rest_within ∙ ap (moved (tree_at trees)) (sym e) in
         subst (IsStopped s) last (law.stopped rest (in_trees rest rest_within) (subst (λ q. IsStoppedThere q cone.table.rules rest) h.prime f))
 
 lone_coef : (c p t : ℕ) → coef ℕ_discrete ((c, p) ∷ []) t ≡ hit (ℕ_discrete p t) c + 0
@@ -180,7 +180,7 @@ fill_more size row placed i x at number h lt is few pos low num = record {
 -- ---- terms that are placed or lifted
 
 -- the first terms stand for the first ids
-pub stands_more : (cone : Cone) (sum placed : List (ℕ × ℕ)) (c id p : ℕ) → StandsFor cone sum placed → id_at cone p ≡ id → p < length cone.ids → StandsFor cone (sum ++ ((c, id) ∷ [])) (placed ++ ((c, p) ∷ []))
+pub stands_more : (cone : Cone) (sum placed : List (ℕ × ℕ)) (c id p : ℕ) → IsSumAtPlaces cone sum placed → id_at cone p ≡ id → p < length cone.ids → IsSumAtPlaces cone (sum ++ ((c, id) ∷ [])) (placed ++ ((c, p) ∷ []))
 stands_more cone sum placed c id p h e lt = record {
   same = moved-append (id_at cone) placed ((c, p) ∷ []) ∙ ap₂ (λ l i. l ++ ((c, i) ∷ [])) h.same e;
   within = AllTerms-append placed ((c, p) ∷ []) (λ t. t < length cone.ids) h.within (lt, tt);
@@ -213,12 +213,12 @@ ids_more terms i x lt e = ap ids_of (take_more terms i x lt) ∙ map-append (λ 
 pairs_more : (terms : List Term) (i : ℕ) (x : Term) → i < length terms → x ≡ get_or terms i x → pairs (take (i + 1) terms) ≡ pairs (take i terms) ++ ((x.coef, x.position) ∷ [])
 pairs_more terms i x lt e = ap pairs (take_more terms i x lt) ∙ map-append (λ (y : Term). (y.coef, y.position)) (take i terms) (get_or terms i x ∷ []) ∙ ap (λ (y : Term). pairs (take i terms) ++ ((y.coef, y.position) ∷ [])) (sym e)
 
-pub place_step : (cone : Cone) (terms : List IdTerm) (placed now : List Term) (i : ℕ) (x : IdTerm) (r : Term) → StandsFor cone (ids_of (take i terms)) (pairs placed) → i < length terms → x ≡ get_or terms i x → now ≡ placed ++ (r ∷ [])
-    → id_at cone r.position ≡ x.tree → r.position < length cone.ids → r.coef ≡ x.coef → StandsFor cone (ids_of (take (i + 1) terms)) (pairs now)
+pub place_step : (cone : Cone) (terms : List IdTerm) (placed now : List Term) (i : ℕ) (x : IdTerm) (r : Term) → IsSumAtPlaces cone (ids_of (take i terms)) (pairs placed) → i < length terms → x ≡ get_or terms i x → now ≡ placed ++ (r ∷ [])
+    → id_at cone r.position ≡ x.tree → r.position < length cone.ids → r.coef ≡ x.coef → IsSumAtPlaces cone (ids_of (take (i + 1) terms)) (pairs now)
 place_step cone terms placed now i x r h lt e n id low same =
     let more = stands_more cone (ids_of (take i terms)) (pairs placed) x.coef x.tree r.position h id low in
     let made : pairs placed ++ ((x.coef, r.position) ∷ []) ≡ pairs now = ap (λ c. pairs placed ++ ((c, r.position) ∷ [])) (sym same) ∙ sym (map-append (λ (y : Term). (y.coef, y.position)) placed (r ∷ [])) ∙ sym (ap pairs n) in
-    subst (λ l. StandsFor cone l (pairs now)) (sym (ids_more terms i x lt e)) (subst (StandsFor cone (ids_of (take i terms) ++ ((x.coef, x.tree) ∷ []))) made more)
+    subst (λ l. IsSumAtPlaces cone l (pairs now)) (sym (ids_more terms i x lt e)) (subst (IsSumAtPlaces cone (ids_of (take i terms) ++ ((x.coef, x.tree) ∷ []))) made more)
 
 pub lift_step : (cone : Cone) (placed : List Term) (terms now : List IdTerm) (i : ℕ) (x : Term) (r : IdTerm) → ids_of terms ≡ moved (id_at cone) (pairs (take i placed)) → i < length placed → x ≡ get_or placed i x → now ≡ terms ++ (r ∷ [])
     → r.tree ≡ id_at cone x.position → r.coef ≡ x.coef → ids_of now ≡ moved (id_at cone) (pairs (take (i + 1) placed))
@@ -230,7 +230,7 @@ moved_length : (f : ℕ → ℕ) (l : List (ℕ × ℕ)) → length (moved f l) 
 moved_length f [] = refl
 moved_length f (x ∷ l) = ap suc (moved_length f l)
 
-pub stands_length : (cone : Cone) (terms : List IdTerm) (placed : List Term) → StandsFor cone (ids_of terms) (pairs placed) → length placed ≡ length terms
+pub stands_length : (cone : Cone) (terms : List IdTerm) (placed : List Term) → IsSumAtPlaces cone (ids_of terms) (pairs placed) → length placed ≡ length terms
 stands_length cone terms placed h =
     let a = length-map {B = ℕ × ℕ} placed (λ (y : Term). (y.coef, y.position)) in
     let b = length-map {B = ℕ × ℕ} terms (λ (y : IdTerm). (y.coef, y.tree)) in

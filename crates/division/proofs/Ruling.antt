@@ -11,7 +11,7 @@ use Rattle.std.specs.List.{All, range_with_len, zip}
 use Rattle.std.proofs.lemmas.List.FromFn.{length-range_with_len}
 use Rattle.std.proofs.lemmas.List.Sorted.{length_permutation}
 use Rattle.shuffle_sums.proofs.RisingBlocks.{position_within}
-use Rattle.modular_sums.specs.RuleTables.{Table, IsTail}
+use Rattle.modular_sums.specs.RuleTables.{Table, IsRuleTail}
 use Rattle.row_sweeps.specs.Rules.{Rules, unruled}
 use Rattle.row_sweeps.proofs.KeptRules.{range_grown, range_last}
 use Rattle.division.proofs.KeptLists.{entry_pushed}
@@ -120,7 +120,7 @@ module _ (q : ℕ) (coefs : List (List ℕ)) (found : List (Option ℕ)) (ids : 
 
   -- the tail of a position whose id has an element
   pub rule_tail : (e : ℕ) → slice_get found (slice_index ids (slice_index order at)) ≡ Some (Some e)
-      → (c : List ℕ) × (slice_get coefs e ≡ Some c) × (length c ≡ length (tail_at tails ranks (slice_index order at))) × IsTail q at (zip c (tail_at tails ranks (slice_index order at)))
+      → (c : List ℕ) × (slice_get coefs e ≡ Some c) × (length c ≡ length (tail_at tails ranks (slice_index order at))) × IsRuleTail q at (zip c (tail_at tails ranks (slice_index order at)))
   rule_tail e f = can.tails_are at e low f
 
   pub element_low : (stored froms : List ℕ) → AreStored stored froms coefs → (e : ℕ) → slice_get found (slice_index ids (slice_index order at)) ≡ Some (Some e) → e < length froms
@@ -136,8 +136,8 @@ module _ (q : ℕ) (coefs : List (List ℕ)) (found : List (Option ℕ)) (ids : 
     pub coefs_there : slice_range stored (slice_index froms e) (slice_index froms e + length tail) ≡ (rule_tail e f).0
     coefs_there = subst (λ k. slice_range stored (slice_index froms e) (slice_index froms e + k) ≡ (rule_tail e f).0) long (h.are e (rule_tail e f).0 (rule_tail e f).1)
 
-    pub is_tail : IsTail q at (zip (slice_range stored (slice_index froms e) (slice_index froms e + length tail)) tail)
-    is_tail = subst (IsTail q at) (ap₂ zip (sym coefs_there) (sym is)) (rule_tail e f).3
+    pub is_tail : IsRuleTail q at (zip (slice_range stored (slice_index froms e) (slice_index froms e + length tail)) tail)
+    is_tail = subst (IsRuleTail q at) (ap₂ zip (sym coefs_there) (sym is)) (rule_tail e f).3
 
     pub ruled_some : IsRuledBy coefs found ids tails order ranks at (Some (Some (zip (slice_range stored (slice_index froms e) (slice_index froms e + length tail)) tail)))
     ruled_some = record { none = λ g. absurd (cc (f, g)); some = λ d c g k. by d c g k }

@@ -11,7 +11,7 @@ use Rattle.shuffle_places.specs.RootPlaces.{DividesRoot}
 use Rattle.division.specs.declared.reducer.Reducer.{Reducer}
 use Rattle.division.specs.Insertions.{Grows, CanReplace, with_other, AreMade, AreInserted, AddsInsertion, IsReducer}
 use Rattle.division.specs.Dividers.{Divides, IsFirstDivider, AreReducers, AreDividers}
-use Rattle.division.specs.KeptTails.{IsTail, AddsTail, AreKept, IsDividedInput, NoDividedInput}
+use Rattle.division.specs.KeptTails.{IsInsertionTail, AddsTail, AreKept, IsDividedInput, NoDividedInput}
 use Rattle.shuffle_places.proofs.InputPlaces.{leaf_no_place}
 use Rattle.division.proofs.Builds.{less_held}
 use Rattle.division.proofs.FirstDividers.{root_only}
@@ -127,7 +127,7 @@ module _ (trees : List (Tree ℕ)) (reducers : List Reducer) (found : List (Opti
 
 -- a step in an input, whose tail is kept in a later store
 module _ (old trees : List (Tree ℕ)) (reducers : List Reducer) (found : List (Option ℕ)) (grown : Grows old trees) (store : IsStore trees) (hr : AreReducers trees reducers) (few : length found ≤ length old)
-    (host element at child : ℕ) (is : slice_get found host ≡ Some (Some element)) (h : IsDividedInput old found host element at child) (kept : List ℕ) (t : IsTail trees reducers found child kept) where
+    (host element at child : ℕ) (is : slice_get found host ≡ Some (Some element)) (h : IsDividedInput old found host element at child) (kept : List ℕ) (t : IsInsertionTail trees reducers found child kept) where
   host_low : host < length old
   host_low = let l = slice_get_within found host (Some element) is in omega (arith, l, few)
 

@@ -14,7 +14,7 @@ use Rattle.shuffle_sums.specs.Sorting.{AreOfOneArity}
 use Rattle.tree_store.specs.Stores.{tree_at, HasLabel, IsStore}
 use Rattle.division.specs.declared.reducer.Reducer.{Reducer}
 use Rattle.division.specs.Cones.{CanGather}
-use Rattle.division.specs.Gathered.{AllOver, Came, IsWorking}
+use Rattle.division.specs.Gathered.{AllOver, CameFrom, IsWorking}
 use Rattle.division.specs.Insertions.{IsReducer}
 
 no_entry : {X : Type 0} (i : ℕ) (x : X) → slice_get [] i ≡ Some x → ⊥
@@ -50,7 +50,7 @@ module _ (trees : List (Tree ℕ)) (r : Reducer) (label : HasLabel 0 (tree_at tr
   }
 
 -- Over no elements trees of one arity can be gathered.
-pub nothing_given : (compare : Tree ℕ → Tree ℕ → Ordering) (q : ℕ) (trees : List (Tree ℕ)) (all given : List ℕ) → ((arity : ℕ → ℕ) → IsTreeOrder arity compare) → AreOfOneArity trees all → Came [] given all
+pub nothing_given : (compare : Tree ℕ → Tree ℕ → Ordering) (q : ℕ) (trees : List (Tree ℕ)) (all given : List ℕ) → ((arity : ℕ → ℕ) → IsTreeOrder arity compare) → AreOfOneArity trees all → CameFrom [] given all
     → (s : Setting) × (n : ℕ) × CanGather compare q trees [] [] given s n
 nothing_given compare q trees all given order h came = (
   record { arity = h.arity; compare = compare; elements = []; q = q },

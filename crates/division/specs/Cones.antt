@@ -8,7 +8,7 @@ use Rattle.division.specs.declared.reducer.Reducer.{Reducer}
 use Rattle.division.specs.Gathered.{AllOver, ArePlaces, Longer}
 use Rattle.shuffle_sums.specs.Sorting.{trees_at}
 use Rattle.shuffle_reductions.specs.Swept.{IsTableOver}
-use Rattle.division.specs.Given.{AreGiven, IsFit}
+use Rattle.division.specs.Given.{AreGiven, IsFitSetting}
 use Rattle.division.specs.Ranks.{AreRanks}
 use Rattle.division.specs.declared.cones.Cone.{Cone}
 
@@ -17,7 +17,7 @@ use Rattle.division.specs.declared.cones.Cone.{Cone}
 pub record CanGather (compare : Tree ℕ → Tree ℕ → Ordering) (q : ℕ) (trees : List (Tree ℕ)) (reducers : List Reducer) (coefs : List (List ℕ)) (given : List ℕ) (s : Setting) (n : ℕ) : Type 0 where
   pub compare_is : s.compare ≡ compare
   pub prime_is : s.q ≡ q
-  pub fit : IsFit s
+  pub fit : IsFitSetting s
   pub are : AreGiven trees reducers coefs s
   pub over : AllOver s.arity n trees given
   pub few : n ≤ 16

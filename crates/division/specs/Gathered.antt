@@ -7,7 +7,7 @@ use Rattle.shuffle_insertions.specs.ShuffleTrees.{IsShuffleTree}
 use Rattle.tree_store.specs.Stores.{tree_at, IsStore}
 use Rattle.division.specs.declared.reducer.Reducer.{Reducer}
 use Rattle.division.specs.Dividers.{AreReducers, AreGroups, AreDividers, IsFirstDivider}
-use Rattle.division.specs.KeptTails.{AreKept, IsTail}
+use Rattle.division.specs.KeptTails.{AreKept, IsInsertionTail}
 
 -- each id of the list has its place there, and no other id has one; so none stands twice
 pub record ArePlaces (places : List (Option ℕ)) (ids : List ℕ) : Type 0 where
@@ -19,8 +19,8 @@ abbrev pub Longer : List ℕ → List ℕ → Type 0
 Longer old new = (added : List ℕ) × (new ≡ old ++ added)
 
 -- each entry that is new is one of the tail
-abbrev pub Came : List ℕ → List ℕ → List ℕ → Type 0
-Came old new tail = (p x : ℕ) → slice_get new p ≡ Some x → (slice_get old p ≡ Some x) ⊎ ((k : ℕ) × (slice_get tail k ≡ Some x))
+abbrev pub CameFrom : List ℕ → List ℕ → List ℕ → Type 0
+CameFrom old new tail = (p x : ℕ) → slice_get new p ≡ Some x → (slice_get old p ≡ Some x) ⊎ ((k : ℕ) × (slice_get tail k ≡ Some x))
 
 -- the trees of the elements belong to the labels
 abbrev pub AreOver : (ℕ → ℕ) → List (Tree ℕ) → List Reducer → Type 0
@@ -51,7 +51,7 @@ pub record IsUndivided (trees : List (Tree ℕ)) (reducers : List Reducer) (foun
 
 -- The tree with this id has no divider, and the tail is empty, or the tail is one of it.
 abbrev pub IsStepOf : List (Tree ℕ) → List Reducer → List (Option ℕ) → ℕ → List ℕ → Type 0
-IsStepOf trees reducers found id tail = (IsUndivided trees reducers found id × (tail ≡ [])) ⊎ IsTail trees reducers found id tail
+IsStepOf trees reducers found id tail = (IsUndivided trees reducers found id × (tail ≡ [])) ⊎ IsInsertionTail trees reducers found id tail
 
 -- the same places are known
 abbrev pub SamePlaces : List (Option ℕ) → List (Option ℕ) → Type 0
@@ -60,7 +60,7 @@ SamePlaces old new = (id p : ℕ) → (slice_get old id ≡ Some (Some p) → sl
 -- The tree with this id has no divider, and no places; or these are the places, in the list, of the ids of its tail.
 abbrev pub IsGatheredAt : List (Tree ℕ) → List Reducer → List (Option ℕ) → List ℕ → ℕ → List ℕ → Type 0
 IsGatheredAt trees reducers found ids id places = (IsUndivided trees reducers found id × (places ≡ []))
-    ⊎ ((tail : List ℕ) × IsTail trees reducers found id tail × StandAt ids places tail)
+    ⊎ ((tail : List ℕ) × IsInsertionTail trees reducers found id tail × StandAt ids places tail)
 
 -- The list was made longer until no step leaves it: for each id there are the places of its tail.
 pub record AreGathered (trees : List (Tree ℕ)) (reducers : List Reducer) (found : List (Option ℕ)) (given ids : List ℕ) (tails : List (List ℕ)) : Type 0 where

@@ -7,7 +7,7 @@ use Rattle.shuffle_insertions.specs.Orders.{IsTreeOrder}
 use Rattle.shuffle_bases.specs.Elements.{Element, Setting, AreMonic}
 use Rattle.modular_sums.specs.Falling.{IsFalling}
 use Rattle.division.specs.declared.reducer.Reducer.{Reducer}
-use Rattle.division.specs.Laws.{IsElementOf}
+use Rattle.division.specs.Laws.{IsReducerOf}
 
 -- the numbers of a sum, in its order
 abbrev pub numbers_in : List (ℕ × Tree ℕ) → List ℕ
@@ -15,12 +15,12 @@ numbers_in sum = map (λ x. x.0) sum
 
 -- The elements of the setting, each as ids and the coefficients of its tail.
 pub record AreGiven (trees : List (Tree ℕ)) (reducers : List Reducer) (coefs : List (List ℕ)) (s : Setting) : Type 0 where
-  pub each : (g : Element) → Mem g s.elements → (e : ℕ) × (r : Reducer) × (slice_get reducers e ≡ Some r) × IsElementOf trees r g
+  pub each : (g : Element) → Mem g s.elements → (e : ℕ) × (r : Reducer) × (slice_get reducers e ≡ Some r) × IsReducerOf trees r g
   pub only : (e : ℕ) (r : Reducer) → slice_get reducers e ≡ Some r
-      → (g : Element) × Mem g s.elements × IsElementOf trees r g × (g.arity ≡ r.arity) × (slice_get coefs e ≡ Some (numbers_in g.tail))
+      → (g : Element) × Mem g s.elements × IsReducerOf trees r g × (g.arity ≡ r.arity) × (slice_get coefs e ≡ Some (numbers_in g.tail))
 
 -- The setting compares by an order, and its elements are monic, with tails that fall and residues other than 0.
-pub record IsFit (s : Setting) : Type 0 where
+pub record IsFitSetting (s : Setting) : Type 0 where
   pub order : IsTreeOrder s.arity s.compare
   pub monic : AreMonic s
   pub falls : (g : Element) → Mem g s.elements → IsFalling s.compare (suc s.q) g.tail

@@ -9,7 +9,7 @@ use Rattle.division.specs.declared.reducer.Reducer.{Reducer}
 use Rattle.division.specs.Insertions.{AreInserted}
 
 -- These are the ids of an insertion in the tree with this id, but for its first tree: an insertion of its first divider.
-pub record IsTail (trees : List (Tree ℕ)) (reducers : List Reducer) (found : List (Option ℕ)) (id : ℕ) (ids : List ℕ) : Type 0 where
+pub record IsInsertionTail (trees : List (Tree ℕ)) (reducers : List Reducer) (found : List (Option ℕ)) (id : ℕ) (ids : List ℕ) : Type 0 where
   pub element : ℕ
   pub reducer : Reducer
   pub found_is : slice_get found id ≡ Some (Some element)
@@ -18,11 +18,11 @@ pub record IsTail (trees : List (Tree ℕ)) (reducers : List Reducer) (found : L
 
 -- ids of a tail were put behind others
 abbrev pub AddsTail : List (Tree ℕ) → List Reducer → List (Option ℕ) → ℕ → List ℕ → List ℕ → Type 0
-AddsTail trees reducers found id before after = (made : List ℕ) × (after ≡ before ++ made) × IsTail trees reducers found id made
+AddsTail trees reducers found id before after = (made : List ℕ) × (after ≡ before ++ made) × IsInsertionTail trees reducers found id made
 
 -- each list that is kept for an id is a tail of its tree
 abbrev pub AreKept : List (Tree ℕ) → List Reducer → List (Option ℕ) → List (Option (List ℕ)) → Type 0
-AreKept trees reducers found kept = (id : ℕ) (ids : List ℕ) → slice_get kept id ≡ Some (Some ids) → IsTail trees reducers found id ids
+AreKept trees reducers found kept = (id : ℕ) (ids : List ℕ) → slice_get kept id ≡ Some (Some ids) → IsInsertionTail trees reducers found id ids
 
 -- nothing is kept that wasn't
 abbrev pub OnlyKept : List (Option (List ℕ)) → List (Option (List ℕ)) → Type 0

@@ -2,7 +2,7 @@
 use Rattle.std.specs.Prelude.{ℕ, ◌≡◌, ◌<◌, ◌≤◌, ◌+◌, List, [], length, map, slice_get, slice_range, slice_index, slice_index_or, Option, Some, None}
 use Rattle.std.specs.List.{All, range_with_len, zip}
 use Rattle.std.specs.List.Sorted.{IsPermutation}
-use Rattle.modular_sums.specs.RuleTables.{Table, IsTail}
+use Rattle.modular_sums.specs.RuleTables.{Table, IsRuleTail}
 
 -- `order` has the place of each position, and `ranks` the position of each place, of which there are n
 pub record AreRanks (order ranks : List ℕ) (n : ℕ) : Type 0 where
@@ -23,7 +23,7 @@ pub record CanRule (q : ℕ) (coefs : List (List ℕ)) (found : List (Option ℕ
   pub entries : (k : ℕ) → k < length ids → slice_index ids k < length found
   pub places : (k : ℕ) → k < length ids → All (λ j. j < length ids) (slice_index_or tails k [])
   pub tails_are : (p e : ℕ) → p < length ids → slice_get found (slice_index ids (slice_index order p)) ≡ Some (Some e)
-      → (c : List ℕ) × (slice_get coefs e ≡ Some c) × (length c ≡ length (tail_at tails ranks (slice_index order p))) × IsTail q p (zip c (tail_at tails ranks (slice_index order p)))
+      → (c : List ℕ) × (slice_get coefs e ≡ Some c) × (length c ≡ length (tail_at tails ranks (slice_index order p))) × IsRuleTail q p (zip c (tail_at tails ranks (slice_index order p)))
 
 -- The rule of a position: none where its id has no element, and else the coefficients of its element at the positions of its tail.
 pub record IsRuledBy (coefs : List (List ℕ)) (found : List (Option ℕ)) (ids : List ℕ) (tails : List (List ℕ)) (order ranks : List ℕ) (p : ℕ) (rule : Option (Option (List (ℕ × ℕ)))) : Type 0 where

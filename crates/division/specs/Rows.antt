@@ -23,11 +23,11 @@ abbrev pub id_at : Cone → ℕ → ℕ
 id_at cone p = slice_index cone.ids (slice_index cone.order.items p)
 
 -- the id has a place in the cone
-abbrev pub HasPlace : Cone → ℕ → Type 0
-HasPlace cone id = (k : ℕ) × (slice_get cone.ids k ≡ Some id)
+abbrev pub IsInCone : Cone → ℕ → Type 0
+IsInCone cone id = (k : ℕ) × (slice_get cone.ids k ≡ Some id)
 
 -- The sum over positions is the sum over ids.
-pub record StandsFor (cone : Cone) (sum placed : List (ℕ × ℕ)) : Type 0 where
+pub record IsSumAtPlaces (cone : Cone) (sum placed : List (ℕ × ℕ)) : Type 0 where
   pub same : moved (id_at cone) placed ≡ sum
   pub within : AllTerms placed (λ t. t < length cone.ids)
 
@@ -56,13 +56,13 @@ pub record IsRestAt (sum : List (ℕ × ℕ)) (cone : Cone) (before after : Coun
       → LeadsTo s n trees h.insertions sum (moved (id_at cone) placed) before.count after.count keep log now × IsFinished s (moved (tree_at trees) (moved (id_at cone) placed))
 
 -- the chain led to the row and is stopped, with the count at the bound; want of memory says nothing
-abbrev pub IsRefusal : List (ℕ × ℕ) → Cone → Count → Count → Bool → List (ℕ × ℕ) → List (ℕ × ℕ) → RowFail → Type 0
-IsRefusal sum cone before after keep log now (Spent row) = (after.count ≡ after.bound) × ((s : Setting) (n : ℕ) (trees : List (Tree ℕ)) (h : IsConeOver s n trees cone)
+abbrev pub IsRowRefusal : List (ℕ × ℕ) → Cone → Count → Count → Bool → List (ℕ × ℕ) → List (ℕ × ℕ) → RowFail → Type 0
+IsRowRefusal sum cone before after keep log now (Spent row) = (after.count ≡ after.bound) × ((s : Setting) (n : ℕ) (trees : List (Tree ℕ)) (h : IsConeOver s n trees cone)
     → LeadsTo s n trees h.insertions sum (ids_of row) before.count after.count keep log now × IsStopped s (moved (tree_at trees) (ids_of row)))
-IsRefusal sum cone before after keep log now NoMemory = Unit {0}
+IsRowRefusal sum cone before after keep log now NoMemory = Unit {0}
 
 -- the row is 0, unless memory ran out
-abbrev pub IsCleared : {T : Type 0} → Result T RowFail → List ℕ → Type 0
-IsCleared (Ok rest) row = (t : ℕ) → slice_index row t ≡ 0
-IsCleared (Err (Spent left)) row = (t : ℕ) → slice_index row t ≡ 0
-IsCleared (Err NoMemory) row = Unit {0}
+abbrev pub IsRowCleared : {T : Type 0} → Result T RowFail → List ℕ → Type 0
+IsRowCleared (Ok rest) row = (t : ℕ) → slice_index row t ≡ 0
+IsRowCleared (Err (Spent left)) row = (t : ℕ) → slice_index row t ≡ 0
+IsRowCleared (Err NoMemory) row = Unit {0}

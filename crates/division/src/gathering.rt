@@ -3,7 +3,7 @@ ghost use Rattle.std.specs.List.{All};
 ghost use Rattle.tree_store.specs.Stores.{tree_at, IsStore};
 ghost use Rattle.division.specs.Insertions.{Grows};
 ghost use Rattle.division.specs.Dividers.{FoundGrows, HaveRoom};
-ghost use Rattle.division.specs.Gathered.{AreGathered, ArePlaces, Came, IsStepOf, IsWorking, Longer, SamePlaces, StandAt};
+ghost use Rattle.division.specs.Gathered.{AreGathered, ArePlaces, CameFrom, IsStepOf, IsWorking, Longer, SamePlaces, StandAt};
 
 use crate::extending::extend_dividers;
 use crate::kept::make_tail;
@@ -38,7 +38,7 @@ fn enter(
     ensures places { ArePlaces places.new ids.new }
     ensures longer { Longer ids.old ids.new }
     ensures held { (n : ℕ) → All (λ i. i < n) ids.old → id < n → All (λ i. i < n) ids.new }
-    ensures only { Came ids.old ids.new (id ∷ []) }
+    ensures only { CameFrom ids.old ids.new (id ∷ []) }
 {
     let place = ids.len();
     if place >= MOST {
@@ -65,7 +65,7 @@ pub fn meet(
     ensures places { ArePlaces places.new ids.new }
     ensures longer { Longer ids.old ids.new }
     ensures held { (n : ℕ) → All (λ i. i < n) ids.old → id < n → All (λ i. i < n) ids.new }
-    ensures only { Came ids.old ids.new (id ∷ []) }
+    ensures only { CameFrom ids.old ids.new (id ∷ []) }
 {
     match widen(places, id.index()) {
         Ok(()) => match places.as_slice()[id.index()] {
@@ -89,7 +89,7 @@ pub fn meet_all(
     ensures places { ArePlaces places.new ids.new }
     ensures longer { Longer ids.old ids.new }
     ensures held { (n : ℕ) → All (λ i. i < n) ids.old → All (λ i. i < n) tail.now → All (λ i. i < n) ids.new }
-    ensures only { Came ids.old ids.new tail.now }
+    ensures only { CameFrom ids.old ids.new tail.now }
 {
     let mut found = Items::new(alloc);
     for id in tail {

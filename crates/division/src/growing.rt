@@ -1,5 +1,5 @@
 ghost use Rattle.std.specs.Prelude.{◌≡◌, ◌<◌, ℕ, List, length, OnOk, OnErr};
-ghost use Rattle.modular_sums.specs.RuleTables.{IsTail};
+ghost use Rattle.modular_sums.specs.RuleTables.{IsRuleTail};
 ghost use Rattle.row_sweeps.specs.Terms.{pairs};
 ghost use Rattle.division.specs.Cones.{IsCone};
 ghost use Rattle.division.specs.Growing.{GrowsByElement};
@@ -18,7 +18,7 @@ pub fn add_element(
 ) -> Result<(), AllocError>
     requires cone { (given : List ℕ) × IsCone given cone.old }
     requires position { position < length cone.old.ids }
-    requires tail { IsTail cone.old.table.q position (pairs tail.now) }
+    requires tail { IsRuleTail cone.old.table.q position (pairs tail.now) }
     ensures grown { OnOk result (GrowsByElement cone.old cone.new position (pairs tail.now)) }
     ensures cone { (given : List ℕ) → IsCone given cone.old → IsCone given cone.new }
     ensures unchanged { OnErr result (cone.new.table.rules ≡ cone.old.table.rules) }

@@ -3,7 +3,7 @@ ghost use Rattle.std.specs.List.{All};
 ghost use Rattle.tree_store.specs.Stores.{tree_at, IsStore};
 ghost use Rattle.division.specs.Insertions.{Grows};
 ghost use Rattle.division.specs.Dividers.{AreDividers, AreReducers, DividesAtRoot, HaveRoom};
-ghost use Rattle.division.specs.KeptTails.{AddsTail, AreKept, IsDividedInput, IsTail, NoDividedInput, OnlyKept, OnlyPut};
+ghost use Rattle.division.specs.KeptTails.{AddsTail, AreKept, IsDividedInput, IsInsertionTail, NoDividedInput, OnlyKept, OnlyPut};
 
 use crate::reducer::Reducer;
 use crate::tails::{insert_at_root, replace_all};

@@ -4,7 +4,7 @@ ghost use Rattle.modular_sums.specs.Sums.{AllTerms, coef, moved};
 ghost use Rattle.shuffle_sums.specs.Sums.{pairs as ids_of};
 ghost use Rattle.row_sweeps.specs.Terms.{pairs};
 ghost use Rattle.division.specs.Cones.{IsCone};
-ghost use Rattle.division.specs.Rows.{id_at, HasPlace, IsCleared, IsRefusal, IsRest, IsRestAt, StandsFor};
+ghost use Rattle.division.specs.Rows.{id_at, IsInCone, IsRowCleared, IsRowRefusal, IsRest, IsRestAt, IsSumAtPlaces};
 
 use crate::Cone;
 use row_sweeps::{Steps, SweepFail, Term, sweep};
@@ -35,7 +35,7 @@ impl From<AllocError> for RowFail {
 // The position of an id that has a place.
 fn position_of(cone: &Cone, term: IdTerm) -> Term
     requires cone { (given : List ℕ) × IsCone given cone.now }
-    requires there { HasPlace cone.now term.tree }
+    requires there { IsInCone cone.now term.tree }
     ensures id { id_at cone.now result.position ≡ term.tree }
     ensures within { result.position < length cone.now.ids }
     ensures coef { result.coef ≡ term.coef }
@@ -72,8 +72,8 @@ fn id_of(cone: &Cone, term: Term) -> IdTerm
 // The terms at the positions of their ids.
 fn place_terms(alloc: Global, cone: &Cone, terms: &[IdTerm]) -> Result<Vec<Term>, AllocError>
     requires cone { (given : List ℕ) × IsCone given cone.now }
-    requires there { AllTerms (ids_of terms.now) (HasPlace cone.now) }
-    ensures placed { IfOk result (λ placed. StandsFor cone.now (ids_of terms.now) (pairs placed.items)) }
+    requires there { AllTerms (ids_of terms.now) (IsInCone cone.now) }
+    ensures placed { IfOk result (λ placed. IsSumAtPlaces cone.now (ids_of terms.now) (pairs placed.items)) }
 {
     let mut placed = Vec::with_capacity(alloc, terms.len())?;
     for term in terms {
@@ -131,13 +131,13 @@ pub fn sweep_row(
     keep: bool,
 ) -> Result<Vec<Term>, RowFail>
     requires cone { (given : List ℕ) × IsCone given cone.now }
-    requires there { AllTerms (ids_of terms.now) (HasPlace cone.now) }
+    requires there { AllTerms (ids_of terms.now) (IsInCone cone.now) }
     requires few { length terms.now ≤ 2 ^ 30 }
     requires sized { length row.old ≡ length cone.now.table.rules }
     requires zeros { (t : ℕ) → slice_index row.old t ≡ 0 }
     ensures rest { IfOk result (λ rest. IsRestAt (ids_of terms.now) cone.now steps.old steps.new keep (pairs log.old.items) (pairs log.new.items) (pairs rest.items)) }
-    ensures refused { IfErr result (IsRefusal (ids_of terms.now) cone.now steps.old steps.new keep (pairs log.old.items) (pairs log.new.items)) }
-    ensures cleared { IsCleared result row.new }
+    ensures refused { IfErr result (IsRowRefusal (ids_of terms.now) cone.now steps.old steps.new keep (pairs log.old.items) (pairs log.new.items)) }
+    ensures cleared { IsRowCleared result row.new }
     ensures bound { steps.new.bound ≡ steps.old.bound }
 {
     let placed = place_terms(alloc, cone, terms)?;
@@ -163,13 +163,13 @@ pub fn reduce_row(
     keep: bool,
 ) -> Result<Items<IdTerm>, RowFail>
     requires cone { (given : List ℕ) × IsCone given cone.now }
-    requires there { AllTerms (ids_of terms.now) (HasPlace cone.now) }
+    requires there { AllTerms (ids_of terms.now) (IsInCone cone.now) }
     requires few { length terms.now ≤ 2 ^ 30 }
     requires sized { length row.old ≡ length cone.now.table.rules }
     requires zeros { (t : ℕ) → slice_index row.old t ≡ 0 }
     ensures rest { IfOk result (IsRest (ids_of terms.now) cone.now steps.old steps.new keep (pairs log.old.items) (pairs log.new.items)) }
-    ensures refused { IfErr result (IsRefusal (ids_of terms.now) cone.now steps.old steps.new keep (pairs log.old.items) (pairs log.new.items)) }
-    ensures cleared { IsCleared result row.new }
+    ensures refused { IfErr result (IsRowRefusal (ids_of terms.now) cone.now steps.old steps.new keep (pairs log.old.items) (pairs log.new.items)) }
+    ensures cleared { IsRowCleared result row.new }
     ensures bound { steps.new.bound ≡ steps.old.bound }
 {
     let rest = sweep_row(alloc, cone, terms, row, steps, log, keep)?;

@@ -13,7 +13,7 @@ use Rattle.symmetric_sums.specs.declared.term.Term.{Term}
 use Rattle.symmetric_sums.proofs.Expansions.{sum_at-found}
 use Rattle.cofactor_log.specs.Entries as log
 use Rattle.cofactor_log.specs.Marks.{IsFounded}
-use Rattle.cofactor_log.specs.Resting.{CiteEntry, IsRest, UsesRestOn, first, through, uses_at}
+use Rattle.cofactor_log.specs.Resting.{CiteEntry, ListsReached, UsesRestOn, first, through, uses_at}
 use Rattle.cofactor_log.specs.declared.entry.Entry.{Entry}
 use Rattle.cofactor_log.proofs.Citing.{uses-found}
 use Rattle.certificate_check.specs.Blocks.{BlockHolds, StepHolds, StepsHold, elements_of}
@@ -42,13 +42,13 @@ sum-of_entry entries m k positive below within =
     map-get (x ∷ l) zero d e h = refl
     map-get (x ∷ l) (suc i) d e h = map-get l i d e (omega (arith, h))
 
-module _ (p : ℕ) (generators : List Generator) (rels : List (List Term)) (entries : List Entry) (kept : log.AreKept p generators rels entries) (founded : IsFounded entries) (last : Entry)
-    (last_kept : log.IsKept p generators rels (log.elements_of entries) last) (found : List ℕ) (rest : IsRest (UsesRestOn entries last.uses) found) (within : AreWithin (length entries) found) where
+module _ (p : ℕ) (generators : List Generator) (rels : List (List Term)) (entries : List Entry) (kept : log.KeepRule p generators rels entries) (founded : IsFounded entries) (last : Entry)
+    (last_kept : log.KeepsRule p generators rels (log.elements_of entries) last) (found : List ℕ) (rest : ListsReached (UsesRestOn entries last.uses) found) (within : AreWithin (length entries) found) where
   -- what an entry that was found cites was found
   closed : (k j : ℕ) → Mem k found → CiteEntry (uses_at entries k) j → Mem j found
   closed k j m c = (rest.exactly j).1 (through k j ((rest.exactly k).0 m) c)
 
-  step_holds : (front : List ℕ) (m : ℕ) (entry : Entry) → m ≤ length entries → log.IsKept p generators rels (log.elements_of (take m entries)) entry
+  step_holds : (front : List ℕ) (m : ℕ) (entry : Entry) → m ≤ length entries → log.KeepsRule p generators rels (log.elements_of (take m entries)) entry
       → ((j : ℕ) → CiteEntry entry.uses j → Mem j front × (0 < j) × (j ≤ m)) → ((j : ℕ) → Mem j front → place_in found j ≡ place_in front j)
       → StepHolds p generators rels (elements_of (steps_at (place_in found) entries front)) (renumbered_step (place_in found) entry)
   step_holds front m entry short k cites places =
@@ -71,7 +71,7 @@ module _ (p : ℕ) (generators : List Generator) (rels : List (List Term)) (entr
       let nothing : Entry = record { element = []; uses = [] } in
       let member : Mem k found = subst (Mem k) e (mem_right k front (k ∷ back) (inl refl)) in
       let at = within k member in
-      let own : log.IsKept p generators rels (log.elements_of (take (k - 1) entries)) (entry_at entries k) = kept (k - 1) nothing (omega (arith, at)) in
+      let own : log.KeepsRule p generators rels (log.elements_of (take (k - 1) entries)) (entry_at entries k) = kept (k - 1) nothing (omega (arith, at)) in
       let n : suc (k - 1) ≡ k = omega (arith, at) in
       let uses : uses_at entries k ≡ (entry_at entries k).uses = ap (uses_at entries) (sym n) ∙ uses-found entries (k - 1) nothing (omega (arith, at)) in
       let cites : (j : ℕ) → CiteEntry (entry_at entries k).uses j → Mem j front × (0 < j) × (j ≤ k - 1) =
@@ -95,7 +95,7 @@ module _ (p : ℕ) (generators : List Generator) (rels : List (List Term)) (entr
       let m = (rest.exactly j).1 (first j c) in
       let b = within j m in
       (m, b.0, b.1) in
-      let last_step = step_holds found (length entries) last (omega arith) (subst (λ l. log.IsKept p generators rels (log.elements_of l) last) (sym all) last_kept) cites (λ j m. refl) in
+      let last_step = step_holds found (length entries) last (omega arith) (subst (λ l. log.KeepsRule p generators rels (log.elements_of l) last) (sym all) last_kept) cites (λ j m. refl) in
       record {
         steps_hold = holds-push p generators rels [] front step (steps-hold [] found refl tt) last_step;
         wanted = subst (HaveOneForm p (parts_at generators) (terms_of last.element)) (sym (last-is front step)) (last_kept.same.0, last_kept.same.1, last_kept.same.1);

@@ -12,7 +12,7 @@ use Rattle.cofactor_log.specs.Resting.{CiteEntry, IsReached, first, through, use
 use Rattle.cofactor_log.specs.declared.entry.Entry.{Entry}
 use Rattle.cofactor_log.proofs.Citing.{uses-found, uses-within}
 use Rattle.certificate_text.specs.declared.block.Step.{Step}
-use Rattle.identity_queries.specs.Renumbering.{ArePlaces, AreWithin, entry_at, number_in, place_in, renumbered_step, steps_at}
+use Rattle.identity_queries.specs.Renumbering.{AreNewPlaces, AreWithin, entry_at, number_in, place_in, renumbered_step, steps_at}
 use Rattle.identity_queries.proofs.Places.{place-last, place-other, rising_before, rising_few}
 use Rattle.identity_queries.proofs.SameUses.{same_numbers}
 
@@ -27,7 +27,7 @@ few_within found n r w = let l = rising_few found 0 n (omega arith) r w in omega
 
 -- the next number stands at the next place
 pub place-step : (found numbers : List ℕ) (i place count : ℕ) → i < length found → Rises found → AreWithin count found → length numbers ≡ count → place ≡ i
-    → ArePlaces (take i found) numbers → ArePlaces (take (i + 1) found) (set numbers (get_or found i 0 - 1) (place + 1))
+    → AreNewPlaces (take i found) numbers → AreNewPlaces (take (i + 1) found) (set numbers (get_or found i 0 - 1) (place + 1))
 place-step found numbers i place count l rises within long at places k = subst (λ f. get_or (set numbers (get_or found i 0 - 1) (place + 1)) k 0 ≡ place_in f (suc k)) (sym more) (by_number (ℕ_discrete (get_or found i 0) (suc k))) where
   more : take (i + 1) found ≡ take i found ++ get_or found i 0 ∷ []
   more = take_more found i 0 l
@@ -56,12 +56,12 @@ place-step found numbers i place count l rises within long at places k = subst (
 
 -- ---- steps
 
-numbers-same : (found numbers : List ℕ) (k : ℕ) → ArePlaces found numbers → 0 < k → number_in numbers k ≡ place_in found k
+numbers-same : (found numbers : List ℕ) (k : ℕ) → AreNewPlaces found numbers → 0 < k → number_in numbers k ≡ place_in found k
 numbers-same found numbers k h positive =
     let n : suc (k - 1) ≡ k = omega (arith, positive) in
     h (k - 1) ∙ ap (place_in found) n
 
-step-same : (found numbers : List ℕ) (entry : Entry) → ArePlaces found numbers → ((k : ℕ) → CiteEntry entry.uses k → 0 < k)
+step-same : (found numbers : List ℕ) (entry : Entry) → AreNewPlaces found numbers → ((k : ℕ) → CiteEntry entry.uses k → 0 < k)
     → renumbered_step (number_in numbers) entry ≡ renumbered_step (place_in found) entry
 step-same found numbers entry h cites =
     ap (λ (uses : List Instance). let step : Step = record { element = entry.element; uses = uses } in step) (same_numbers (number_in numbers) (place_in found) entry.uses (λ k c. numbers-same found numbers k h (cites k c)))
@@ -74,7 +74,7 @@ entry-cites entries k founded positive within j c =
     let uses : uses_at entries k ≡ (entry_at entries k).uses = ap (uses_at entries) (sym n) ∙ uses-found entries (k - 1) nothing (omega (arith, positive, within)) in
     (founded k j (subst (λ u. CiteEntry u j) (sym uses) c)).0
 
-pub steps-same : (entries : List Entry) (found numbers l : List ℕ) → IsFounded entries → AreWithin (length entries) l → ArePlaces found numbers
+pub steps-same : (entries : List Entry) (found numbers l : List ℕ) → IsFounded entries → AreWithin (length entries) l → AreNewPlaces found numbers
     → steps_at (number_in numbers) entries l ≡ steps_at (place_in found) entries l
 steps-same entries found numbers [] founded within h = refl
 steps-same entries found numbers (k ∷ l) founded within h =
@@ -82,7 +82,7 @@ steps-same entries found numbers (k ∷ l) founded within h =
     ap₂ (λ (s : Step) (t : List Step). s ∷ t) (step-same found numbers (entry_at entries k) h (entry-cites entries k founded here.0 here.1)) (steps-same entries found numbers l founded (λ j m. within j (inr m)) h)
 
 -- the steps of the block, with the places for the new numbers
-pub steps-are : (entries : List Entry) (last : Entry) (found numbers : List ℕ) → IsFounded entries → AreWithin (length entries) found → CitesWithin (length entries) last.uses → ArePlaces found numbers
+pub steps-are : (entries : List Entry) (last : Entry) (found numbers : List ℕ) → IsFounded entries → AreWithin (length entries) found → CitesWithin (length entries) last.uses → AreNewPlaces found numbers
     → steps_at (number_in numbers) entries found ++ renumbered_step (number_in numbers) last ∷ [] ≡ steps_at (place_in found) entries found ++ renumbered_step (place_in found) last ∷ []
 steps-are entries last found numbers founded within cites h =
     ap₂ (λ (s : List Step) (t : Step). s ++ t ∷ []) (steps-same entries found numbers found founded within h) (step-same found numbers last h (λ k c. (cites k c).0))

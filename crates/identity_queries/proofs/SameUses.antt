@@ -5,7 +5,7 @@ use Rattle.std.specs.List.{All, AllByRecursion}
 use Rattle.std.proofs.lemmas.List.Elements.{All-from_recursion, recursion_from_All}
 use Rattle.labelled_trees.specs.Trees.{Tree}
 use Rattle.symmetric_trees.specs.declared.generators.Generator.{Generator}
-use Rattle.symmetric_sums.specs.Instances.{IsValid, instance_element, rule_element, sum_at}
+use Rattle.symmetric_sums.specs.Instances.{IsValidInstance, instance_element, rule_element, sum_at}
 use Rattle.symmetric_sums.specs.declared.instance.Instance.{Instance}
 use Rattle.symmetric_sums.specs.declared.instance.Rule.{Rule}
 use Rattle.symmetric_sums.specs.declared.instance.Rule.TheVariants.{Rel, Swap, Step as StepRule}
@@ -40,7 +40,7 @@ module _ (p : ℕ) (generators : List Generator) (rels old new : List (List Term
   good : (n : ℕ) (item : Instance) → ((k : ℕ) → item.rule ≡ StepRule k → sum_at new (number k) ≡ sum_at old k) → IsGoodUse p generators rels old n item
       → IsGoodUse p generators rels new n (renumbered_use number item)
   good n item h g =
-      let valid = subst (λ e. IsValid generators e n item) (sym (same_element item.rule h)) g.valid in
+      let valid = subst (λ e. IsValidInstance generators e n item) (sym (same_element item.rule h)) g.valid in
       record {
         cites = cites_element item.rule g.cites;
         valid = record { has_terms = valid.has_terms; as_many = valid.as_many; is_context = valid.is_context; no_zero = valid.no_zero; labelled = valid.labelled };

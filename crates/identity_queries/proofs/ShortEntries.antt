@@ -10,16 +10,16 @@ use Rattle.operad_ideals.specs.Laws.{arity}
 use Rattle.symmetric_trees.specs.Generators.{parts_at}
 use Rattle.symmetric_trees.specs.Trees.{IsLabelled}
 use Rattle.symmetric_trees.specs.declared.generators.Generator.{Generator}
-use Rattle.symmetric_sums.specs.Instances.{IsValid, rule_element, sum_at}
+use Rattle.symmetric_sums.specs.Instances.{IsValidInstance, rule_element, sum_at}
 use Rattle.symmetric_sums.specs.Terms.{terms_of}
 use Rattle.symmetric_sums.specs.declared.instance.Instance.{Instance}
 use Rattle.symmetric_sums.specs.declared.instance.Rule.{Rule}
 use Rattle.symmetric_sums.specs.declared.instance.Rule.TheVariants.{Rel, Swap, Step as StepRule}
 use Rattle.symmetric_sums.specs.declared.term.Term.{Term}
-use Rattle.presentation_text.specs.PrintedElements.{IsSaidTerm}
+use Rattle.presentation_text.specs.PrintedElements.{IsWrittenTerm}
 use Rattle.certificate_text.specs.Plain.{plain_use}
 use Rattle.certificate_text.specs.UseText.{greatest_cited}
-use Rattle.certificate_text.specs.Writable.{IsCited, IsSaidSum, IsWritableUse}
+use Rattle.certificate_text.specs.Writable.{IsCited, IsWrittenSum, IsWritableUse}
 use Rattle.cofactor_log.specs.Logs.{IsElementOver}
 use Rattle.symmetric_sums.specs.Uses.{CitesElement, IsGoodUse}
 use Rattle.cofactor_log.specs.declared.entry.Entry.{Entry}
@@ -55,7 +55,7 @@ module _ (p : ℕ) (generators : List Generator) (rels earlier : List (List Term
       let w = numbered_within earlier k some in
       record { sum = f.0; element = f.1; is = f.2; cited = omega (arith, w, few_earlier) }
 
-  around : (n : ℕ) → n ≤ 9 → (item : Instance) → item.coef < p → IsCited item.rule → (sum : List Term) → IsElementOver p generators sum → IsValid generators (terms_of sum) n item → IsWritableUse p generators (plain_use item)
+  around : (n : ℕ) → n ≤ 9 → (item : Instance) → item.coef < p → IsCited item.rule → (sum : List Term) → IsElementOver p generators sum → IsValidInstance generators (terms_of sum) n item → IsWritableUse p generators (plain_use item)
   around n short item coef cited [] element valid = absurd (valid.has_terms refl)
   around n short item coef cited (x ∷ sum) element valid =
       let own : IsLabelled generators element.labelled.0 (tree_of x.tree) = element.labelled.1 0 x (omega arith) in
@@ -71,7 +71,7 @@ module _ (p : ℕ) (generators : List Generator) (rels earlier : List (List Term
   use_writable : (n : ℕ) → n ≤ 9 → (item : Instance) → item.coef < p → IsGoodUse p generators rels earlier n item → IsWritableUse p generators (plain_use item)
   use_writable n short item coef good =
       let c = cited_element item.rule good.cites good.valid.has_terms in
-      around n short item coef c.cited c.sum c.element (subst (λ e. IsValid generators e n item) c.is good.valid)
+      around n short item coef c.cited c.sum c.element (subst (λ e. IsValidInstance generators e n item) c.is good.valid)
 
   pub uses_writable : (n : ℕ) → n ≤ 9 → (uses : List Instance) → AllByRecursion (λ item. item.coef < p) uses → AllByRecursion (IsGoodUse p generators rels earlier n) uses
       → AllByRecursion (IsWritableUse p generators) (map plain_use uses)
@@ -79,7 +79,7 @@ module _ (p : ℕ) (generators : List Generator) (rels earlier : List (List Term
   uses_writable n short (x ∷ uses) coefs good = (use_writable n short x coefs.0 good.0, uses_writable n short uses coefs.1 good.1)
 
 terms_said : (p : ℕ) (generators : List Generator) (n : ℕ) → n ≤ 9 → (terms : List Term) → AllByRecursion (λ (t : Term). 0 < t.coef) terms → AllByRecursion (λ (t : Term). t.coef < p) terms
-    → AllByRecursion (λ (t : Term). IsLabelled generators n (tree_of t.tree)) terms → AllByRecursion (IsSaidTerm p generators n) (terms_of terms)
+    → AllByRecursion (λ (t : Term). IsLabelled generators n (tree_of t.tree)) terms → AllByRecursion (IsWrittenTerm p generators n) (terms_of terms)
 terms_said p generators n short [] a b c = tt
 terms_said p generators n short (x ∷ terms) a b c =
     let deep = nested_less (arity (parts_at generators)) (tree_of x.tree) c.0.fits in
@@ -92,7 +92,7 @@ pub short_law : ShortEntriesAreWritable
 short_law p generators rels earlier entry few_rels few_earlier rels_are earlier_are element coefs s = record {
   element = (
     s.arity,
-    All-from_recursion (IsSaidTerm p generators s.arity) (terms_of entry.element)
+    All-from_recursion (IsWrittenTerm p generators s.arity) (terms_of entry.element)
         (terms_said p generators s.arity s.at_most entry.element (recursion_from_All (λ (t : Term). 0 < t.coef) entry.element element.nonzero)
         (recursion_from_All (λ (t : Term). t.coef < p) entry.element element.fits.residues)
         (recursion_from_All (λ (t : Term). IsLabelled generators s.arity (tree_of t.tree)) entry.element s.element)),

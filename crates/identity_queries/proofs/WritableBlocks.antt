@@ -10,10 +10,10 @@ use Rattle.symmetric_sums.specs.declared.instance.Rule.TheVariants.{Rel, Swap, S
 use Rattle.symmetric_sums.specs.declared.term.Term.{Term}
 use Rattle.symmetric_trees.specs.declared.generators.Generator.{Generator}
 use Rattle.cofactor_log.specs.declared.entry.Entry.{Entry}
-use Rattle.presentation_text.specs.PrintedElements.{IsSaidOver}
+use Rattle.presentation_text.specs.PrintedElements.{IsWrittenOver}
 use Rattle.certificate_text.specs.Plain.{plain_step, plain_use}
 use Rattle.certificate_text.specs.UseText.{greatest_cited}
-use Rattle.certificate_text.specs.Writable.{IsCited, IsWritable, IsWritableStep, IsWritableUse}
+use Rattle.certificate_text.specs.Writable.{IsCited, IsWritableBlock, IsWritableStep, IsWritableUse}
 use Rattle.certificate_text.specs.declared.block.Step.{Step}
 use Rattle.identity_queries.specs.Blocks.{IsWritableEntry}
 use Rattle.identity_queries.specs.Renumbering.{AreWithin, entry_at, first_or, one_further, place_in, renumbered_rule, renumbered_step, renumbered_use, steps_at}
@@ -56,10 +56,10 @@ module _ (p : ℕ) (generators : List Generator) (number : ℕ → ℕ) (small :
 
   pub block_writable : (entries : List Entry) (found : List ℕ) (last : Entry) (want : List Term) (steps : List Step) → want ≡ last.element → steps ≡ steps_at number entries found ++ renumbered_step number last ∷ []
       → All (IsWritableEntry p generators) entries → AreWithin (length entries) found → IsWritableEntry p generators last
-      → IsWritable p generators (record { want = terms_of want; steps = map plain_step steps })
+      → IsWritableBlock p generators (record { want = terms_of want; steps = map plain_step steps })
   block_writable entries found last want steps e s all within one =
       record {
-        want = subst (λ (w : List Term). (n : ℕ) × IsSaidOver p generators n (terms_of w)) (sym e) one.element;
+        want = subst (λ (w : List Term). (n : ℕ) × IsWrittenOver p generators n (terms_of w)) (sym e) one.element;
         steps = subst (λ (l : List Step). All (IsWritableStep p generators) (map plain_step l)) (sym s)
             (All-from_recursion (IsWritableStep p generators) (map plain_step (steps_at number entries found ++ renumbered_step number last ∷ [])) (steps_writable entries found last all within one));
       }

@@ -1,6 +1,6 @@
 -- The block that is made of a log.
 use Rattle.std.specs.Prelude.{ℕ, ◌≡◌, List, [], ◌∷◌, ◌++◌, map}
-use Rattle.cofactor_log.specs.Resting.{IsRest, UsesRestOn}
+use Rattle.cofactor_log.specs.Resting.{ListsReached, UsesRestOn}
 use Rattle.cofactor_log.specs.declared.entry.Entry.{Entry}
 use Rattle.symmetric_sums.specs.Terms.{terms_of}
 use Rattle.symmetric_trees.specs.declared.generators.Generator.{Generator}
@@ -13,7 +13,7 @@ use Rattle.identity_queries.specs.Renumbering.{place_in, renumbered_step, steps_
 -- of their numbers, and then the last one itself; where an entry is cited, it is by its place among the steps.
 pub record IsBlockOf (entries : List Entry) (last : Entry) (block : Block) : Type 0 where
   pub found : List ℕ
-  pub rest : IsRest (UsesRestOn entries last.uses) found
+  pub rest : ListsReached (UsesRestOn entries last.uses) found
   pub want_is : block.want ≡ last.element
   pub steps_are : block.steps ≡ steps_at (place_in found) entries found ++ renumbered_step (place_in found) last ∷ []
 

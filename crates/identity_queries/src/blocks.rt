@@ -1,11 +1,11 @@
 ghost use Rattle.std.specs.Prelude.{IfOk};
-ghost use Rattle.cofactor_log.specs.Entries.{IsKept, elements_of};
+ghost use Rattle.cofactor_log.specs.Entries.{KeepsRule, elements_of};
 ghost use Rattle.certificate_check.specs.Blocks.{BlockHolds};
 ghost use Rattle.identity_queries.specs.Blocks.{IsBlockOf, IsWritableEntry};
 ghost use Rattle.identity_queries.specs.Short.{ShortEntriesAreWritable};
 ghost use Rattle.std.specs.List.{All};
 ghost use Rattle.certificate_text.specs.Plain.{plain_block};
-ghost use Rattle.certificate_text.specs.Writable.{IsWritable};
+ghost use Rattle.certificate_text.specs.Writable.{IsWritableBlock};
 
 use crate::renumbering::{copy, new_numbers, new_step, new_steps};
 use certificate_text::Block;
@@ -16,11 +16,11 @@ use std::alloc::{AllocError, Global};
 /// in the order of their numbers, numbered anew from 1, and then the entry itself. The entry needn't stand in the log, but
 /// keeps the rule over it. The block holds, and may be written where the entries may be. `AllocError` comes for want of memory alone.
 pub fn block_of(alloc: Global, log: &Log, last: &Entry) -> Result<Block, AllocError>
-    requires kept { IsKept log.now.field log.now.gens log.now.rels (elements_of log.now.entries) last.now }
+    requires kept { KeepsRule log.now.field log.now.gens log.now.rels (elements_of log.now.entries) last.now }
     ensures block { IfOk result (IsBlockOf log.now.entries last.now) }
     ensures holds { IfOk result (λ block. BlockHolds log.now.field log.now.gens log.now.rels block.want block.steps) }
     ensures writable { All (IsWritableEntry log.now.field log.now.gens) log.now.entries → IsWritableEntry log.now.field log.now.gens last.now
-        → IfOk result (λ block. IsWritable log.now.field log.now.gens (plain_block block)) }
+        → IfOk result (λ block. IsWritableBlock log.now.field log.now.gens (plain_block block)) }
 {
     let field = log.field();
     let entries = log.entries();

@@ -3,7 +3,7 @@ ghost use Rattle.std.specs.List.{All};
 ghost use Rattle.modular_sums.specs.Lists.{Mem, Rises};
 ghost use Rattle.symmetric_sums.specs.Terms.{HaveResidues};
 ghost use Rattle.cofactor_log.specs.Marks.{CitesWithin, IsFounded};
-ghost use Rattle.identity_queries.specs.Renumbering.{AreWithin, ArePlaces, CitesNumber, number_in, renumbered_rule, renumbered_step, renumbered_use, steps_at};
+ghost use Rattle.identity_queries.specs.Renumbering.{AreWithin, AreNewPlaces, CitesNumber, number_in, renumbered_rule, renumbered_step, renumbered_use, steps_at};
 
 use certificate_text::Step;
 use cofactor_log::Entry;
@@ -22,7 +22,7 @@ pub(crate) fn new_numbers(
     requires rises { Rises found.now }
     requires within { AreWithin count found.now }
     requires few { count ≤ 2 ^ 31 }
-    ensures places { IfOk result (λ numbers. ArePlaces found.now numbers.items) }
+    ensures places { IfOk result (λ numbers. AreNewPlaces found.now numbers.items) }
     ensures length { IfOk result (λ numbers. length numbers.items ≡ count) }
 {
     let mut numbers = Vec::new(alloc);

@@ -1,7 +1,7 @@
 -- Sums that are the same, where e ++ scale q f stands for e minus f.
 use Rattle.std.proofs.Common.{◌≡◌, ℕ, suc, ◌+◌, ◌*◌, ◌%◌, List, [], ◌∷◌, sym, ◌∙◌, ap, arith}
 use mathlib.Core.List.{◌++◌}
-use Rattle.modular_sums.specs.Residues.{Alike}
+use Rattle.modular_sums.specs.Residues.{IsCongruent}
 use Rattle.modular_sums.specs.Sums.{coef, scale, Same}
 use Rattle.modular_sums.proofs.Residues.{alike_drop, alike_of_gone, less_alike}
 use Rattle.modular_sums.proofs.Sums.{coef-append, coef-scale, Same-cancelled}
@@ -9,19 +9,19 @@ use Rattle.modular_sums.proofs.Coefficients.{coef_nothing, coef_times}
 
 module _ (q : ℕ) where
   -- h - (- f) is (h + l) - (l - f)
-  negated : (h l f : ℕ) → Alike q (h + q * (q * f)) (h + l + q * (l + q * f))
+  negated : (h l f : ℕ) → IsCongruent q (h + q * (q * f)) (h + l + q * (l + q * f))
   negated h l f =
       let e : h + l + q * (l + q * f) ≡ h + q * (q * f) + (l + q * l) = omega arith in
       sym (ap (λ n. n % suc q) e ∙ alike_drop q (h + q * (q * f)) l)
 
   -- c h + e - (c f + g) is c (h - f) + (e - g)
-  added : (c h e f g : ℕ) → Alike q (c * h + e + q * (c * f + g)) (c * (h + q * f) + (e + q * g))
+  added : (c h e f g : ℕ) → IsCongruent q (c * h + e + q * (c * f + g)) (c * (h + q * f) + (e + q * g))
   added c h e f g =
       let k : c * h + e + q * (c * f + g) ≡ c * (h + q * f) + (e + q * g) = omega arith in
       ap (λ n. n % suc q) k
 
   -- f - g is - (d - f) + (d - e) + (e - g)
-  forms_apart : (d e f g : ℕ) → Alike q (f + q * g) (q * (d + q * f) + (d + q * e) + (e + q * g))
+  forms_apart : (d e f g : ℕ) → IsCongruent q (f + q * g) (q * (d + q * f) + (d + q * e) + (e + q * g))
   forms_apart d e f g =
       let a : q * (d + q * f) + (d + q * e) + (e + q * g) ≡ q * (q * f) + q * g + (d + q * d) + (e + q * e) = omega arith in
       let b : q * (q * f) + q * g + (f + q * f) ≡ f + q * g + (q * f + q * (q * f)) = omega arith in

@@ -3,15 +3,15 @@ use Rattle.std.proofs.Common.{Bool, true, false, inl, inr, ◌<◌, ◌*◌, ◌
 use native.Mathlib.Decide.{ℕ_discrete, dec_lt}
 use Rattle.modular_sums.specs.Lists.{Mem, holds}
 use Rattle.modular_sums.specs.Ranks.{count_less}
-use Rattle.modular_sums.specs.Residues.{Alike}
-use Rattle.modular_sums.specs.Sums.{hit, coef, scale, Same, expand, Member, moved}
-use Rattle.modular_sums.specs.Diamond.{HaveHosts, Meet, Led}
+use Rattle.modular_sums.specs.Residues.{IsCongruent}
+use Rattle.modular_sums.specs.Sums.{hit, coef, scale, Same, expand, IsLinearCombination, moved}
+use Rattle.modular_sums.specs.Diamond.{HaveLeadingTerms, Meet, Led}
 use Rattle.modular_sums.proofs.Sums.{hit-no, Same-cancelled}
 use Rattle.modular_sums.proofs.Sameness.{same_if_agree}
 use Rattle.modular_sums.proofs.Laws.{diamond_law, rank_law, image_law}
 
 -- 3 + 99 is 1 modulo 101
-one_again : Alike 100 (3 + 99) 1
+one_again : IsCongruent 100 (3 + 99) 1
 one_again = refl
 
 -- x5 - x3 and x3 - x5 are one sum modulo 101, up to the sign
@@ -24,14 +24,14 @@ signs = same_if_agree ℕ_discrete 100 (scale 100 ((1, 5) ∷ ((100, 3) ∷ []))
 abbrev value : Unit {0} → List (ℕ × ℕ)
 value i = (1, 5) ∷ ((100, 3) ∷ [])
 
-abbrev host : Unit {0} → ℕ
-host i = 5
+abbrev lead : Unit {0} → ℕ
+lead i = 5
 
-at_five : Alike 100 (coef ℕ_discrete (value tt) 5) 1
+at_five : IsCongruent 100 (coef ℕ_discrete (value tt) 5) 1
 unfolding coef ℕ_discrete
 at_five = refl
 
-nothing_above : (t : ℕ) → t ≢ 5 → 5 ≤ t → Alike 100 (coef ℕ_discrete (value tt) t) 0
+nothing_above : (t : ℕ) → t ≢ 5 → 5 ≤ t → IsCongruent 100 (coef ℕ_discrete (value tt) t) 0
 unfolding coef
 nothing_above t ne le =
     let a = hit-no (ℕ_discrete 5 t) 1 (λ e. absurd (ne (sym e))) in
@@ -39,19 +39,19 @@ nothing_above t ne le =
     let z : hit (ℕ_discrete 5 t) 1 + (hit (ℕ_discrete 3 t) 100 + 0) ≡ 0 = omega (arith, a, b) in
     ap (λ n. n % suc 100) z
 
-hosts : HaveHosts ℕ_discrete (λ t. t) 100 value host
-hosts = record { at_host = λ i. at_five; above = λ i. nothing_above }
+hosts : HaveLeadingTerms ℕ_discrete (λ t. t) 100 value lead
+hosts = record { at_lead = λ i. at_five; above = λ i. nothing_above }
 
 nothing_left : (t : ℕ) → 0 % suc 100 ≡ coef ℕ_discrete (expand value []) t % suc 100
 unfolding expand coef
 nothing_left t = refl
 
-meets : (i j : Unit {0}) → host i ≡ host j → Meet ℕ_discrete (λ t. t) 100 value host i j
+meets : (i j : Unit {0}) → lead i ≡ lead j → Meet ℕ_discrete (λ t. t) 100 value lead i j
 meets i j e = record { uses = []; lower = tt; adds_up = λ t. Same-cancelled ℕ_discrete 100 (value i) t ∙ nothing_left t }
 
 -- each multiple of x5 - x3 is zero, or 5 leads it
-led_by_five : (uses : List (ℕ × Unit {0})) → Same ℕ_discrete 100 (expand value uses) [] ⊎ Led ℕ_discrete (λ t. t) 100 host (expand value uses)
-led_by_five uses = diamond_law ℕ (Unit {0}) ℕ_discrete (λ t. t) 100 value host hosts meets (λ i j e. e) uses
+led_by_five : (uses : List (ℕ × Unit {0})) → Same ℕ_discrete 100 (expand value uses) [] ⊎ Led ℕ_discrete (λ t. t) 100 lead (expand value uses)
+led_by_five uses = diamond_law ℕ (Unit {0}) ℕ_discrete (λ t. t) 100 value lead hosts meets (λ i j e. e) uses
 
 -- ---- numbers in a list, ranked by how many are less
 
@@ -93,5 +93,5 @@ ranks_of_numbers l = rank_law ℕ is_below
 abbrev doubled : Unit {0} → List (ℕ × ℕ)
 doubled i = (1, 10) ∷ ((100, 6) ∷ [])
 
-image_of_five : (e : List (ℕ × ℕ)) → Member ℕ_discrete value 100 e → Member ℕ_discrete doubled 100 (moved (λ t. 2 * t) e)
+image_of_five : (e : List (ℕ × ℕ)) → IsLinearCombination ℕ_discrete value 100 e → IsLinearCombination ℕ_discrete doubled 100 (moved (λ t. 2 * t) e)
 image_of_five = (image_law ℕ ℕ (Unit {0}) (Unit {0}) ℕ_discrete ℕ_discrete 100 (λ t. 2 * t)).1 value doubled (λ i. i) (λ i. refl)

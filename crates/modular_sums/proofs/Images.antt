@@ -2,7 +2,7 @@
 use Rattle.std.proofs.Common.{◌≡◌, ◌≢◌, ℕ, zero, suc, ◌+◌, ◌*◌, ◌≤◌, List, [], ◌∷◌, length, arith, refl, sym, ◌∙◌, ap}
 use mathlib.Core.List.{◌++◌}
 use mathlib.Core.Path.{ap₂}
-use Rattle.modular_sums.specs.Residues.{Alike}
+use Rattle.modular_sums.specs.Residues.{IsCongruent}
 use Rattle.modular_sums.specs.Sums.{hit, coef, scale, Same, expand, moved, AllTerms}
 use Rattle.modular_sums.proofs.Residues.{alike_add, alike_mul, alike_gone, alike_of_gone}
 use Rattle.modular_sums.proofs.Sums.{coef-append, coef-scale}
@@ -118,28 +118,28 @@ module _ (M : Type 0) (dec : Discrete M) (q : ℕ) where
       go (yes _) = omega (arith, sum_without x.1 e f)
       go (no n) = absurd (n refl)
 
-  sums_zero : (n : ℕ) (e : List (ℕ × M)) (f : M → ℕ) → length e ≤ n → ((t : M) → Alike q (coef dec e t) 0) → Alike q (sum_over e f) 0
+  sums_zero : (n : ℕ) (e : List (ℕ × M)) (f : M → ℕ) → length e ≤ n → ((t : M) → IsCongruent q (coef dec e t) 0) → IsCongruent q (sum_over e f) 0
   sums_zero n [] f le h = refl
   sums_zero zero (x ∷ e) f le h = absurd (omega arith)
   sums_zero (suc n) (x ∷ e) f le h =
-      let k : Alike q (sum_over (without x.1 e) f) 0 = sums_zero n (without x.1 e) f (omega (arith, without_size x.1 e, le)) (λ t. at t (dec t x.1)) in
+      let k : IsCongruent q (sum_over (without x.1 e) f) 0 = sums_zero n (without x.1 e) f (omega (arith, without_size x.1 e, le)) (λ t. at t (dec t x.1)) in
       let z : 0 * f x.1 + 0 ≡ 0 = omega arith in
       rw (head_sum x e f) (rw z at (alike_add q (coef dec (x ∷ e) x.1 * f x.1) (0 * f x.1) _ _ (alike_mul q (coef dec (x ∷ e) x.1) 0 (f x.1) (f x.1) (h x.1) refl) k))
     where
-      at : (t : M) → Dec (t ≡ x.1) → Alike q (coef dec (without x.1 e) t) 0
+      at : (t : M) → Dec (t ≡ x.1) → IsCongruent q (coef dec (without x.1 e) t) 0
       at t (yes p) = rw p (rw (without_same x.1 e) refl)
       at t (no ne) = rw (without_other x.1 t ne e, ← head_other x e t ne) (h t)
 
   -- a sum of values at the trees of an element depends on its coefficients alone
-  pub same_sum : (e g : List (ℕ × M)) (f : M → ℕ) → Same dec q e g → Alike q (sum_over e f) (sum_over g f)
+  pub same_sum : (e g : List (ℕ × M)) (f : M → ℕ) → Same dec q e g → IsCongruent q (sum_over e f) (sum_over g f)
   same_sum e g f h =
-      let z : Alike q (sum_over (e ++ scale q g) f) 0 = sums_zero (length (e ++ scale q g)) (e ++ scale q g) f (omega arith) gone in
-      let s : Alike q (sum_over e f + q * sum_over g f) 0 = rw (sum_over-append e (scale q g) f, sum_over-scale q g f) at z in
+      let z : IsCongruent q (sum_over (e ++ scale q g) f) 0 = sums_zero (length (e ++ scale q g)) (e ++ scale q g) f (omega arith) gone in
+      let s : IsCongruent q (sum_over e f + q * sum_over g f) 0 = rw (sum_over-append e (scale q g) f, sum_over-scale q g f) at z in
       alike_of_gone q (sum_over e f) (sum_over g f) s
     where
-      gone : (t : M) → Alike q (coef dec (e ++ scale q g) t) 0
+      gone : (t : M) → IsCongruent q (coef dec (e ++ scale q g) t) 0
       gone t =
-          let a : Alike q (coef dec e t + q * coef dec g t) (coef dec g t + q * coef dec g t) = alike_add q (coef dec e t) (coef dec g t) _ _ (h t) refl in
+          let a : IsCongruent q (coef dec e t + q * coef dec g t) (coef dec g t + q * coef dec g t) = alike_add q (coef dec e t) (coef dec g t) _ _ (h t) refl in
           rw (coef-append dec e (scale q g) t, coef-scale dec q g t) (a ∙ alike_gone q (coef dec g t))
 
 -- the images of one sum are one sum

@@ -1,9 +1,9 @@
 -- The laws of residues and formal sums, proved.
 use Rattle.std.proofs.Common.{◌≡◌, ℕ, ◌+◌, ◌*◌, List, [], ◌∷◌, arith, refl, sym, ◌∙◌, subst}
 use mathlib.Core.List.{append-nil}
-use Rattle.modular_sums.specs.Residues.{Alike}
+use Rattle.modular_sums.specs.Residues.{IsCongruent}
 use Rattle.modular_sums.specs.Sums.{coef, scale, Same, expand, moved}
-use Rattle.modular_sums.specs.Laws.{Residues, Sums, Spans, Images, Ranks, DiamondLemma, Replacements}
+use Rattle.modular_sums.specs.Laws.{Residues, Sums, Spans, Images, Ranks, AbstractDiamondLemma, Replacements}
 use Rattle.modular_sums.proofs.Residues.{alike_add, alike_mul, alike_drop, alike_cancel}
 use Rattle.modular_sums.proofs.Sums.{coef-append, coef-scale, Member-append, Member-scale, Member-same}
 use Rattle.modular_sums.proofs.Images.{Same-moved, moved-expand}
@@ -35,11 +35,11 @@ sum_law M dec q = record {
 
 module _ (M I : Type 0) (dec : Discrete M) (value : I → List (ℕ × M)) (q : ℕ) where
   -- an instance alone is a sum of instances
-  instance_of : (i : I) (t : M) → Alike q (coef dec (value i) t) (coef dec (expand value ((1, i) ∷ [])) t)
+  instance_of : (i : I) (t : M) → IsCongruent q (coef dec (value i) t) (coef dec (expand value ((1, i) ∷ [])) t)
   unfolding expand coef
   instance_of i t = rw (append-nil (scale 1 (value i)), coef-scale dec 1 (value i) t) (let e : 1 * coef dec (value i) t ≡ coef dec (value i) t = omega arith in rw e refl)
 
-  nothing_of : (t : M) → Alike q (coef dec [] t) (coef dec (expand value []) t)
+  nothing_of : (t : M) → IsCongruent q (coef dec [] t) (coef dec (expand value []) t)
   unfolding expand
   nothing_of t = refl
 
@@ -65,8 +65,8 @@ pub rank_law : (X : Type 0) → Ranks X
 rank_law X less trans irrefl l total x y mx my =
     (rank_lt X less trans irrefl l x y mx, rank_one X less trans irrefl l x y mx my (total x y mx my))
 
-pub diamond_law : (M I : Type 0) → DiamondLemma M I
-diamond_law M I dec rank q value host monic meet one uses = diamond M dec rank q I value host monic meet one uses
+pub diamond_law : (M I : Type 0) → AbstractDiamondLemma M I
+diamond_law M I dec rank q value lead monic meet one uses = diamond M dec rank q I value lead monic meet one uses
 
 pub replacement_law : (M X Y : Type 0) → Replacements M X Y
 replacement_law M X Y = independent

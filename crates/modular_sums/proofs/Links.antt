@@ -1,56 +1,56 @@
 -- Sums of instances, and monomials that differ by one up to a factor.
 use Rattle.std.proofs.Common.{◌≡◌, ℕ, ◌+◌, ◌*◌, List, [], ◌∷◌, refl, sym, subst, arith}
 use mathlib.Core.List.{◌++◌}
-use Rattle.modular_sums.specs.Residues.{Alike}
-use Rattle.modular_sums.specs.Sums.{hit, coef, scale, Same, expand, Member}
+use Rattle.modular_sums.specs.Residues.{IsCongruent}
+use Rattle.modular_sums.specs.Sums.{hit, coef, scale, Same, expand, IsLinearCombination}
 use Rattle.modular_sums.proofs.Residues.{alike_add, alike_mul, alike_drop}
 use Rattle.modular_sums.proofs.Sums.{hit-mul, Member-append, Member-scale, Member-same}
 use Rattle.modular_sums.proofs.Laws.{span_law}
 
-pub member_zero : {M I : Type 0} (dec : Discrete M) (value : I → List (ℕ × M)) (q : ℕ) → Member dec value q []
+pub member_zero : {M I : Type 0} (dec : Discrete M) (value : I → List (ℕ × M)) (q : ℕ) → IsLinearCombination dec value q []
 member_zero {M} {I} dec value q = (span_law M I dec value q).none
 
-pub member_one : {M I : Type 0} (dec : Discrete M) (value : I → List (ℕ × M)) (q : ℕ) (i : I) → Member dec value q (value i)
+pub member_one : {M I : Type 0} (dec : Discrete M) (value : I → List (ℕ × M)) (q : ℕ) (i : I) → IsLinearCombination dec value q (value i)
 member_one {M} {I} dec value q = (span_law M I dec value q).instances
 
 -- a sum of things of which each is a sum of instances
-pub member_expand : {M I J : Type 0} (dec : Discrete M) (q : ℕ) (value : I → List (ℕ × M)) (other : J → List (ℕ × M)) → ((i : I) → Member dec other q (value i))
-    → (l : List (ℕ × I)) → Member dec other q (expand value l)
+pub member_expand : {M I J : Type 0} (dec : Discrete M) (q : ℕ) (value : I → List (ℕ × M)) (other : J → List (ℕ × M)) → ((i : I) → IsLinearCombination dec other q (value i))
+    → (l : List (ℕ × I)) → IsLinearCombination dec other q (expand value l)
 unfolding expand
 member_expand dec q value other h [] = member_zero dec other q
 member_expand dec q value other h (x ∷ l) =
     Member-append dec other q {e = scale x.0 (value x.1)} {f = expand value l} (Member-scale dec other q x.0 {e = value x.1} (h x.1)) (member_expand dec q value other h l)
 
 -- so where each instance is a sum of others, sums of the ones are sums of the others
-pub member_through : {M I J : Type 0} (dec : Discrete M) (q : ℕ) (value : I → List (ℕ × M)) (other : J → List (ℕ × M)) → ((i : I) → Member dec other q (value i))
-    → (e : List (ℕ × M)) → Member dec value q e → Member dec other q e
+pub member_through : {M I J : Type 0} (dec : Discrete M) (q : ℕ) (value : I → List (ℕ × M)) (other : J → List (ℕ × M)) → ((i : I) → IsLinearCombination dec other q (value i))
+    → (e : List (ℕ × M)) → IsLinearCombination dec value q e → IsLinearCombination dec other q e
 member_through dec q value other h e m = Member-same dec other q {e = e} {f = expand value m.uses} m.adds_up (member_expand dec q value other h m.uses)
 
 module _ {M : Type 0} (dec : Discrete M) (q : ℕ) where
   -- two terms at one monomial that cancel
-  pub two_gone : (a b : ℕ) (x y : M) → x ≡ y → Alike q (a + b) 0 → Same dec q ((a, x) ∷ ((b, y) ∷ [])) []
+  pub two_gone : (a b : ℕ) (x y : M) → x ≡ y → IsCongruent q (a + b) 0 → Same dec q ((a, x) ∷ ((b, y) ∷ [])) []
   unfolding coef
   two_gone a b x y e h t = rw e (go (dec y t))
     where
-      go : (d : Dec (y ≡ t)) → Alike q (hit d a + (hit d b + 0)) 0
+      go : (d : Dec (y ≡ t)) → IsCongruent q (hit d a + (hit d b + 0)) 0
       go (yes _) = let z : a + (b + 0) ≡ a + b = omega arith in rw z h
       go (no _) = refl
 
   -- two terms with alike coefficients
-  pub two_alike : (a b c d : ℕ) (x y : M) → Alike q a c → Alike q b d → Same dec q ((a, x) ∷ ((b, y) ∷ [])) ((c, x) ∷ ((d, y) ∷ []))
+  pub two_alike : (a b c d : ℕ) (x y : M) → IsCongruent q a c → IsCongruent q b d → Same dec q ((a, x) ∷ ((b, y) ∷ [])) ((c, x) ∷ ((d, y) ∷ []))
   unfolding coef
   two_alike a b c d x y h k t =
       alike_add q (hit (dec x t) a) (hit (dec x t) c) (hit (dec y t) b + 0) (hit (dec y t) d + 0) (alike_hit (dec x t) a c h)
       (alike_add q (hit (dec y t) b) (hit (dec y t) d) 0 0 (alike_hit (dec y t) b d k) refl)
     where
-      alike_hit : {C : Type 0} (z : Dec C) (u v : ℕ) → Alike q u v → Alike q (hit z u) (hit z v)
+      alike_hit : {C : Type 0} (z : Dec C) (u v : ℕ) → IsCongruent q u v → IsCongruent q (hit z u) (hit z v)
       alike_hit (yes _) u v e = e
       alike_hit (no _) u v e = refl
 
   module _ {I : Type 0} (value : I → List (ℕ × M)) where
     -- x minus c times y is a sum of instances
     abbrev pub Link : M → M → ℕ → Type 0
-    Link x y c = Member dec value q ((1, x) ∷ ((q * c, y) ∷ []))
+    Link x y c = IsLinearCombination dec value q ((1, x) ∷ ((q * c, y) ∷ []))
 
     pub link_refl : (x : M) → Link x x 1
     link_refl x = Member-same dec value q {e = (1, x) ∷ ((q * 1, x) ∷ [])} {f = []} (two_gone 1 (q * 1) x x refl (let z : 0 + (1 + q * 1) ≡ 1 + q * 1 = omega arith in rw z at (alike_drop q 0 1))) (member_zero dec value q)
@@ -58,7 +58,7 @@ module _ {M : Type 0} (dec : Discrete M) (q : ℕ) where
     pub link_move : (x y u v : M) (c : ℕ) → x ≡ u → y ≡ v → Link x y c → Link u v c
     link_move x y u v c e f h = subst (λ z. Link u z c) f (subst (λ z. Link z y c) e h)
 
-    pub link_alike : (x y : M) (c d : ℕ) → Alike q c d → Link x y c → Link x y d
+    pub link_alike : (x y : M) (c d : ℕ) → IsCongruent q c d → Link x y c → Link x y d
     link_alike x y c d h k = Member-same dec value q {e = (1, x) ∷ ((q * d, y) ∷ [])} {f = (1, x) ∷ ((q * c, y) ∷ [])}
         (two_alike 1 (q * d) 1 (q * c) x y refl (alike_mul q q q d c refl (sym h))) k
 
@@ -69,7 +69,7 @@ module _ {M : Type 0} (dec : Discrete M) (q : ℕ) where
         (Member-append dec value q {e = (1, x) ∷ ((q * c, y) ∷ [])} {f = scale c ((1, y) ∷ ((q * d, z) ∷ []))} h (Member-scale dec value q c {e = (1, y) ∷ ((q * d, z) ∷ [])} k))
       where
         adds : (A B C : Type 0) (u : Dec A) (v : Dec B) (w : Dec C)
-            → Alike q (hit u 1 + (hit w (q * (c * d)) + 0)) (hit u 1 + (hit v (q * c) + (hit v (c * 1) + (hit w (c * (q * d)) + 0))))
+            → IsCongruent q (hit u 1 + (hit w (q * (c * d)) + 0)) (hit u 1 + (hit v (q * c) + (hit v (c * 1) + (hit w (c * (q * d)) + 0))))
         adds A B C u v w =
             let one : c * 1 ≡ c = omega arith in
             let turn : c * (q * d) ≡ q * (c * d) = omega arith in

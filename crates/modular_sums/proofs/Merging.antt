@@ -3,11 +3,11 @@ use Rattle.std.proofs.Common.{◌≡◌, ℕ, zero, suc, ◌+◌, ◌-◌, ◌*�
 use mathlib.Core.List.{◌++◌}
 use Rattle.std.specs.declared.cmp.Ordering.{Ordering}
 use Rattle.std.specs.declared.cmp.Ordering.TheVariants.{Less}
-use Rattle.modular_sums.specs.Residues.{Alike}
+use Rattle.modular_sums.specs.Residues.{IsCongruent}
 use Rattle.modular_sums.specs.Sums.{hit, coef, scale, Same}
 use Rattle.modular_sums.proofs.Sums.{coef-append, coef-scale}
 use Rattle.modular_sums.proofs.Residues.{alike_add}
-use Rattle.modular_sums.specs.Falling.{IsAbove, Falls, HaveResidues, IsFalling}
+use Rattle.modular_sums.specs.Falling.{IsAbove, Falls, AreNonzeroResidues, IsFalling}
 use Rattle.modular_sums.specs.Merging.{unless_zero, IsMerging}
 
 module _ {M : Type 0} (compare : M → M → Ordering) where
@@ -43,7 +43,7 @@ module _ {M : Type 0} (compare : M → M → Ordering) where
 
 -- ---- coefficients
 
-alike_hit : {A : Type 0} (q : ℕ) (d : Dec A) (r a b c : ℕ) → Alike q r (a + c * b) → Alike q (hit d r) (hit d a + c * hit d b)
+alike_hit : {A : Type 0} (q : ℕ) (d : Dec A) (r a b c : ℕ) → IsCongruent q r (a + c * b) → IsCongruent q (hit d r) (hit d a + c * hit d b)
 alike_hit q (yes _) r a b c h = h
 alike_hit q (no _) r a b c h = let e : 0 + c * 0 ≡ 0 = omega arith in rw e refl
 
@@ -72,7 +72,7 @@ module _ {M : Type 0} (dec : Discrete M) where
     same_left (y ∷ made) left right x = ap (λ l. y ∷ l) (same_left made left right x)
 
     -- a term of the second sum
-    pub same_right : (made left right : List (ℕ × M)) (y : ℕ × M) (r : ℕ) → Alike q r (c * y.0)
+    pub same_right : (made left right : List (ℕ × M)) (y : ℕ × M) (r : ℕ) → IsCongruent q r (c * y.0)
         → Same dec q ((made ++ unless_zero r y.1) ++ (left ++ scale c right)) (made ++ (left ++ scale c (y ∷ right)))
     unfolding coef
     same_right made left right y r h t =
@@ -81,7 +81,7 @@ module _ {M : Type 0} (dec : Discrete M) where
         let front = coef-append dec made (unless_zero r y.1) t in
         let term = coef-unless_zero r y.1 t in
         let zero_first : c * y.0 ≡ 0 + c * y.0 = omega arith in
-        let here : Alike q (hit (dec y.1 t) r) (hit (dec y.1 t) 0 + c * hit (dec y.1 t) y.0) = alike_hit q (dec y.1 t) r 0 y.0 c (h ∙ ap (λ n. n % suc q) zero_first) in
+        let here : IsCongruent q (hit (dec y.1 t) r) (hit (dec y.1 t) 0 + c * hit (dec y.1 t) y.0) = alike_hit q (dec y.1 t) r 0 y.0 c (h ∙ ap (λ n. n % suc q) zero_first) in
         let none : hit (dec y.1 t) 0 ≡ 0 = hit-zero (dec y.1 t) in
         let rest = coef dec made t + (coef dec left t + c * coef dec right t) in
         let before : coef dec ((made ++ unless_zero r y.1) ++ (left ++ scale c right)) t ≡ rest + hit (dec y.1 t) r = omega (arith, new, front, term) in
@@ -89,7 +89,7 @@ module _ {M : Type 0} (dec : Discrete M) where
         ap (λ n. n % suc q) before ∙ alike_add q rest rest _ _ refl here ∙ ap (λ n. n % suc q) after
 
     -- two terms with one monomial
-    pub same_both : (made left right : List (ℕ × M)) (x y : ℕ × M) (r : ℕ) → y.1 ≡ x.1 → Alike q r (x.0 + c * y.0)
+    pub same_both : (made left right : List (ℕ × M)) (x y : ℕ × M) (r : ℕ) → y.1 ≡ x.1 → IsCongruent q r (x.0 + c * y.0)
         → Same dec q ((made ++ unless_zero r x.1) ++ (left ++ scale c right)) (made ++ ((x ∷ left) ++ scale c (y ∷ right)))
     unfolding coef
     same_both made left right x y r e h t =
@@ -98,7 +98,7 @@ module _ {M : Type 0} (dec : Discrete M) where
         let front = coef-append dec made (unless_zero r x.1) t in
         let term = coef-unless_zero r x.1 t in
         let other : hit (dec y.1 t) y.0 ≡ hit (dec x.1 t) y.0 = ap (λ m. hit (dec m t) y.0) e in
-        let here : Alike q (hit (dec x.1 t) r) (hit (dec x.1 t) x.0 + c * hit (dec x.1 t) y.0) = alike_hit q (dec x.1 t) r x.0 y.0 c h in
+        let here : IsCongruent q (hit (dec x.1 t) r) (hit (dec x.1 t) x.0 + c * hit (dec x.1 t) y.0) = alike_hit q (dec x.1 t) r x.0 y.0 c h in
         let rest = coef dec made t + (coef dec left t + c * coef dec right t) in
         let before : coef dec ((made ++ unless_zero r x.1) ++ (left ++ scale c right)) t ≡ rest + hit (dec x.1 t) r = omega (arith, new, front, term) in
         let after : rest + (hit (dec x.1 t) x.0 + c * hit (dec x.1 t) y.0) ≡ coef dec (made ++ ((x ∷ left) ++ scale c (y ∷ right))) t = omega (arith, old, ap (λ n. c * n) other) in
@@ -114,11 +114,11 @@ nothing_behind : {X : Type 0} (made : List X) → made ≡ made ++ []
 nothing_behind [] = refl
 nothing_behind (x ∷ made) = ap (λ k. x ∷ k) (nothing_behind made)
 
-pub residues_append : {M : Type 0} (p : ℕ) (k l : List (ℕ × M)) → HaveResidues p k → HaveResidues p l → HaveResidues p (k ++ l)
+pub residues_append : {M : Type 0} (p : ℕ) (k l : List (ℕ × M)) → AreNonzeroResidues p k → AreNonzeroResidues p l → AreNonzeroResidues p (k ++ l)
 residues_append p [] l h g = g
 residues_append p (x ∷ k) l h g = (h.0, h.1, residues_append p k l h.2 g)
 
-residues_unless_zero : {M : Type 0} (p r : ℕ) (m : M) → r < p → HaveResidues p (unless_zero r m)
+residues_unless_zero : {M : Type 0} (p r : ℕ) (m : M) → r < p → AreNonzeroResidues p (unless_zero r m)
 residues_unless_zero p zero m h = tt
 residues_unless_zero p (suc r) m h = (omega arith, h, tt)
 
@@ -144,7 +144,7 @@ module _ {M : Type 0} (compare : M → M → Ordering) (dec : Discrete M) (p c :
 
   -- a term of the second sum comes next, which is above what is left of the first
   pub right_step : (made left right : List (ℕ × M)) (y : ℕ × M) (r : ℕ) → IsMerging compare dec p c one other made left (y ∷ right) → IsAbove compare y.1 left
-      → r < p → Alike (p - 1) r (c * y.0) → IsMerging compare dec p c one other (made ++ unless_zero r y.1) left right
+      → r < p → IsCongruent (p - 1) r (c * y.0) → IsMerging compare dec p c one other (made ++ unless_zero r y.1) left right
   right_step made left right y r h a below alike = record {
     left_falls = falls_unless_zero made y r right left h.right_falls a h.left_falls;
     right_falls = falls_unless_zero made y r right right h.right_falls (above_next compare made y right h.right_falls) (falls_skip compare trans made y right h.right_falls);
@@ -156,7 +156,7 @@ module _ {M : Type 0} (compare : M → M → Ordering) (dec : Discrete M) (p c :
 
   -- two terms with one monomial come next
   pub both_step : (made left right : List (ℕ × M)) (x y : ℕ × M) (r : ℕ) → IsMerging compare dec p c one other made (x ∷ left) (y ∷ right) → y.1 ≡ x.1
-      → r < p → Alike (p - 1) r (x.0 + c * y.0) → IsMerging compare dec p c one other (made ++ unless_zero r x.1) left right
+      → r < p → IsCongruent (p - 1) r (x.0 + c * y.0) → IsMerging compare dec p c one other (made ++ unless_zero r x.1) left right
   both_step made left right x y r h e below alike = record {
     left_falls = falls_unless_zero made x r left left h.left_falls (above_next compare made x left h.left_falls) (falls_skip compare trans made x left h.left_falls);
     right_falls = falls_unless_zero made x r left right h.left_falls (subst (λ m. IsAbove compare m right) e (above_next compare made y right h.right_falls)) (falls_skip compare trans made y right h.right_falls);

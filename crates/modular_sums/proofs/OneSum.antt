@@ -4,7 +4,7 @@ use mathlib.Core.Path.{ap₂}
 use Rattle.std.proofs.Math.Nat.{mod-eq_of_lt}
 use Rattle.std.specs.declared.cmp.Ordering.{Ordering}
 use Rattle.std.specs.declared.cmp.Ordering.TheVariants.{Less}
-use Rattle.modular_sums.specs.Residues.{Alike}
+use Rattle.modular_sums.specs.Residues.{IsCongruent}
 use Rattle.modular_sums.specs.Sums.{hit, coef, Same, AllTerms}
 use Rattle.modular_sums.proofs.Residues.{alike_cancel}
 use Rattle.modular_sums.proofs.Coefficients.{coef_absent, coef_first, coef_nothing}
@@ -12,7 +12,7 @@ use Rattle.modular_sums.specs.Falling.{IsAbove, Falls, IsFalling, IsStrict}
 use Rattle.modular_sums.specs.FallingLaws.{FallingSums}
 
 -- a residue that is alike 0 is 0
-pub residue_zero : (p a : ℕ) → 0 < p → a < p → 0 < a → Alike (p - 1) a 0 → ⊥
+pub residue_zero : (p a : ℕ) → 0 < p → a < p → 0 < a → IsCongruent (p - 1) a 0 → ⊥
 residue_zero p a h l n e =
     let modulus : suc (p - 1) ≡ p = omega arith in
     let same : a % p ≡ 0 % p = subst (λ m. a % m ≡ 0 % m) modulus e in
@@ -20,7 +20,7 @@ residue_zero p a h l n e =
     let right : 0 % p ≡ 0 = mod-eq_of_lt h in
     omega (arith, same, left, right)
 
-residue_same : (p a b : ℕ) → 0 < p → a < p → b < p → Alike (p - 1) a b → a ≡ b
+residue_same : (p a b : ℕ) → 0 < p → a < p → b < p → IsCongruent (p - 1) a b → a ≡ b
 residue_same p a b h l m e =
     let modulus : suc (p - 1) ≡ p = omega arith in
     let same : a % p ≡ b % p = subst (λ k. a % k ≡ b % k) modulus e in
@@ -65,7 +65,7 @@ module _ {M : Type 0} (compare : M → M → Ordering) (dec : Discrete M) (stric
         by (inl h) =
             let left : coef dec (x ∷ k) x.1 ≡ x.0 = coef_first dec x.0 x.1 k (coef_below x.1 k f.falls.0 f.falls.1) in
             let right : coef dec (y ∷ l) x.1 ≡ 0 = coef_absent dec (y ∷ l) x.1 (apart, h) in
-            let same : Alike (p - 1) x.0 0 = ap (λ n. n % suc (p - 1)) (sym left) ∙ s x.1 ∙ ap (λ n. n % suc (p - 1)) right in
+            let same : IsCongruent (p - 1) x.0 0 = ap (λ n. n % suc (p - 1)) (sym left) ∙ s x.1 ∙ ap (λ n. n % suc (p - 1)) right in
             absurd (residue_zero p x.0 positive f.residues.1 f.residues.0 same)
 
     nothing_else : (x : ℕ × M) (k : List (ℕ × M)) → IsFalling compare p (x ∷ k) → Same dec (p - 1) (x ∷ k) [] → ⊥

@@ -6,13 +6,13 @@ use Rattle.modular_sums.specs.Sums.{coef, scale, Same}
 use Rattle.modular_sums.proofs.Residues.{alike_add}
 use Rattle.modular_sums.proofs.Sums.{coef-append}
 use Rattle.modular_sums.specs.RuleTables.{Table, rule_at}
-use Rattle.modular_sums.specs.PositionChains.{StandsIn, IsStep, IsChain}
+use Rattle.modular_sums.specs.PositionChains.{HasPosition, IsPositionStep, IsPositionChain}
 
 abbrev pub Sum : Type 0
 Sum = List (ℕ × ℕ)
 
 module _ (q : ℕ) where
-  pub stands_same : (d e : Sum) → Same ℕ_discrete q d e → (t : ℕ) → StandsIn q d t → StandsIn q e t
+  pub stands_same : (d e : Sum) → Same ℕ_discrete q d e → (t : ℕ) → HasPosition q d t → HasPosition q e t
   stands_same d e h t s z = s (h t ∙ z)
 
   pub same_added : (d e f : Sum) → Same ℕ_discrete q d e → Same ℕ_discrete q (d ++ f) (e ++ f)
@@ -20,11 +20,11 @@ module _ (q : ℕ) where
 
   module _ (table : Table) where
     -- the last sum may be written anew
-    pub last_same : (steps e f g : Sum) → Same ℕ_discrete q f g → IsChain q table e steps f → IsChain q table e steps g
+    pub last_same : (steps e f g : Sum) → Same ℕ_discrete q f g → IsPositionChain q table e steps f → IsPositionChain q table e steps g
     last_same [] e f g h c = λ t. c t ∙ h t
     last_same (x ∷ l) e f g h c = (c.0, last_same l (e ++ scale (q * x.0) (rule_at table x.1)) f g h c.1)
 
-    step_same : (d e : Sum) (c at : ℕ) → Same ℕ_discrete q d e → IsStep q table e c at → IsStep q table d c at
+    step_same : (d e : Sum) (c at : ℕ) → Same ℕ_discrete q d e → IsPositionStep q table e c at → IsPositionStep q table d c at
     step_same d e c at h k = record {
       there = stands_same e d (λ t. sym (h t)) at k.there;
       ruled = k.ruled;
@@ -33,7 +33,7 @@ module _ (q : ℕ) where
     }
 
     -- and so may the first
-    pub first_same : (steps d e f : Sum) → Same ℕ_discrete q d e → IsChain q table e steps f → IsChain q table d steps f
+    pub first_same : (steps d e f : Sum) → Same ℕ_discrete q d e → IsPositionChain q table e steps f → IsPositionChain q table d steps f
     first_same [] d e f h c = λ t. h t ∙ c t
     first_same (x ∷ l) d e f h c = (
       step_same d e x.0 x.1 h c.0,
@@ -41,6 +41,6 @@ module _ (q : ℕ) where
           (same_added d e (scale (q * x.0) (rule_at table x.1)) h) c.1,
     )
 
-    pub joined : (first second e f g : Sum) → IsChain q table e first f → IsChain q table f second g → IsChain q table e (first ++ second) g
+    pub joined : (first second e f g : Sum) → IsPositionChain q table e first f → IsPositionChain q table f second g → IsPositionChain q table e (first ++ second) g
     joined [] second e f g c k = first_same second e f g c k
     joined (x ∷ l) second e f g c k = (c.0, joined l second (e ++ scale (q * x.0) (rule_at table x.1)) f g c.1 k)

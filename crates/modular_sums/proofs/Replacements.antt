@@ -2,7 +2,7 @@
 use Rattle.std.proofs.Common.{◌≡◌, ℕ, suc, ◌+◌, ◌*◌, ◌%◌, List, [], ◌∷◌, arith, refl, sym, ◌∙◌, ap, inl, inr, ◌⊎◌}
 use mathlib.Core.List.{◌++◌}
 use mathlib.Core.Path.{ap₂}
-use Rattle.modular_sums.specs.Residues.{Alike}
+use Rattle.modular_sums.specs.Residues.{IsCongruent}
 use Rattle.modular_sums.specs.Sums.{hit, coef, scale, Same, expand, moved}
 use Rattle.modular_sums.proofs.Residues.{alike_drop}
 use Rattle.modular_sums.proofs.Sums.{expand-moved, hit-mul, coef-append, coef-scale, coef-expand_append, coef-expand_scale}
@@ -93,7 +93,7 @@ module _ {M : Type 0} (dec : Discrete M) where
           )
           (settle _ _ _ _ (balance t))
         where
-          settle : (u v w z : ℕ) → u + v ≡ w + z → Alike q (w + q * u) (v + q * z)
+          settle : (u v w z : ℕ) → u + v ≡ w + z → IsCongruent q (w + q * u) (v + q * z)
           settle u v w z e =
               let k : q * (u + v) ≡ q * (w + z) = ap (λ n. q * n) e in
               let s : w + q * u + (z + q * z) ≡ v + q * z + (u + q * u) = omega arith in

@@ -4,7 +4,7 @@ use mathlib.Core.Path.{ap₂}
 use mathlib.Core.List.{◌++◌}
 use native.Mathlib.Decide.{ℕ_discrete}
 use Rattle.modular_sums.specs.Lists.{Mem, holds, has_by}
-use Rattle.modular_sums.specs.Residues.{Alike}
+use Rattle.modular_sums.specs.Residues.{IsCongruent}
 use Rattle.modular_sums.specs.Sums.{hit, coef, Same}
 use Rattle.modular_sums.proofs.Lists.{both_true, has_by_mem, mem_has_by, mem_left, mem_right}
 
@@ -36,19 +36,19 @@ module _ {M : Type 0} (dec : Discrete M) where
       missed (yes s) = absurd (h (inl (sym s)))
       missed (no _) = refl
 
-  agreed : (q : ℕ) (e f : List (ℕ × M)) (l : List M) → agree_at dec q e f l ≡ true → (t : M) → Mem t l → Alike q (coef dec e t) (coef dec f t)
+  agreed : (q : ℕ) (e f : List (ℕ × M)) (l : List M) → agree_at dec q e f l ≡ true → (t : M) → Mem t l → IsCongruent q (coef dec e t) (coef dec f t)
   agreed q e f [] h t m = absurd m
   agreed q e f (u ∷ l) h t m = go (both_true (is_yes (ℕ_discrete (coef dec e u % suc q) (coef dec f u % suc q))) (agree_at dec q e f l) h) (λ g n. agreed q e f l g t n) m
     where
       go : (is_yes (ℕ_discrete (coef dec e u % suc q) (coef dec f u % suc q)) ≡ true) × (agree_at dec q e f l ≡ true)
-          → (agree_at dec q e f l ≡ true → Mem t l → Alike q (coef dec e t) (coef dec f t)) → (t ≡ u) ⊎ Mem t l → Alike q (coef dec e t) (coef dec f t)
+          → (agree_at dec q e f l ≡ true → Mem t l → IsCongruent q (coef dec e t) (coef dec f t)) → (t ≡ u) ⊎ Mem t l → IsCongruent q (coef dec e t) (coef dec f t)
       go b ih (inl s) = ap (λ v. coef dec e v % suc q) s ∙ yes_of (ℕ_discrete (coef dec e u % suc q) (coef dec f u % suc q)) b.0 ∙ ap (λ v. coef dec f v % suc q) (sym s)
       go b ih (inr n) = ih b.1 n
 
   pub same_if_agree : (q : ℕ) (e f : List (ℕ × M)) → agree_at dec q e f (monomials e ++ monomials f) ≡ true → Same dec q e f
   same_if_agree q e f h t = go (has_by dec (monomials e ++ monomials f) t) refl
     where
-      go : (b : Bool) → has_by dec (monomials e ++ monomials f) t ≡ b → Alike q (coef dec e t) (coef dec f t)
+      go : (b : Bool) → has_by dec (monomials e ++ monomials f) t ≡ b → IsCongruent q (coef dec e t) (coef dec f t)
       go true k = agreed q e f (monomials e ++ monomials f) h t (has_by_mem dec (monomials e ++ monomials f) t k)
       go false k = ap (λ n. n % suc q) (none e (λ m. mem_left t (monomials e) (monomials f) m) ∙ sym (none f (λ m. mem_right t (monomials e) (monomials f) m)))
         where

@@ -2,9 +2,9 @@
 use Rattle.std.proofs.Common.{suc, ◌%◌, sym, ap, ◌≡◌, ℕ, ◌+◌, ◌*◌, List, [], ◌∷◌, arith, refl, ◌∙◌}
 use mathlib.Core.List.{◌++◌}
 use mathlib.Core.Path.{ap₂}
-use Rattle.modular_sums.specs.Sums.{moved, AllTerms, hit, coef, scale, Same, expand, Member}
+use Rattle.modular_sums.specs.Sums.{moved, AllTerms, hit, coef, scale, Same, expand, IsLinearCombination}
 use Rattle.modular_sums.proofs.Residues.{alike_drop, alike_add, alike_mul, alike_gone}
-use Rattle.modular_sums.specs.Residues.{Alike}
+use Rattle.modular_sums.specs.Residues.{IsCongruent}
 
 -- what a number counts at a fact that holds, and at one that does not
 pub hit-yes : {A : Type 0} (d : Dec A) (c : ℕ) → A → hit d c ≡ c
@@ -50,28 +50,28 @@ module _ {M : Type 0} (dec : Discrete M) where
     coef-expand_scale c [] t = omega arith
     coef-expand_scale c (x ∷ l) t = simp (coef-append, coef-scale) (omega (arith, coef-expand_scale c l t))
 
-    pub Member-append : (q : ℕ) {e f : List (ℕ × M)} → Member dec value q e → Member dec value q f → Member dec value q (e ++ f)
+    pub Member-append : (q : ℕ) {e f : List (ℕ × M)} → IsLinearCombination dec value q e → IsLinearCombination dec value q f → IsLinearCombination dec value q (e ++ f)
     Member-append q {e} {f} m n = record {
       uses = m.uses ++ n.uses;
       adds_up = λ t. rw (coef-append e f t, coef-expand_append m.uses n.uses t) (alike_add q _ _ _ _ (m.adds_up t) (n.adds_up t));
     }
 
-    pub Member-scale : (q c : ℕ) {e : List (ℕ × M)} → Member dec value q e → Member dec value q (scale c e)
+    pub Member-scale : (q c : ℕ) {e : List (ℕ × M)} → IsLinearCombination dec value q e → IsLinearCombination dec value q (scale c e)
     Member-scale q c {e} m = record {
       uses = scale c m.uses;
       adds_up = λ t. rw (coef-scale c e t, coef-expand_scale c m.uses t) (alike_mul q c c _ _ refl (m.adds_up t));
     }
 
-    pub Member-same : (q : ℕ) {e f : List (ℕ × M)} → Same dec q e f → Member dec value q f → Member dec value q e
+    pub Member-same : (q : ℕ) {e f : List (ℕ × M)} → Same dec q e f → IsLinearCombination dec value q f → IsLinearCombination dec value q e
     Member-same q s m = record { uses = m.uses; adds_up = λ t. s t ∙ m.adds_up t }
 
-turn : (q a b c : ℕ) → Alike q (b + q * a) c → Alike q (a + q * b) (q * c)
+turn : (q a b c : ℕ) → IsCongruent q (b + q * a) c → IsCongruent q (a + q * b) (q * c)
 turn q a b c h =
-    let k : Alike q (q * (b + q * a)) (q * c) = alike_mul q q q _ _ refl h in
-    let l : Alike q (q * (b + q * a) + q * a) (q * c + q * a) = alike_add q _ _ _ _ k refl in
+    let k : IsCongruent q (q * (b + q * a)) (q * c) = alike_mul q q q _ _ refl h in
+    let l : IsCongruent q (q * (b + q * a) + q * a) (q * c + q * a) = alike_add q _ _ _ _ k refl in
     let e : q * (b + q * a) + q * a ≡ q * b + (q * a + q * (q * a)) = omega arith in
-    let m : Alike q (q * b) (q * c + q * a) = sym (alike_drop q (q * b) (q * a)) ∙ (rw e at l) in
-    let o : Alike q (q * b + a) (q * c + q * a + a) = alike_add q _ _ a a m refl in
+    let m : IsCongruent q (q * b) (q * c + q * a) = sym (alike_drop q (q * b) (q * a)) ∙ (rw e at l) in
+    let o : IsCongruent q (q * b + a) (q * c + q * a + a) = alike_add q _ _ a a m refl in
     let e1 : q * b + a ≡ a + q * b = omega arith in
     let e2 : q * c + q * a + a ≡ q * c + (a + q * a) = omega arith in
     (rw (e1, e2) at o) ∙ alike_drop q (q * c) a
@@ -80,11 +80,11 @@ module _ {M : Type 0} (dec : Discrete M) (q : ℕ) where
   -- a difference the other way round
   pub Same-turned : (e f g : List (ℕ × M)) → Same dec q (e ++ scale q f) g → Same dec q (f ++ scale q e) (scale q g)
   Same-turned e f g h t =
-      let k : Alike q (coef dec e t + q * coef dec f t) (coef dec g t) = rw (coef-append dec e (scale q f) t, coef-scale dec q f t) at (h t) in
+      let k : IsCongruent q (coef dec e t + q * coef dec f t) (coef dec g t) = rw (coef-append dec e (scale q f) t, coef-scale dec q f t) at (h t) in
       rw (coef-append dec f (scale q e) t, coef-scale dec q e t, coef-scale dec q g t) (turn q (coef dec f t) (coef dec e t) (coef dec g t) k)
 
   -- a sum less itself
-  pub Same-cancelled : (e : List (ℕ × M)) (t : M) → Alike q (coef dec (e ++ scale q e) t) 0
+  pub Same-cancelled : (e : List (ℕ × M)) (t : M) → IsCongruent q (coef dec (e ++ scale q e) t) 0
   Same-cancelled e t = rw (coef-append dec e (scale q e) t, coef-scale dec q e t) (alike_gone q (coef dec e t))
 
 -- a multiple of a sum of instances is the sum of the multiples

@@ -2,21 +2,21 @@
 use Rattle.std.specs.Prelude.{ℕ, ◌≡◌, ◌+◌, ◌*◌, ◌<◌, List, [], ◌∷◌, ◌++◌}
 use Rattle.std.proofs.Common.{◌⊎◌, Bool, true}
 use Rattle.modular_sums.specs.Lists.{Mem}
-use Rattle.modular_sums.specs.Residues.{Alike}
-use Rattle.modular_sums.specs.Sums.{coef, scale, Same, expand, Member, moved}
+use Rattle.modular_sums.specs.Residues.{IsCongruent}
+use Rattle.modular_sums.specs.Sums.{coef, scale, Same, expand, IsLinearCombination, moved}
 use Rattle.modular_sums.specs.Ranks.{count_less}
-use Rattle.modular_sums.specs.Diamond.{HaveHosts, Meet, Led}
+use Rattle.modular_sums.specs.Diamond.{HaveLeadingTerms, Meet, Led}
 
 -- Being alike modulo suc q is an equivalence that sums and products keep, q times a number is its negative,
 -- and what is added may be cancelled.
 pub record ResidueLaw (q : ℕ) : Type 0 where
-  pub reflexive : (a : ℕ) → Alike q a a
-  pub symmetric : (a b : ℕ) → Alike q a b → Alike q b a
-  pub transitive : (a b c : ℕ) → Alike q a b → Alike q b c → Alike q a c
-  pub sums : (a b c d : ℕ) → Alike q a b → Alike q c d → Alike q (a + c) (b + d)
-  pub products : (a b c d : ℕ) → Alike q a b → Alike q c d → Alike q (a * c) (b * d)
-  pub negative : (a : ℕ) → Alike q (a + q * a) 0
-  pub cancelled : (a b c : ℕ) → Alike q (a + c) (b + c) → Alike q a b
+  pub reflexive : (a : ℕ) → IsCongruent q a a
+  pub symmetric : (a b : ℕ) → IsCongruent q a b → IsCongruent q b a
+  pub transitive : (a b c : ℕ) → IsCongruent q a b → IsCongruent q b c → IsCongruent q a c
+  pub sums : (a b c d : ℕ) → IsCongruent q a b → IsCongruent q c d → IsCongruent q (a + c) (b + d)
+  pub products : (a b c d : ℕ) → IsCongruent q a b → IsCongruent q c d → IsCongruent q (a * c) (b * d)
+  pub negative : (a : ℕ) → IsCongruent q (a + q * a) 0
+  pub cancelled : (a b c : ℕ) → IsCongruent q (a + c) (b + c) → IsCongruent q a b
 
 -- the same, for all of them
 abbrev pub Residues : Type 0
@@ -39,11 +39,11 @@ Sums M = (dec : Discrete M) (q : ℕ) → SumLaw M dec q
 
 -- The span of instances holds each instance and is closed under sums, multiples and sameness.
 pub record SpanLaw (M I : Type 0) (dec : Discrete M) (value : I → List (ℕ × M)) (q : ℕ) : Type 0 where
-  pub instances : (i : I) → Member dec value q (value i)
-  pub none : Member dec value q []
-  pub added : (e f : List (ℕ × M)) → Member dec value q e → Member dec value q f → Member dec value q (e ++ f)
-  pub scaled : (c : ℕ) (e : List (ℕ × M)) → Member dec value q e → Member dec value q (scale c e)
-  pub same : (e f : List (ℕ × M)) → Same dec q e f → Member dec value q f → Member dec value q e
+  pub instances : (i : I) → IsLinearCombination dec value q (value i)
+  pub none : IsLinearCombination dec value q []
+  pub added : (e f : List (ℕ × M)) → IsLinearCombination dec value q e → IsLinearCombination dec value q f → IsLinearCombination dec value q (e ++ f)
+  pub scaled : (c : ℕ) (e : List (ℕ × M)) → IsLinearCombination dec value q e → IsLinearCombination dec value q (scale c e)
+  pub same : (e f : List (ℕ × M)) → Same dec q e f → IsLinearCombination dec value q f → IsLinearCombination dec value q e
 
 -- the same, for all of them
 abbrev pub Spans : Type 0 → Type 0 → Type 0
@@ -54,7 +54,7 @@ abbrev pub Images : Type 0 → Type 0 → Type 0 → Type 0 → Type 0
 Images M N I J = (decm : Discrete M) (decn : Discrete N) (q : ℕ) (f : M → N)
     → ((e g : List (ℕ × M)) → Same decm q e g → Same decn q (moved f e) (moved f g))
     × ((vi : I → List (ℕ × M)) (vj : J → List (ℕ × N)) (g : I → J) → ((i : I) → vj (g i) ≡ moved f (vi i))
-    → (e : List (ℕ × M)) → Member decm vi q e → Member decn vj q (moved f e))
+    → (e : List (ℕ × M)) → IsLinearCombination decm vi q e → IsLinearCombination decn vj q (moved f e))
 
 -- In a list whose things are compared by a strict total order, how many are less is a rank:
 -- less for a lesser thing, and one for one thing alone.
@@ -67,10 +67,10 @@ Ranks X = (less : X → X → Bool)
 
 -- Monic instances of which any two with one host differ by a sum of instances with lower hosts, where hosts of one rank are one:
 -- each sum of instances is zero, or its greatest monomial is the host of an instance.
-abbrev pub DiamondLemma : Type 0 → Type 0 → Type 0
-DiamondLemma M I = (dec : Discrete M) (rank : M → ℕ) (q : ℕ) (value : I → List (ℕ × M)) (host : I → M) → HaveHosts dec rank q value host
-    → ((i j : I) → host i ≡ host j → Meet dec rank q value host i j) → ((i j : I) → rank (host i) ≡ rank (host j) → host i ≡ host j)
-    → (uses : List (ℕ × I)) → Same dec q (expand value uses) [] ⊎ Led dec rank q host (expand value uses)
+abbrev pub AbstractDiamondLemma : Type 0 → Type 0 → Type 0
+AbstractDiamondLemma M I = (dec : Discrete M) (rank : M → ℕ) (q : ℕ) (value : I → List (ℕ × M)) (lead : I → M) → HaveLeadingTerms dec rank q value lead
+    → ((i j : I) → lead i ≡ lead j → Meet dec rank q value lead i j) → ((i j : I) → rank (lead i) ≡ rank (lead j) → lead i ≡ lead j)
+    → (uses : List (ℕ × I)) → Same dec q (expand value uses) [] ⊎ Led dec rank q lead (expand value uses)
 
 -- Two independent replacements, of a by a + g and of b by b + h, in a monomial made of both:
 -- their difference is the sum of the second at each monomial of g less the sum of the first at each monomial of h.

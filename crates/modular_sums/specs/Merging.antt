@@ -4,7 +4,7 @@ use Rattle.std.proofs.Common.{zero, suc}
 use mathlib.Core.List.{◌++◌}
 use Rattle.std.specs.declared.cmp.Ordering.{Ordering}
 use Rattle.modular_sums.specs.Sums.{scale, Same}
-use Rattle.modular_sums.specs.Falling.{Falls, HaveResidues}
+use Rattle.modular_sums.specs.Falling.{Falls, AreNonzeroResidues}
 
 -- the term, where its number isn't 0
 abbrev pub unless_zero : {M : Type 0} → ℕ → M → List (ℕ × M)
@@ -16,7 +16,7 @@ unless_zero (suc c) m = (suc c, m) ∷ []
 pub record IsMerging {M : Type 0} (compare : M → M → Ordering) (dec : Discrete M) (p c : ℕ) (one other made left right : List (ℕ × M)) : Type 0 where
   pub left_falls : Falls compare (made ++ left)
   pub right_falls : Falls compare (made ++ right)
-  pub made_residues : HaveResidues p made
-  pub left_residues : HaveResidues p left
-  pub right_residues : HaveResidues p right
+  pub made_residues : AreNonzeroResidues p made
+  pub left_residues : AreNonzeroResidues p left
+  pub right_residues : AreNonzeroResidues p right
   pub adds_up : Same dec (p - 1) (made ++ (left ++ scale c right)) (one ++ scale c other)

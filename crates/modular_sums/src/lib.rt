@@ -1,7 +1,7 @@
 //! Formal sums with coefficients modulo a prime: definitions and laws, without code.
 #![tactic(auto)]
 
-ghost use Rattle.modular_sums.specs.Laws.{DiamondLemma, Images, Ranks, Replacements, Residues, Spans, Sums};
+ghost use Rattle.modular_sums.specs.Laws.{AbstractDiamondLemma, Images, Ranks, Replacements, Residues, Spans, Sums};
 ghost use Rattle.modular_sums.specs.FallingLaws.{FallingSums};
 ghost use Rattle.modular_sums.specs.PositionLaws.{PositionChainsJoin};
 ghost use Rattle.modular_sums.specs.PositionRows.{RowsAreSums};
@@ -33,7 +33,7 @@ pub fn counted_ranks<X>()
 
 /// Law: the diamond lemma over any monomials with a rank.
 pub fn diamond_lemma<M, I>()
-    ensures law { DiamondLemma M I }
+    ensures law { AbstractDiamondLemma M I }
 {}
 
 /// Law: two independent replacements differ by sums of the other one at lower monomials.

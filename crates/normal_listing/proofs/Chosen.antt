@@ -10,7 +10,7 @@ use Rattle.modular_sums.proofs.Lists.{mem_left, mem_right}
 use Rattle.normal_listing.specs.declared.found.Found.{Found}
 use Rattle.normal_listing.specs.declared.parts.Part.{Part}
 use Rattle.normal_listing.specs.Choices.{choices, each_before, entry}
-use Rattle.normal_listing.specs.Found.{Adds}
+use Rattle.normal_listing.specs.Found.{AddsChosen}
 use Rattle.normal_listing.proofs.Adding.{adds_both, map_joined}
 use Rattle.shuffle_normal_forms.proofs.Filters.{nothing_behind}
 
@@ -53,17 +53,17 @@ module _ {X : Type 0} (on : List (List X)) (parted : List (List Part)) where
 
 module _ (test : List ℕ → Bool) (word : List ℕ → List ℕ) where
   pub next_found : {X : Type 0} (f : List ℕ → List ℕ) (F : X → List (List ℕ)) (xs : List X) (at : ℕ) (x : X) (a b c : Found) → at < length xs → x ≡ get_or xs at x
-      → Adds test word (map f (flat_map F (take at xs))) a b → Adds test word (map f (F x)) b c → Adds test word (map f (flat_map F (take (at + 1) xs))) a c
+      → AddsChosen test word (map f (flat_map F (take at xs))) a b → AddsChosen test word (map f (F x)) b c → AddsChosen test word (map f (flat_map F (take (at + 1) xs))) a c
   next_found f F xs at x a b c h e g k =
-      subst (λ l. Adds test word l a c)
+      subst (λ l. AddsChosen test word l a c)
       (sym (map_joined f (flat_map F (take at xs)) (F x))
       ∙ ap (map f) (ap (λ y. flat_map F (take at xs) ++ F y) e ∙ ap (λ l. flat_map F (take at xs) ++ l) (sym (nothing_behind (F (get_or xs at x))))
       ∙ sym (flat_map-append F (take at xs) (get_or xs at x ∷ [])) ∙ ap (flat_map F) (sym (take_more xs at x h))))
       (adds_both test word (map f (flat_map F (take at xs))) (map f (F x)) a b c g k)
 
   pub all_found : {X : Type 0} (f : List ℕ → List ℕ) (F : X → List (List ℕ)) (xs : List X) (at : ℕ) (l : List (List ℕ)) (a b : Found) → length xs ≤ at → l ≡ flat_map F xs
-      → Adds test word (map f (flat_map F (take at xs))) a b → Adds test word (map f l) a b
-  all_found f F xs at l a b h e g = subst (λ m. Adds test word (map f m) a b) (ap (flat_map F) (take_all at xs h) ∙ sym e) g
+      → AddsChosen test word (map f (flat_map F (take at xs))) a b → AddsChosen test word (map f l) a b
+  all_found f F xs at l a b h e g = subst (λ m. AddsChosen test word (map f m) a b) (ap (flat_map F) (take_all at xs h) ∙ sym e) g
 
 -- ---- one more input
 

@@ -8,7 +8,7 @@ use Rattle.labelled_trees.specs.Meaning.{tree_of}
 use Rattle.labelled_trees.specs.declared.Tree as program
 use Rattle.labelled_trees.specs.declared.Tree.TheVariants.{Leaf, Node}
 use Rattle.labelled_trees.proofs.ProgramTrees.{tree_of-leaf, tree_of-node}
-use Rattle.normal_listing.specs.Places.{IsSymbol, IsWord}
+use Rattle.normal_listing.specs.Places.{IsSymbol, IsShortWord}
 use Rattle.normal_listing.specs.Words.{symbols, symbols_row}
 use Rattle.normal_listing.proofs.Places.{length_joined}
 
@@ -51,7 +51,7 @@ front_are [] m h = tt
 front_are (x ∷ l) m h = (h.0, front_are l m h.1)
 
 -- a part of a word is a word
-pub part_word : (word part others whole : List ℕ) → word ++ (part ++ others) ≡ whole → IsWord whole → IsWord part × (length word + length part ≤ 25)
+pub part_word : (word part others whole : List ℕ) → word ++ (part ++ others) ≡ whole → IsShortWord whole → IsShortWord part × (length word + length part ≤ 25)
 part_word word part others whole e h =
     let both = length_joined word (part ++ others) in
     let rest = length_joined part others in
@@ -60,5 +60,5 @@ part_word word part others whole e h =
     (record { few = omega (arith, both, rest, same, few); symbols = front_are part others (behind_are word (part ++ others) (subst (AllByRecursion IsSymbol) (sym e) h.symbols)) }, omega (arith, both, rest, same, few))
 
 -- the first symbol of a word
-pub first_symbol : (s : ℕ) (l whole : List ℕ) → whole ≡ s ∷ l → IsWord whole → IsSymbol s
+pub first_symbol : (s : ℕ) (l whole : List ℕ) → whole ≡ s ∷ l → IsShortWord whole → IsSymbol s
 first_symbol s l whole e h = (subst (AllByRecursion IsSymbol) e h.symbols).0

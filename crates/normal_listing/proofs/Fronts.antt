@@ -12,7 +12,7 @@ use Rattle.symmetric_trees.specs.declared.generators.Generator.{Generator}
 use Rattle.presentation_text.specs.TreeText.{tree_text}
 use Rattle.presentation_text.proofs.TreeTokens.{arity_in}
 use Rattle.presentation_text.proofs.TreePrinting.{marked_text, marked_step}
-use Rattle.normal_listing.specs.Words.{symbols, symbols_row, IsDigit}
+use Rattle.normal_listing.specs.Words.{symbols, symbols_row, IsLeafDigit}
 use Rattle.normal_listing.proofs.Combining.{nothing_behind}
 use Rattle.normal_listing.specs.WordTexts.{IsSpelt, BeginsWithTree}
 
@@ -55,7 +55,7 @@ width_of_inputs : (r : Row ℕ) → length (inputs r) ≡ width r
 width_of_inputs none = refl
 width_of_inputs (more t r) = ap suc (width_of_inputs r)
 
-spelt_inputs : (generators : List Generator) (r : Row ℕ) → labelled.FitsRow (arity_in generators) r → AllRow r IsDigit → AreSpelt generators (inputs r)
+spelt_inputs : (generators : List Generator) (r : Row ℕ) → labelled.FitsRow (arity_in generators) r → AllRow r IsLeafDigit → AreSpelt generators (inputs r)
 spelt_inputs generators none f d = tt
 spelt_inputs generators (more t r) f d = (record { fits = f.0; leaves = d.0 }, spelt_inputs generators r f.1 d.1)
 

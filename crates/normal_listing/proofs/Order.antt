@@ -8,7 +8,7 @@ use Rattle.std.specs.Ordering.{nat_cmp, ordering_then}
 use Rattle.std.specs.Cmp.Lexicographic.{slice_cmp}
 use Rattle.std.proofs.Math.Nat.{mul-le-mul_right}
 use Rattle.std.proofs.lemmas.Bool.Decides.{nat_tests}
-use Rattle.normal_listing.specs.Places.{IsSymbol, at_places, IsWord, number_of}
+use Rattle.normal_listing.specs.Places.{IsSymbol, at_places, IsShortWord, number_of}
 use Rattle.normal_listing.proofs.Places.{below_places, places_pos}
 
 pub less_is : (x y : ℕ) → x < y → nat_cmp x y ≡ Less
@@ -54,6 +54,6 @@ places_compare (suc k) (s ∷ l) (t ∷ m) h g e f =
     ∙ ap (ordering_then (nat_cmp s t)) (places_compare k l m h.1 g.1 (omega (arith, e)) (omega (arith, f)))
 
 -- words compare as their numbers do
-pub numbers_compare : (l m : List ℕ) → IsWord l → IsWord m → nat_cmp (number_of l) (number_of m) ≡ slice_cmp nat_cmp l m
+pub numbers_compare : (l m : List ℕ) → IsShortWord l → IsShortWord m → nat_cmp (number_of l) (number_of m) ≡ slice_cmp nat_cmp l m
 unfolding number_of
 numbers_compare l m h g = places_compare 25 l m h.symbols g.symbols h.few g.few

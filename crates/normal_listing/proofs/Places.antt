@@ -4,7 +4,7 @@ use mathlib.Core.List.{◌++◌}
 use Rattle.std.specs.List.{AllByRecursion}
 use Rattle.std.proofs.Math.Nat.{pow-succ', pow-zero, zero-div, mul-le-mul_right, mul-div_cancel, mod-eq_of_lt, zero-mul}
 use Rattle.std.proofs.lemmas.Nat.{pow-add, div-mul-add, mod-mul-add}
-use Rattle.normal_listing.specs.Places.{IsSymbol, at_places, before, from_places, IsWord, number_of, word_in}
+use Rattle.normal_listing.specs.Places.{IsSymbol, at_places, before, from_places, IsShortWord, number_of, word_in}
 
 pub places_pos : (k : ℕ) → 0 < 32 ^ k
 places_pos zero = let e = pow-zero 32 in omega (arith, e)
@@ -82,15 +82,15 @@ five_bits (suc n) =
 
 -- ---- words of 25 places
 
-pub read_word : (l : List ℕ) → IsWord l → word_in (number_of l) ≡ l
+pub read_word : (l : List ℕ) → IsShortWord l → word_in (number_of l) ≡ l
 unfolding number_of word_in
 read_word l h = read_back 25 l h.symbols h.few
 
-pub is_word : (w : ℕ) → IsWord (word_in w)
+pub is_word : (w : ℕ) → IsShortWord (word_in w)
 unfolding word_in
 is_word w = let r = symbols_read 25 w in record { few = r.1; symbols = r.0 }
 
-pub word_small : (l : List ℕ) → IsWord l → number_of l < 2 ^ 125
+pub word_small : (l : List ℕ) → IsShortWord l → number_of l < 2 ^ 125
 unfolding number_of
 word_small l h = below_places 25 l h.symbols
 
@@ -111,18 +111,18 @@ pub number_none : number_of [] ≡ 0
 unfolding number_of
 number_none = refl
 
-pub first_of : (s : ℕ) (l : List ℕ) → IsWord (s ∷ l) → number_of (s ∷ l) / 2 ^ 120 ≡ s
+pub first_of : (s : ℕ) (l : List ℕ) → IsShortWord (s ∷ l) → number_of (s ∷ l) / 2 ^ 120 ≡ s
 unfolding number_of
 first_of s l h = div-mul-add s (2 ^ 120) (at_places 24 l) (below_places 24 l h.symbols.1)
 
-pub rest_of : (s : ℕ) (l : List ℕ) → IsWord (s ∷ l) → number_of (s ∷ l) % 2 ^ 120 * 32 ≡ number_of l
+pub rest_of : (s : ℕ) (l : List ℕ) → IsShortWord (s ∷ l) → number_of (s ∷ l) % 2 ^ 120 * 32 ≡ number_of l
 unfolding number_of
 rest_of s l h =
     let few = h.few in
     ap (λ r. r * 32) (mod-mul-add s (2 ^ 120) (at_places 24 l) (below_places 24 l h.symbols.1)) ∙ sym (more_places 24 1 25 l refl (omega (arith, few)))
 
 -- parts of words are words
-pub rest_word : (s : ℕ) (l : List ℕ) → IsWord (s ∷ l) → IsWord l
+pub rest_word : (s : ℕ) (l : List ℕ) → IsShortWord (s ∷ l) → IsShortWord l
 rest_word s l h = let few = h.few in record { few = omega (arith, few); symbols = h.symbols.1 }
 
 pub all_joined : (l m : List ℕ) → AllByRecursion IsSymbol l → AllByRecursion IsSymbol m → AllByRecursion IsSymbol (l ++ m)
@@ -133,5 +133,5 @@ pub length_joined : (l m : List ℕ) → length (l ++ m) ≡ length l + length m
 length_joined [] m = omega arith
 length_joined (s ∷ l) m = let e = length_joined l m in omega (arith, e)
 
-pub joined_word : (l m : List ℕ) → IsWord l → IsWord m → length l + length m ≤ 25 → IsWord (l ++ m)
+pub joined_word : (l m : List ℕ) → IsShortWord l → IsShortWord m → length l + length m ≤ 25 → IsShortWord (l ++ m)
 joined_word l m a b f = let e = length_joined l m in record { few = omega (arith, e, f); symbols = all_joined l m a.symbols b.symbols }

@@ -3,7 +3,7 @@ use Rattle.std.proofs.Common.{◌≡◌, ℕ, zero, suc, ◌+◌, ◌-◌, ◌*�
 use Rattle.std.specs.List.{AllByRecursion}
 use Rattle.std.proofs.Math.Nat.{pow-succ', mul-div_cancel_left}
 use Rattle.std.proofs.lemmas.List.{length-map}
-use Rattle.normal_listing.specs.Places.{IsSymbol, at_places, IsWord, number_of}
+use Rattle.normal_listing.specs.Places.{IsSymbol, at_places, IsShortWord, number_of}
 use Rattle.normal_listing.proofs.Places.{word_small, at_none}
 
 abbrev KeepsSymbols : (ℕ → ℕ) → Type 0
@@ -17,7 +17,7 @@ length_map : (f : ℕ → ℕ) (l : List ℕ) → length (map f l) ≡ length l
 length_map f [] = refl
 length_map f (s ∷ l) = ap suc (length_map f l)
 
-pub renamed_word : (f : ℕ → ℕ) (l : List ℕ) → KeepsSymbols f → IsWord l → IsWord (map f l)
+pub renamed_word : (f : ℕ → ℕ) (l : List ℕ) → KeepsSymbols f → IsShortWord l → IsShortWord (map f l)
 renamed_word f l k h = let few = h.few in let e = length_map f l in record { few = omega (arith, few, e); symbols = are_symbols f l k h.symbols }
 
 -- So many symbols are renamed, and stand in the bits; these symbols are left.
@@ -38,7 +38,7 @@ pub record IsFirst (left : List ℕ) (first : ℕ) : Type 0 where
   pub symbol : IsSymbol first
   pub left_is : left ≡ first ∷ drop 1 left
 
-pub first_left : (left : List ℕ) (first : ℕ) → 0 < length left → IsWord left → ((s : ℕ) (l : List ℕ) → left ≡ s ∷ l → first ≡ s) → IsFirst left first
+pub first_left : (left : List ℕ) (first : ℕ) → 0 < length left → IsShortWord left → ((s : ℕ) (l : List ℕ) → left ≡ s ∷ l → first ≡ s) → IsFirst left first
 first_left [] first n h is = absurd (omega (arith, n))
 first_left (s ∷ l) first n h is = let e : first ≡ s = is s l refl in record { symbol = subst IsSymbol (sym e) h.symbols.0; left_is = ap (λ x. x ∷ l) (sym e) }
 
@@ -50,10 +50,10 @@ module _ (f : ℕ → ℕ) (whole : List ℕ) (at bits place : ℕ) (left : List
       ap (λ p. bits + (f first * p + at_places (24 - at) (map f (drop 1 left)))) (r.power h)
       ∙ sym (ap₂ (λ k l. bits + at_places k (map f l)) more i.left_is) ∙ r.sum
 
-  pub product_small : IsRenaming f whole at bits place left → IsFirst left first → at < 25 → IsWord (map f whole) → f first * place < 2 ^ 128
+  pub product_small : IsRenaming f whole at bits place left → IsFirst left first → at < 25 → IsShortWord (map f whole) → f first * place < 2 ^ 128
   product_small r i h w = let e = next_sum r i h in let small = word_small (map f whole) w in omega (arith, e, small)
 
-  pub sum_small : IsRenaming f whole at bits place left → IsFirst left first → at < 25 → IsWord (map f whole) → bits + f first * place < 2 ^ 128
+  pub sum_small : IsRenaming f whole at bits place left → IsFirst left first → at < 25 → IsShortWord (map f whole) → bits + f first * place < 2 ^ 128
   sum_small r i h w = let e = next_sum r i h in let small = word_small (map f whole) w in omega (arith, e, small)
 
   pub goes_on : IsRenaming f whole at bits place left → IsFirst left first → at < 25 → IsRenaming f whole (at + 1) (bits + f first * place) (place / 32) (drop 1 left)

@@ -11,7 +11,7 @@ use Rattle.std.proofs.lemmas.List.Sorted.{All-permutation}
 use Rattle.labelled_trees.specs.Trees.{Tree}
 use Rattle.operad_ideals.specs.SpellingOrder.{order}
 use Rattle.normal_listing.specs.Places.{number_of}
-use Rattle.normal_listing.specs.Words.{AreFew, HasWord, symbols}
+use Rattle.normal_listing.specs.Words.{HasFewGenerators, HasWord, symbols}
 use Rattle.normal_listing.proofs.TreeWords.{words_spell}
 use Rattle.normal_listing.specs.Sorting.{SortsTrees}
 
@@ -35,7 +35,7 @@ each_at P (x ∷ xs) h (suc k) d lt = each_at P xs h.1 k d (omega (arith, lt))
 
 -- ---- sorted trees
 
-module _ (arity : ℕ → ℕ) (few : AreFew arity) (cmp : List ℕ → List ℕ → Ordering) (by_number : (a b : List ℕ) → cmp a b ≡ nat_cmp (number_of a) (number_of b)) where
+module _ (arity : ℕ → ℕ) (few : HasFewGenerators arity) (cmp : List ℕ → List ℕ → Ordering) (by_number : (a b : List ℕ) → cmp a b ≡ nat_cmp (number_of a) (number_of b)) where
   compared : (t u : Tree ℕ) → HasWord arity t → HasWord arity u → cmp (symbols t) (symbols u) ≡ order t u
   compared t u h g = by_number (symbols t) (symbols u) ∙ words_spell.numbers arity t u few h g
 

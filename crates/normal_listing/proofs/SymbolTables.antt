@@ -3,7 +3,7 @@ use Rattle.std.proofs.Common.{◌≡◌, ◌≢◌, ℕ, ◌+◌, ◌<◌, ◌�
 use native.Mathlib.Decide.{ℕ_discrete}
 use Rattle.std.proofs.Math.ListN.{set, length-set}
 use Rattle.normal_listing.specs.Places.{IsSymbol}
-use Rattle.normal_listing.specs.Words.{IsDigit}
+use Rattle.normal_listing.specs.Words.{IsLeafDigit}
 
 pub record IsTable (numbers : List ℕ) (at : ℕ) (table : List ℕ) : Type 0 where
   pub long : length table ≡ 32
@@ -19,7 +19,7 @@ same_table numbers table long h = record {
   symbols = λ s is. subst IsSymbol (sym (h s is.small)) is;
 }
 
-module _ (numbers : List ℕ) (at : ℕ) (table : List ℕ) (n : ℕ) (few : at < 9) (number : n ≡ get_or numbers at 0) (digit : IsDigit n) where
+module _ (numbers : List ℕ) (at : ℕ) (table : List ℕ) (n : ℕ) (few : at < 9) (number : n ≡ get_or numbers at 0) (digit : IsLeafDigit n) where
   other : (s : ℕ) → s ≢ at + 1 → get_or (set table (at + 1) n) s 0 ≡ get_or table s 0
   other s ne = rw get_or-set_other refl
 

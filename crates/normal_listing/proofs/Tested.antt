@@ -13,7 +13,7 @@ use Rattle.shuffle_normal_forms.specs.FreeTreeLists.{undivided}
 use Rattle.shuffle_normal_forms.proofs.RootTests.{root_is_tested}
 use Rattle.tree_store.specs.Stores.{tree_at}
 use Rattle.normal_listing.specs.declared.labels.Lead.{Lead}
-use Rattle.normal_listing.specs.Vertices.{element, passes, vertex, IsLead}
+use Rattle.normal_listing.specs.Vertices.{element, passes, vertex, IsShuffleLead}
 
 -- whether no place of this lead has the root
 abbrev clear : List (Tree ℕ) → Lead → ℕ → List ℕ → Bool
@@ -31,7 +31,7 @@ not_true : (b : Bool) → (b ≡ true → ⊥) → b ≡ false
 not_true true f = absurd (f refl)
 not_true false f = refl
 
-module _ (trees : List (Tree ℕ)) (l : ℕ) (ids : List ℕ) (among : IsShuffleAmong 255 (vertex trees l ids)) (lead : Lead) (is : IsLead trees lead) where
+module _ (trees : List (Tree ℕ)) (l : ℕ) (ids : List ℕ) (among : IsShuffleAmong 255 (vertex trees l ids)) (lead : Lead) (is : IsShuffleLead trees lead) where
   is_node : (x : Element) → Mem x (element trees lead ∷ []) → IsNode x.lead
   is_node x (inl e) = subst (λ y. IsNode y.lead) (sym e) is.vertex
   is_node x (inr m) = absurd m

@@ -11,8 +11,8 @@ use Rattle.labelled_trees.specs.Leaves.{AllLeaves, AllRow, leaf_count, leaf_coun
 use Rattle.labelled_trees.specs.Labelled.{Fits, FitsRow}
 use Rattle.operad_ideals.specs.SpellingOrder.{order, order_row}
 use Rattle.operad_ideals.proofs.TreeOrder.{order_is_total}
-use Rattle.normal_listing.specs.Places.{IsSymbol, IsWord, number_of}
-use Rattle.normal_listing.specs.Words.{symbols, symbols_row, IsDigit, AreFew, HasWord, WordsSpell, IsUpTo, RenamesLeaves, RenamedTrees}
+use Rattle.normal_listing.specs.Places.{IsSymbol, IsShortWord, number_of}
+use Rattle.normal_listing.specs.Words.{symbols, symbols_row, IsLeafDigit, HasFewGenerators, HasWord, WordsSpell, IsUpTo, RenamesLeaves, RenamedTrees}
 use Rattle.normal_listing.proofs.Places.{all_joined, length_joined}
 use Rattle.normal_listing.proofs.Order.{numbers_compare, less_is, greater_is, equal_is, shifted}
 
@@ -31,15 +31,15 @@ mutual
       let both = length_joined (symbols t) (symbols_row r) in omega (arith, first, rest, both)
 
 mutual
-  are_symbols : (arity : ℕ → ℕ) (t : Tree ℕ) → AreFew arity → Fits arity t → AllLeaves t IsDigit → AllByRecursion IsSymbol (symbols t)
+  are_symbols : (arity : ℕ → ℕ) (t : Tree ℕ) → HasFewGenerators arity → Fits arity t → AllLeaves t IsLeafDigit → AllByRecursion IsSymbol (symbols t)
   are_symbols arity (leaf i) few h d = let small = d.1 in (record { some = d.0; small = omega (arith, small) }, tt)
   are_symbols arity (node g r) few h d = let small = few g h.0 in (record { some = omega arith; small = omega (arith, small) }, are_in_row arity r few h.2 d)
 
-  are_in_row : (arity : ℕ → ℕ) (r : Row ℕ) → AreFew arity → FitsRow arity r → AllRow r IsDigit → AllByRecursion IsSymbol (symbols_row r)
+  are_in_row : (arity : ℕ → ℕ) (r : Row ℕ) → HasFewGenerators arity → FitsRow arity r → AllRow r IsLeafDigit → AllByRecursion IsSymbol (symbols_row r)
   are_in_row arity none few h d = tt
   are_in_row arity (more t r) few h d = all_joined (symbols t) (symbols_row r) (are_symbols arity t few h.0 d.0) (are_in_row arity r few h.1 d.1)
 
-pub tree_word : (arity : ℕ → ℕ) (t : Tree ℕ) → AreFew arity → HasWord arity t → IsWord (symbols t)
+pub tree_word : (arity : ℕ → ℕ) (t : Tree ℕ) → HasFewGenerators arity → HasWord arity t → IsShortWord (symbols t)
 tree_word arity t few h =
     let fewer = few_symbols arity t h.fits in
     let leaves = h.few in
@@ -63,7 +63,7 @@ behind Equal a b c h = h refl
 behind Greater a b c h = refl
 
 mutual
-  tree_compares : (arity : ℕ → ℕ) (t u : Tree ℕ) (r s : List ℕ) → Fits arity t → Fits arity u → AllLeaves t IsDigit → AllLeaves u IsDigit
+  tree_compares : (arity : ℕ → ℕ) (t u : Tree ℕ) (r s : List ℕ) → Fits arity t → Fits arity u → AllLeaves t IsLeafDigit → AllLeaves u IsLeafDigit
       → slice_cmp nat_cmp (symbols t ++ r) (symbols u ++ s) ≡ ordering_then (order t u) (slice_cmp nat_cmp r s)
   tree_compares arity (leaf i) (leaf j) r s f e d c = refl
   tree_compares arity (leaf i) (node h q) r s f e d c = let small = d.1 in ap (λ o. ordering_then o (slice_cmp nat_cmp r (symbols_row q ++ s))) (less_is i (10 + h) (omega (arith, small)))
@@ -73,7 +73,7 @@ mutual
       ∙ behind (nat_cmp g h) (slice_cmp nat_cmp (symbols_row p ++ r) (symbols_row q ++ s)) (order_row p q) (slice_cmp nat_cmp r s)
       (λ same. row_compares arity p q r s (f.1 ∙ ap arity (equal_is g h same) ∙ sym e.1) f.2 e.2 d c)
 
-  row_compares : (arity : ℕ → ℕ) (p q : Row ℕ) (r s : List ℕ) → width p ≡ width q → FitsRow arity p → FitsRow arity q → AllRow p IsDigit → AllRow q IsDigit
+  row_compares : (arity : ℕ → ℕ) (p q : Row ℕ) (r s : List ℕ) → width p ≡ width q → FitsRow arity p → FitsRow arity q → AllRow p IsLeafDigit → AllRow q IsLeafDigit
       → slice_cmp nat_cmp (symbols_row p ++ r) (symbols_row q ++ s) ≡ ordering_then (order_row p q) (slice_cmp nat_cmp r s)
   row_compares arity none none r s w f e d c = refl
   row_compares arity none (more u q) r s w f e d c = absurd (omega (arith, w))

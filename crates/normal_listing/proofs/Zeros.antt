@@ -4,7 +4,7 @@ use Rattle.std.specs.List.{AllByRecursion}
 use Rattle.std.specs.Int.Count.{count_trailing_zeros, trailing_of_zero, under}
 use Rattle.std.proofs.Math.Nat.{pow-succ', pow-zero}
 use Rattle.std.proofs.lemmas.Nat.{mod-pow-add}
-use Rattle.normal_listing.specs.Places.{IsSymbol, at_places, IsWord, number_of}
+use Rattle.normal_listing.specs.Places.{IsSymbol, at_places, IsShortWord, number_of}
 use Rattle.normal_listing.proofs.Places.{at_none, more_places}
 
 -- a zero below the others is one more
@@ -75,7 +75,7 @@ empty_places (suc j) (suc k) l e h =
     omega (arith, count, rest)
 
 -- the number of symbols of a word
-pub symbols_counted : (l : List ℕ) → IsWord l → 25 - count_trailing_zeros 128 (number_of l) / 5 ≡ length l
+pub symbols_counted : (l : List ℕ) → IsShortWord l → 25 - count_trailing_zeros 128 (number_of l) / 5 ≡ length l
 unfolding number_of
 symbols_counted l h =
     let few = h.few in

@@ -4,8 +4,8 @@ use Rattle.std.specs.List.{flat_map}
 use Rattle.normal_listing.specs.declared.parts.Part.{Part}
 
 -- both numbers are below
-abbrev pub IsBelow : ℕ → Part → Type 0
-IsBelow unit p = (p.own < unit) × (p.others < unit)
+abbrev pub BothBelow : ℕ → Part → Type 0
+BothBelow unit p = (p.own < unit) × (p.others < unit)
 
 -- the two parts of a set with one more leaf, whose bit is the unit: it stands with the first part or with the rest
 abbrev pub both_ways : ℕ → Part → List Part

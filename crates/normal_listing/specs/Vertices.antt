@@ -36,7 +36,7 @@ abbrev pub passes : List (Tree ℕ) → List Lead → ℕ → List ℕ → Bool
 passes trees leads l ids = undivided (map (element trees) leads) (vertex trees l ids)
 
 -- the leads are shuffle trees of their arities with a vertex, held by the store
-pub record IsLead (trees : List (Tree ℕ)) (lead : Lead) : Type 0 where
+pub record IsShuffleLead (trees : List (Tree ℕ)) (lead : Lead) : Type 0 where
   pub held : lead.id < length trees
   pub valid : IsShuffle lead.arity (tree_at trees lead.id)
   pub vertex : IsNode (tree_at trees lead.id)

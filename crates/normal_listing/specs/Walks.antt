@@ -9,8 +9,8 @@ use Rattle.normal_listing.specs.declared.found.Found.{Found}
 use Rattle.normal_listing.specs.declared.choosing.Tables.{Tables}
 use Rattle.normal_listing.specs.declared.choosing.Root.{Root}
 use Rattle.normal_listing.specs.Choices.{ArePartsBelow, choices, entry}
-use Rattle.normal_listing.specs.Vertices.{generator_of, passes, spelling, vertex, word_of, IsLead}
-use Rattle.normal_listing.specs.Found.{Adds}
+use Rattle.normal_listing.specs.Vertices.{generator_of, passes, spelling, vertex, word_of, IsShuffleLead}
+use Rattle.normal_listing.specs.Found.{AddsChosen}
 
 -- the words are those of the trees with these ids
 abbrev pub AreWordsOf : List (Tree ℕ) → List Label → List ℕ → List (List ℕ) → Type 0
@@ -28,11 +28,11 @@ pub record AreTables (trees : List (Tree ℕ)) (labels : List Label) (tables : T
 pub record IsRoot (root : Root) : Type 0 where
   pub label : root.label < length root.labels.now
   pub generator : generator_of root.labels.now root.label < 22
-  pub leads : All (IsLead root.store.now) root.leads.now
+  pub leads : All (IsShuffleLead root.store.now) root.leads.now
 
 -- the vertices with these inputs, as far as no lead divides them at the root, were put behind what was found
 abbrev pub Offers : Root → List (List ℕ) → Found → Found → Type 0
-Offers root choices old new = Adds (passes root.store.now root.leads.now root.label) (λ ids. spelling root.labels.now (vertex root.store.now root.label ids)) choices old new
+Offers root choices old new = AddsChosen (passes root.store.now root.leads.now root.label) (λ ids. spelling root.labels.now (vertex root.store.now root.label ids)) choices old new
 
 -- the words of the vertices with this label over a set, with inputs from the tables, that no lead of the label divides at the root
 abbrev pub words_with : List (Tree ℕ) → List Label → List (List Lead) → Tables → ℕ → ℕ → List (List ℕ)

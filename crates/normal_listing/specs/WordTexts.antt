@@ -5,12 +5,12 @@ use Rattle.labelled_trees.specs.Leaves.{AllLeaves}
 use Rattle.symmetric_trees.specs.Trees.{Fits}
 use Rattle.presentation_text.specs.TreeText.{tree_text}
 use Rattle.symmetric_trees.specs.declared.generators.Generator.{Generator}
-use Rattle.normal_listing.specs.Words.{symbols, IsDigit}
+use Rattle.normal_listing.specs.Words.{symbols, IsLeafDigit}
 
 -- A tree over the table whose leaves have numbers from 1 to 9.
 pub record IsSpelt (generators : List Generator) (t : Tree ℕ) : Type 0 where
   pub fits : Fits generators t
-  pub leaves : AllLeaves t IsDigit
+  pub leaves : AllLeaves t IsLeafDigit
 
 -- The word begins with the word of such a tree.
 pub record BeginsWithTree (generators : List Generator) (word : List ℕ) : Type 0 where

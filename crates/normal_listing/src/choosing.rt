@@ -3,7 +3,7 @@ ghost use Rattle.std.specs.List.{All};
 ghost use Rattle.modular_sums.specs.Lists.{Mem};
 ghost use Rattle.normal_listing.specs.Choices.{choices, each_before, entry};
 ghost use Rattle.normal_listing.specs.Vertices.{passes, spelling, vertex, IsVertex};
-ghost use Rattle.normal_listing.specs.Found.{Adds};
+ghost use Rattle.normal_listing.specs.Found.{AddsChosen};
 ghost use Rattle.normal_listing.specs.Walks.{AreTables, AreWordsOf, IsRoot, Offers};
 
 use crate::SpellingWord;

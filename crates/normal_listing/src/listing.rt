@@ -3,7 +3,7 @@ ghost use Rattle.std.specs.List.{All};
 ghost use Rattle.modular_sums.specs.Lists.{Mem};
 ghost use Rattle.shuffle_insertions.specs.Listing.{joined_below};
 ghost use Rattle.normal_listing.specs.Choices.{choices, entry};
-ghost use Rattle.normal_listing.specs.Vertices.{generator_of, word_of, IsLead, IsVertex};
+ghost use Rattle.normal_listing.specs.Vertices.{generator_of, word_of, IsShuffleLead, IsVertex};
 ghost use Rattle.normal_listing.specs.Walks.{words_with, AreTables};
 
 use crate::choosing::{Chosen, Root, Tables, choose};
@@ -30,7 +30,7 @@ pub fn find_vertices(
     requires labels { length labels.now < 2 ^ 16 }
     requires leads { length leads.now ≡ length labels.now }
     requires generators { (l : ℕ) → l < length labels.now → (1 < length (word_of labels.now l)) × (generator_of labels.now l < 22) }
-    requires held { (l : ℕ) → All (IsLead store.now) (entry leads.now l) }
+    requires held { (l : ℕ) → All (IsShuffleLead store.now) (entry leads.now l) }
     requires vertices { (l : ℕ) (ids : List ℕ) → l < length labels.now → Mem ids (choices tables.now.ids.now tables.now.parted.now (length (word_of labels.now l)) set) → IsVertex store.now labels.now l ids }
     requires room { 255 < length parts.old }
     ensures words { OnOk result (found.new.words ≡ found.old.words ++ joined_below (length labels.now) (words_with store.now labels.now leads.now tables.now set)) }

@@ -1,6 +1,6 @@
 ghost use Rattle.std.specs.Prelude.{◌≡◌, ◌+◌, ◌<◌, ◌^◌, ◌∷◌, [], ℕ, IfOk};
 ghost use Rattle.std.specs.List.{All, flat_map};
-ghost use Rattle.normal_listing.specs.Parting.{with_last, IsBelow};
+ghost use Rattle.normal_listing.specs.Parting.{with_last, BothBelow};
 
 use crate::parts::Part;
 use sqlite_items::Items;
@@ -16,7 +16,7 @@ pub fn part_with_last(
 ) -> Result<Items<Part>, AllocError>
     requires below { below < unit }
     requires unit { unit < 2 ^ 15 }
-    requires parts { All (IsBelow unit) before.now }
+    requires parts { All (BothBelow unit) before.now }
     ensures parts { IfOk result (λ parts. parts ≡ with_last below unit before.now) }
 {
     let mut parts = Items::new(alloc);

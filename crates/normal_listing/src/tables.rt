@@ -1,7 +1,7 @@
 ghost use Rattle.std.specs.Prelude.{◌≡◌, ◌+◌, ◌<◌, ◌≤◌, ℕ, length, slice_index};
 ghost use Rattle.std.specs.List.{All};
 ghost use Rattle.normal_listing.specs.Places.{IsSymbol};
-ghost use Rattle.normal_listing.specs.Words.{IsDigit};
+ghost use Rattle.normal_listing.specs.Words.{IsLeafDigit};
 
 // Each symbol at its own index.
 fn same_symbols() -> [u8; 32]
@@ -19,7 +19,7 @@ fn same_symbols() -> [u8; 32]
 /// of vertices.
 pub fn leaf_symbols(leaves: &[u8]) -> [u8; 32]
     requires few { length leaves.now ≤ 9 }
-    requires digits { All IsDigit leaves.now }
+    requires digits { All IsLeafDigit leaves.now }
     ensures leaves { (k : ℕ) → k < length leaves.now → slice_index result (k + 1) ≡ slice_index leaves.now k }
     ensures vertices { (g : ℕ) → g < 22 → slice_index result (10 + g) ≡ 10 + g }
     ensures symbols { (s : ℕ) → IsSymbol s → IsSymbol (slice_index result s) }

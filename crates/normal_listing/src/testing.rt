@@ -2,7 +2,7 @@ ghost use Rattle.std.specs.Prelude.{◌≡◌, ◌<◌, length};
 ghost use Rattle.std.specs.List.{All};
 ghost use Rattle.labelled_trees.specs.Trees.{Tree};
 ghost use Rattle.shuffle_places.specs.RootPlaces.{IsShuffleAmong};
-ghost use Rattle.normal_listing.specs.Vertices.{IsLead, passes, vertex};
+ghost use Rattle.normal_listing.specs.Vertices.{IsShuffleLead, passes, vertex};
 
 use crate::labels::Lead;
 use division::divides_inputs;
@@ -17,7 +17,7 @@ pub fn is_undivided(
     inputs: &[TreeId],
     parts: &mut [TreeId],
 ) -> bool
-    requires leads { All (IsLead store.now) leads.now }
+    requires leads { All (IsShuffleLead store.now) leads.now }
     requires inputs { All (λ id. id < length store.now) inputs.now }
     requires among { IsShuffleAmong 255 (vertex store.now label inputs.now) }
     requires room { 255 < length parts.old }

@@ -1,6 +1,6 @@
 ghost use Rattle.std.specs.Prelude.{◌≡◌};
 ghost use Rattle.labelled_trees.specs.Meaning.{tree_of};
-ghost use Rattle.normal_listing.specs.Places.{IsWord};
+ghost use Rattle.normal_listing.specs.Places.{IsShortWord};
 ghost use Rattle.normal_listing.specs.Words.{RenamedTrees, WordsSpell, symbols};
 
 use crate::SpellingWord;
@@ -8,7 +8,7 @@ use labelled_trees::Tree;
 
 /// The word of a tree.
 pub fn word_of(tree: &Tree) -> SpellingWord
-    requires word { IsWord (symbols (tree_of tree.now)) }
+    requires word { IsShortWord (symbols (tree_of tree.now)) }
     ensures word { result ≡ symbols (tree_of tree.now) }
 {
     match tree {

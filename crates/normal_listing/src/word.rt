@@ -1,5 +1,5 @@
 ghost use Rattle.std.specs.Prelude.{◌≡◌, ◌+◌, ◌<◌, ◌≤◌, ◌++◌, ◌∷◌, [], ℕ, List, drop, length, map, slice_index};
-ghost use Rattle.normal_listing.specs.Places.{IsSymbol, IsWord};
+ghost use Rattle.normal_listing.specs.Places.{IsSymbol, IsShortWord};
 
 use std::marker::Model;
 
@@ -44,7 +44,7 @@ impl SpellingWord {
     /// How many symbols there are.
     pub fn len(self) -> u32
         ensures length { result ≡ length self }
-        ensures word { IsWord self }
+        ensures word { IsShortWord self }
     {
         25 - self.bits.trailing_zeros() / 5
     }
@@ -61,7 +61,7 @@ impl SpellingWord {
 
     /// The first symbol, or 0 where there is none.
     pub fn first(self) -> u8
-        ensures word { IsWord self }
+        ensures word { IsShortWord self }
         ensures first { (s : ℕ) (l : List ℕ) → self ≡ s ∷ l → result ≡ s }
         ensures none { self ≡ [] → result ≡ 0 }
     {

@@ -15,7 +15,7 @@ use Rattle.shuffle_reductions.proofs.Laws.{chains_join}
 use Rattle.shuffle_reductions.proofs.Standing.{has_same, trim, trim_same, trim_no_zeros}
 use Rattle.shuffle_transfer.specs.Labels.{symmetric_tree}
 use Rattle.shuffle_transfer.specs.Transfer.{shuffled}
-use Rattle.shuffle_transfer.specs.Certified.{setting}
+use Rattle.shuffle_transfer.specs.GroebnerBases.{setting}
 use Rattle.shuffle_transfer.specs.NormalTrees.{normal_list, IsNormalTree, IsNormalSum}
 use Rattle.shuffle_completion.specs.Completion.{IsCompletedThrough}
 use Rattle.shuffle_completion.specs.ReducedBases.{IsMinimal, IsReducedBasis, IsReducedElement}
@@ -28,8 +28,8 @@ use Rattle.symmetric_trees.specs.Trees.{IsLabelled}
 use Rattle.operad_ideals.specs.Collected.{IsReduced}
 use Rattle.operad_ideals.specs.Pairs.{Pairs}
 use Rattle.operad_answers.specs.OrderedPresentations.{OrderedPresentation, presentation, comparison, IsWellFormed}
-use Rattle.operad_answers.specs.Parts.{AreInOrder}
-use Rattle.operad_answers.specs.Texts.{Sum, IsForm, IsRuleOf}
+use Rattle.operad_answers.specs.Parts.{ListsInOrder}
+use Rattle.operad_answers.specs.Texts.{Sum, IsForm, IsPrintedRule}
 use Rattle.operad_answers.specs.Laws.{ListingLaw, CompleteElementsAnswer}
 use Rattle.operad_ideals.proofs.TreeLists.{Ascending, all_members}
 use Rattle.operad_answers.proofs.Forms.{form_of_same}
@@ -59,7 +59,7 @@ module _ (o : OrderedPresentation) (well_formed : IsWellFormed o) (elements : Li
   basis : IsReducedBasis (presentation o) (comparison o) elements N
   basis = complete_is_reduced (presentation o) field.sound field.wide field.not_zero (comparison o) (order_in o) elements N complete
 
-  listed : (l : List (Tree ℕ)) → Pairs (λ t u. order t u ≡ Less) l → ((t : Tree ℕ) → Mem t l ↔ Mem t (normal_list (presentation o).generators elements n)) → AreInOrder (IsNormalTree (presentation o) (comparison o) n) l
+  listed : (l : List (Tree ℕ)) → Pairs (λ t u. order t u ≡ Less) l → ((t : Tree ℕ) → Mem t l ↔ Mem t (normal_list (presentation o).generators elements n)) → ListsInOrder (IsNormalTree (presentation o) (comparison o) n) l
   listed l a same = record {
     ascending = a;
     all = λ t. (λ m. (law t).0 ((same t).0 m), λ k. (same t).1 ((law t).1 k));
@@ -71,8 +71,8 @@ module _ (o : OrderedPresentation) (well_formed : IsWellFormed o) (elements : Li
   -- ---- rules
 
   module _ (two : 2 ≤ n) (rules : List Rule)
-      (source : (r : Rule) → Mem r rules → (g : Element) × Mem g elements × (g.arity ≡ n) × IsRuleOf o g r)
-      (rule : (g : Element) → Mem g elements → g.arity ≡ n → (r : Rule) × Mem r rules × IsRuleOf o g r) where
+      (source : (r : Rule) → Mem r rules → (g : Element) × Mem g elements × (g.arity ≡ n) × IsPrintedRule o g r)
+      (rule : (g : Element) → Mem g elements → g.arity ≡ n → (r : Rule) × Mem r rules × IsPrintedRule o g r) where
     minimal_rule : (r : Rule) → Mem r rules → IsMinimal (presentation o) (comparison o) n r.0
     minimal_rule r m =
         let s = source r m in
@@ -94,7 +94,7 @@ module _ (o : OrderedPresentation) (well_formed : IsWellFormed o) (elements : Li
         (subst (λ k. IsNormalSum (presentation o) (comparison o) k ((1, S (s.0).lead) ∷ []) (scale q (moved S (s.0).tail))) s.2 e.normal_form) in
         form_of_same o well_formed n ((1, r.0) ∷ []) (scale q (moved S (s.0).tail)) r.1 f s.3.tail_is s.3.reduced
 
-    ruled : Pairs (λ r s. order r.0 s.0 ≡ Less) rules → AreInOrder (IsMinimal (presentation o) (comparison o) n) (map (λ r. r.0) rules) × AllByRecursion (λ r. IsForm o n ((1, r.0) ∷ []) r.1) rules
+    ruled : Pairs (λ r s. order r.0 s.0 ≡ Less) rules → ListsInOrder (IsMinimal (presentation o) (comparison o) n) (map (λ r. r.0) rules) × AllByRecursion (λ r. IsForm o n ((1, r.0) ∷ []) r.1) rules
     ruled a = (
       record { ascending = ruled_ascending rules a; all = λ t. (λ m. minimal t (mem_of_map (λ (r : Rule). r.0) t rules m), λ k. has_rule t k) },
       all_members (λ r. IsForm o n ((1, r.0) ∷ []) r.1) rules form_of_rule,

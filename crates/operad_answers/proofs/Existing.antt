@@ -13,11 +13,11 @@ use Rattle.shuffle_completion.specs.Existence.{IsOverField}
 use Rattle.shuffle_completion.proofs.Existence.{normal_trees, independent, spanning}
 use Rattle.shuffle_completion.proofs.Minimal.{minimal_trees}
 use Rattle.symmetric_trees.specs.Trees.{IsLabelled}
-use Rattle.presentation_text.specs.LineForms.{Asked}
+use Rattle.presentation_text.specs.LineReadings.{Asked}
 use Rattle.presentation_text.specs.SumText.{sum_text}
 use Rattle.presentation_text.specs.TreeText.{tree_text}
 use Rattle.operad_answers.specs.OrderedPresentations.{OrderedPresentation, presentation, comparison, IsWellFormed}
-use Rattle.operad_answers.specs.Parts.{line, part_text, AreParts, AreInOrder}
+use Rattle.operad_answers.specs.Parts.{line, part_text, AreParts, ListsInOrder}
 use Rattle.operad_answers.specs.Texts.{Sum, EachWith, queries, IsNormalPart, IsBasisPart, IsBasisOfQuotient, IsForm, IsAnswer, IsFormsText, IsNormalText, rule_text}
 use Rattle.operad_answers.specs.Laws.{TextsExist, NormalTextsAreBases}
 use Rattle.operad_ideals.proofs.TreeLists.{sorted, all_members}
@@ -89,7 +89,7 @@ module _ (o : OrderedPresentation) (well_formed : IsWellFormed o) where
         part_text n (rule_text o) r.rules,
         record {
           rules = r.rules;
-          are_minimal = subst (AreInOrder (IsMinimal (presentation o) (comparison o) n)) (sym r.trees) listing;
+          are_minimal = subst (ListsInOrder (IsMinimal (presentation o) (comparison o) n)) (sym r.trees) listing;
           forms = r.forms;
           text_is = refl;
         },

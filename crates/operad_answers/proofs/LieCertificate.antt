@@ -17,7 +17,7 @@ use Rattle.operad_ideals.specs.SpelledSums.{spelled_sum}
 use Rattle.shuffle_transfer.specs.Labels.{word_discrete, same_cons, letter_discrete, same_letter}
 use Rattle.shuffle_transfer.specs.Transfer.{shuffled}
 use Rattle.shuffle_transfer.specs.NormalTrees.{by_path, compare}
-use Rattle.shuffle_transfer.specs.Certified.{setting}
+use Rattle.shuffle_transfer.specs.GroebnerBases.{setting}
 use Rattle.shuffle_transfer.specs.NormalLaws.{NormalLaw}
 use Rattle.shuffle_transfer.proofs.Jacobi.{lie, certified}
 use Rattle.symmetric_trees.specs.Generators.{parts_at}
@@ -27,7 +27,7 @@ use Rattle.symmetric_sums.specs.Terms.{terms_of}
 use Rattle.certificate_text.specs.declared.block.Step.{Step}
 use Rattle.basis_certificates.specs.Certificates.{ElemEntry, Certificate}
 use Rattle.basis_certificates.specs.Faults.{Cause}
-use Rattle.basis_certificates.specs.Laws.{IsUndivided}
+use Rattle.basis_certificates.specs.Laws.{IsUndividedSpelling}
 use Rattle.basis_certificates.specs.Writing.{IsElemOf, IsWritten}
 use Rattle.basis_certificates.proofs.Collected.{same_forms}
 use Rattle.basis_certificates.proofs.WrittenRows.{member_of}
@@ -95,7 +95,7 @@ element_steps x m = subst (λ (steps : List Step). All (λ (step : Step). IsElem
     (All-from_recursion (λ (step : Step). IsElement generators (terms_of step.element)) (step_one ∷ []) (subst (IsElement generators) (sym element_is) element_labelled, tt))
 
 -- so the sorted spellings that l(l(1,2),3) doesn't divide are the normal trees
-pub lie_listed : (n : ℕ) → n ≤ 4 → (trees : List (Tree ℕ)) × ((t : Tree ℕ) → Mem t trees ↔ IsUndivided (presentation (written lie_document)).generators lie_certificate.0.elems n t)
+pub lie_listed : (n : ℕ) → n ≤ 4 → (trees : List (Tree ℕ)) × ((t : Tree ℕ) → Mem t trees ↔ IsUndividedSpelling (presentation (written lie_document)).generators lie_certificate.0.elems n t)
     × NormalLaw (presentation (written lie_document)) (comparison (written lie_document)) n trees
 lie_listed = (held_certificates lie_document formed 4 lie_certificate.0 element_steps lie_holds).1
 

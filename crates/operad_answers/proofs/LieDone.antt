@@ -22,10 +22,10 @@ use Rattle.counted_runs.proofs.LieRuns.{BracketEntry}
 use Rattle.counted_runs.proofs.LieAnswers.{the_chain, answered_run}
 use Rattle.symmetric_sums.specs.Terms.{terms_of}
 use Rattle.symmetric_sums.specs.declared.term.Term.{Term}
-use Rattle.presentation_text.specs.DocumentForms.{read_text, word_line, lines_from, document_from}
-use Rattle.presentation_text.specs.ElementForms.{term_in, further_in, element_in}
-use Rattle.presentation_text.specs.LineForms.{Asked, query, word_fault, field_line, order_line, symmetry_in, named_arity_in, generator_in, gen_line, rel_line, query_in, same_in, query_line, same_line}
-use Rattle.presentation_text.specs.TreeForms.{row_in, tree_in, whole_tree_in}
+use Rattle.presentation_text.specs.DocumentReadings.{read_text, word_line, lines_from, document_from}
+use Rattle.presentation_text.specs.ElementReadings.{term_in, further_in, element_in}
+use Rattle.presentation_text.specs.LineReadings.{Asked, query, word_fault, field_line, order_line, symmetry_in, named_arity_in, generator_in, gen_line, rel_line, query_in, same_in, query_line, same_line}
+use Rattle.presentation_text.specs.TreeReadings.{row_in, tree_in, whole_tree_in}
 use Rattle.presentation_text.specs.Presentations.{IsReadAs}
 use Rattle.presentation_text.specs.declared.document.Ask.{Ask}
 use Rattle.presentation_text.specs.declared.document.AskKind.{AskKind}
@@ -63,7 +63,7 @@ document = lie_with asks
 pub term_is : terms_of one_term ≡ (1, t1) ∷ []
 term_is = ap (λ t. (1, t) ∷ []) (comb_is 1 2 3)
 
-reading : read_text bytes ≡ Ok (record { told = lie_content ((6, query ((1, t1) ∷ [])) ∷ []); tail = None })
+reading : read_text bytes ≡ Ok (record { contents = lie_content ((6, query ((1, t1) ∷ [])) ∷ []); tail = None })
 unfolding word_line lines_from document_from term_in further_in element_in word_fault field_line order_line symmetry_in named_arity_in generator_in gen_line rel_line query_in same_in query_line same_line row_in tree_in whole_tree_in lie_content ℕ_discrete
 reading = refl
 

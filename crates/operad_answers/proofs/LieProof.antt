@@ -26,18 +26,18 @@ use Rattle.symmetric_trees.specs.Generators.{parts_at}
 use Rattle.operad_ideals.specs.SpellingOrder.{order as tree_order}
 use Rattle.symmetric_trees.specs.Trees.{IsLabelled}
 use Rattle.operad_ideals.specs.Collected.{IsReduced, IsCollected}
-use Rattle.symmetric_sums.specs.Instances.{element_arity, in_place, IsValid, products, without_zeros}
+use Rattle.symmetric_sums.specs.Instances.{element_arity, in_place, IsValidInstance, products, without_zeros}
 use Rattle.symmetric_sums.specs.Terms.{terms_of}
 use Rattle.symmetric_sums.specs.declared.instance.Instance.{Instance}
 use Rattle.symmetric_sums.specs.declared.instance.Rule.TheVariants.{Rel}
 use Rattle.symmetric_sums.specs.declared.term.Term.{Term}
 use Rattle.operad_ideals.proofs.LastOnes.{AllPairs-from_pairs}
 use Rattle.presentation_text.specs.Accepted.{IsDemanded}
-use Rattle.presentation_text.specs.PrintedElements.{IsSaidTerm}
-use Rattle.presentation_text.specs.TreeForms.{any_arity}
+use Rattle.presentation_text.specs.PrintedElements.{IsWrittenTerm}
+use Rattle.presentation_text.specs.TreeReadings.{any_arity}
 use Rattle.presentation_text.specs.declared.document.Ask.{Ask}
 use Rattle.certificate_text.specs.Plain.{PlainUse, PlainStep, PlainBlock, plain_block}
-use Rattle.certificate_text.specs.Writable.{IsWritableUse, IsWritableStep, IsWritable}
+use Rattle.certificate_text.specs.Writable.{IsWritableUse, IsWritableStep, IsWritableBlock}
 use Rattle.certificate_text.specs.PrintedBlocks.{block_text}
 use Rattle.certificate_text.specs.declared.block.Block.{Block}
 use Rattle.certificate_text.specs.declared.block.Step.{Step}
@@ -125,24 +125,24 @@ label_two = ((three_are.all t2).0 (inr (inl refl))).labelled
 pub label_three : IsLabelled generators 3 t3
 label_three = ((three_are.all t3).0 (inl refl)).labelled
 
-writable_one : (c : ℕ) → 0 < c → c < 101 → IsSaidTerm 101 generators 3 (c, t1)
+writable_one : (c : ℕ) → 0 < c → c < 101 → IsWrittenTerm 101 generators 3 (c, t1)
 writable_one c some small = record { nonzero = some; residue = small; tree = record { labelled = label_one; narrow = omega arith; shallow = omega arith } }
 
-writable_two : (c : ℕ) → 0 < c → c < 101 → IsSaidTerm 101 generators 3 (c, t2)
+writable_two : (c : ℕ) → 0 < c → c < 101 → IsWrittenTerm 101 generators 3 (c, t2)
 writable_two c some small = record { nonzero = some; residue = small; tree = record { labelled = label_two; narrow = omega arith; shallow = omega arith } }
 
-writable_three : (c : ℕ) → 0 < c → c < 101 → IsSaidTerm 101 generators 3 (c, t3)
+writable_three : (c : ℕ) → 0 < c → c < 101 → IsWrittenTerm 101 generators 3 (c, t3)
 writable_three c some small = record { nonzero = some; residue = small; tree = record { labelled = label_three; narrow = omega arith; shallow = omega arith } }
 
 demanded : (i : ℕ) → i ≤ 99 → IsDemanded generators (any_arity true) (leaf i)
 demanded i small = record { fits = tt; shallow = omega arith; narrow = omega arith; small = small; numbered = λ e. cc; least = omega arith; arity = λ n e. cc }
 
-writable : IsWritable 101 generators (made wanted_sum step_sum (leaf 0) leaves_three)
+writable : IsWritableBlock 101 generators (made wanted_sum step_sum (leaf 0) leaves_three)
 writable = record {
-  want = (3, All-from_recursion (IsSaidTerm 101 generators 3) wanted_sum (writable_one 1 (omega arith) (omega arith), (writable_three 100 (omega arith) (omega arith), (writable_two 100 (omega arith) (omega arith), tt))));
+  want = (3, All-from_recursion (IsWrittenTerm 101 generators 3) wanted_sum (writable_one 1 (omega arith) (omega arith), (writable_three 100 (omega arith) (omega arith), (writable_two 100 (omega arith) (omega arith), tt))));
   steps = All-from_recursion (IsWritableStep 101 generators) (plain_step_one ∷ []) (
     record {
-      element = (3, All-from_recursion (IsSaidTerm 101 generators 3) step_sum (writable_three 100 (omega arith) (omega arith), (writable_one 1 (omega arith) (omega arith), (writable_two 100 (omega arith) (omega arith), tt))));
+      element = (3, All-from_recursion (IsWrittenTerm 101 generators 3) step_sum (writable_three 100 (omega arith) (omega arith), (writable_one 1 (omega arith) (omega arith), (writable_two 100 (omega arith) (omega arith), tt))));
       uses = All-from_recursion (IsWritableUse 101 generators) (plain_use_one ∷ []) (
         record {
           coef = omega arith;
@@ -183,7 +183,7 @@ no_zeros = All-from_recursion (λ t. occurs 0 (tree_of t) ≡ 0) (Leaf 1 ∷ (Le
 three_inputs : 3 ≡ element_arity (terms_of jacobi_terms)
 three_inputs = subst (λ e. 3 ≡ element_arity e) (sym terms_are) refl
 
-valid : IsValid generators (terms_of jacobi_terms) 3 use_one
+valid : IsValidInstance generators (terms_of jacobi_terms) 3 use_one
 valid = record {
   has_terms = λ e. cc;
   as_many = three_inputs;
@@ -246,7 +246,7 @@ pub lie_yes : (asks : List Ask) → IsYes (lie_with asks) 1 sides
 lie_yes asks = record {
   shown = record {
     block = the_block;
-    writable = subst (IsWritable 101 generators) (sym plain_is) writable;
+    writable = subst (IsWritableBlock 101 generators) (sym plain_is) writable;
     wanted = subst (λ e. sums.Same tree_discrete 100 e (difference 101 sides)) (sym want_is) wanted_same;
     holds = holds;
   };

@@ -21,7 +21,7 @@ use Rattle.operad_ideals.specs.Presentations.{Relation, Presentation, without_re
 use Rattle.operad_ideals.specs.Rules.{Rule, relation, symmetry, rule_arity, rule_terms}
 use Rattle.operad_ideals.proofs.Ideals.{ideal_zero, ideal_one, ideal-append}
 use Rattle.symmetric_trees.specs.Trees.{IsLabelled}
-use Rattle.symmetric_sums.specs.Instances.{sum_at, element_arity, in_place, IsValid, instance_element}
+use Rattle.symmetric_sums.specs.Instances.{sum_at, element_arity, in_place, IsValidInstance, instance_element}
 use Rattle.symmetric_sums.specs.Membership.{relation_of}
 use Rattle.symmetric_sums.specs.declared.instance.Instance.{Instance as Use}
 use Rattle.symmetric_sums.specs.declared.instance.Rule.TheVariants.{Rel}
@@ -29,7 +29,7 @@ use Rattle.symmetric_sums.specs.declared.term.Term.{Term}
 use Rattle.symmetric_sums.proofs.Expansions.{element-all}
 use Rattle.presentation_text.specs.Accepted.{IsDemanded}
 use Rattle.presentation_text.specs.ReadBack.{IsWritable}
-use Rattle.presentation_text.specs.TreeForms.{any_arity}
+use Rattle.presentation_text.specs.TreeReadings.{any_arity}
 use Rattle.presentation_text.specs.declared.document.Document.{Document}
 use Rattle.certificate_text.specs.Plain.{plain_use}
 use Rattle.certificate_text.specs.Writable.{IsWritableUse}
@@ -144,7 +144,7 @@ module _ (d : Document) (formed : IsWritable d) (n : ℕ) (few : n ≤ 9) where
         ∙ ap (λ k. coef tree_discrete (scale (residue % k) (moved (placed context inputs) r.terms)) t % suc q) (sym whole)
         ∙ same_scaled q residue (moved (placed context inputs) r.terms) t
 
-    used_valid : (r.terms ≡ [] → ⊥) → IsValid d.gens (sum_at d.rels (suc number.at)) n used
+    used_valid : (r.terms ≡ [] → ⊥) → IsValidInstance d.gens (sum_at d.rels (suc number.at)) n used
     used_valid some = record {
       has_terms = λ e. some (sym number.terms_are ∙ e);
       as_many = length-map inputs program_tree ∙ as_many ∙ sym number.arity_is ∙ ap element_arity (sym number.terms_are);

@@ -10,7 +10,7 @@ use Rattle.modular_sums.proofs.Lists.{mem_either}
 use Rattle.modular_sums.proofs.Sums.{AllTerms-append, AllTerms-scale}
 use Rattle.symmetric_trees.specs.Trees.{IsLabelled}
 use Rattle.presentation_text.specs.Grammar.{counted_tokens}
-use Rattle.presentation_text.specs.LineForms.{Asked}
+use Rattle.presentation_text.specs.LineReadings.{Asked}
 use Rattle.presentation_text.specs.Lines.{HasNoFeed, in_front, lines, counts}
 use Rattle.presentation_text.specs.ReadBack.{IsWritable}
 use Rattle.presentation_text.specs.SumText.{sum_text}
@@ -20,10 +20,10 @@ use Rattle.presentation_text.proofs.LineLaws.{lines-ended}
 use Rattle.presentation_text.proofs.LineTexts.{no_feed-append, no_feed-decimal}
 use Rattle.presentation_text.proofs.PrintedFeeds.{no_feed-sum}
 use Rattle.presentation_text.proofs.TextEnds.{lines_of_some}
-use Rattle.certificate_text.specs.BlockForms.{between, blocks_from, base_of}
+use Rattle.certificate_text.specs.BlockReadings.{between, blocks_from, base_of}
 use Rattle.certificate_text.specs.Plain.{PlainBlock, plain_block}
 use Rattle.certificate_text.specs.PrintedBlocks.{block_text, sum_line, step_text}
-use Rattle.certificate_text.specs.Writable.{IsWritable as IsWritableBlock}
+use Rattle.certificate_text.specs.Writable.{IsWritableBlock as IsWritableBlock}
 use Rattle.certificate_text.specs.BlockText.{AreBlockLines}
 use Rattle.certificate_text.specs.Laws.{BlocksAreAccepted}
 use Rattle.certificate_text.specs.declared.block.Block.{Block}

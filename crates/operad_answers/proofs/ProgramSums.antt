@@ -15,7 +15,7 @@ use Rattle.symmetric_sums.specs.Instances.{products, without_zeros}
 use Rattle.symmetric_sums.proofs.Expansions.{without_zeros-zero, without_zeros-some}
 use Rattle.symmetric_sums.proofs.Members.{without_zeros-same, products-same}
 use Rattle.presentation_text.specs.Elements.{IsElementTree}
-use Rattle.presentation_text.specs.PrintedElements.{IsSaidTerm}
+use Rattle.presentation_text.specs.PrintedElements.{IsWrittenTerm}
 use Rattle.operad_answers.specs.Texts.{Sum}
 use Rattle.presentation_text.proofs.NestedTrees.{nested_less}
 
@@ -34,15 +34,15 @@ writable_tree generators n t few h =
     record { labelled = h; narrow = few; shallow = omega (arith, deep, size, few) }
 
 -- a multiple of an element of small arity is writable
-pub multiple_writable : (p c : ℕ) (generators : List Generator) (n : ℕ) (e : Sum) → 0 < p → n ≤ 9 → AllTerms e (IsLabelled generators n) → AllByRecursion (IsSaidTerm p generators n) (without_zeros (products p c e))
+pub multiple_writable : (p c : ℕ) (generators : List Generator) (n : ℕ) (e : Sum) → 0 < p → n ≤ 9 → AllTerms e (IsLabelled generators n) → AllByRecursion (IsWrittenTerm p generators n) (without_zeros (products p c e))
 multiple_writable p c generators n [] positive few h = tt
 multiple_writable p c generators n (x ∷ e) positive few h = go (ℕ_discrete ((c * x.0) % p) 0) (multiple_writable p c generators n e positive few h.1)
   where
-    is_writable : ((c * x.0) % p ≡ 0 → ⊥) → IsSaidTerm p generators n ((c * x.0) % p, x.1)
+    is_writable : ((c * x.0) % p ≡ 0 → ⊥) → IsWrittenTerm p generators n ((c * x.0) % p, x.1)
     is_writable z =
         let small = mod_below (c * x.0) p positive in
         record { nonzero = omega (arith, z); residue = small; tree = writable_tree generators n x.1 few h.0 }
 
-    go : Dec ((c * x.0) % p ≡ 0) → AllByRecursion (IsSaidTerm p generators n) (without_zeros (products p c e)) → AllByRecursion (IsSaidTerm p generators n) (without_zeros (products p c (x ∷ e)))
-    go (yes z) rest = subst (AllByRecursion (IsSaidTerm p generators n)) (sym (without_zeros-zero ((c * x.0) % p, x.1) (products p c e) z)) rest
-    go (no z) rest = subst (AllByRecursion (IsSaidTerm p generators n)) (sym (without_zeros-some ((c * x.0) % p, x.1) (products p c e) z)) (is_writable z, rest)
+    go : Dec ((c * x.0) % p ≡ 0) → AllByRecursion (IsWrittenTerm p generators n) (without_zeros (products p c e)) → AllByRecursion (IsWrittenTerm p generators n) (without_zeros (products p c (x ∷ e)))
+    go (yes z) rest = subst (AllByRecursion (IsWrittenTerm p generators n)) (sym (without_zeros-zero ((c * x.0) % p, x.1) (products p c e) z)) rest
+    go (no z) rest = subst (AllByRecursion (IsWrittenTerm p generators n)) (sym (without_zeros-some ((c * x.0) % p, x.1) (products p c e) z)) (is_writable z, rest)

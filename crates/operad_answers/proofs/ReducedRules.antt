@@ -20,7 +20,7 @@ use Rattle.operad_ideals.specs.SpellingOrder.{order}
 use Rattle.operad_ideals.specs.Pairs.{Pairs}
 use Rattle.operad_answers.specs.OrderedPresentations.{OrderedPresentation, presentation, comparison, IsWellFormed}
 use Rattle.operad_answers.specs.Parts.{AreParts}
-use Rattle.operad_answers.specs.Texts.{Sum, IsForm, IsBasisPart, IsBasisText, IsRuleOf, IsRulePart, IsTextOfReducedBasis}
+use Rattle.operad_answers.specs.Texts.{Sum, IsForm, IsBasisPart, IsBasisText, IsPrintedRule, IsRulePart, IsTextOfReducedBasis}
 use Rattle.operad_ideals.proofs.TreeLists.{Ascending, each_member}
 use Rattle.operad_answers.proofs.WellFormed.{well_formed_over_field, order_in}
 use Rattle.shuffle_transfer.specs.NormalTrees.{IsNormalSum}
@@ -51,7 +51,7 @@ module _ (o : OrderedPresentation) (well_formed : IsWellFormed o) (N : ℕ) (ele
   q = o.field - 1
 
   -- a rule with the tree of an element is that of the element: a tree has one normal form
-  rule_is : (n : ℕ) (r : Rule) (g : Element) → Mem g elements → g.arity ≡ n → r.0 ≡ S g.lead → IsForm o n ((1, r.0) ∷ []) r.1 → IsRuleOf o g r
+  rule_is : (n : ℕ) (r : Rule) (g : Element) → Mem g elements → g.arity ≡ n → r.0 ≡ S g.lead → IsForm o n ((1, r.0) ∷ []) r.1 → IsPrintedRule o g r
   rule_is n r g m arity tree form =
       let e : IsReducedElement (presentation o) (comparison o) g = (basis.each g m).2 in
       let own : IsNormalSum (presentation o) (comparison o) n ((1, r.0) ∷ []) (scale q (moved S g.tail))
@@ -70,14 +70,14 @@ module _ (o : OrderedPresentation) (well_formed : IsWellFormed o) (N : ℕ) (ele
       form_of : (r : Rule) → Mem r h.rules → IsForm o n ((1, r.0) ∷ []) r.1
       form_of r m = each_member (λ s. IsForm o n ((1, s.0) ∷ []) s.1) h.rules r h.forms m
 
-      each : (r : Rule) → Mem r h.rules → (g : Element) × Mem g elements × (g.arity ≡ n) × IsRuleOf o g r
+      each : (r : Rule) → Mem r h.rules → (g : Element) × Mem g elements × (g.arity ≡ n) × IsPrintedRule o g r
       each r m =
           let k : IsMinimal (presentation o) (comparison o) n r.0 = (h.are_minimal.all r.0).0 (mem_map (λ (s : Rule). s.0) r h.rules m) in
           let g = basis.all n two most r.0 k in
           let tree : r.0 ≡ S (g.0).lead = sym (ap S g.3 ∙ sorted_back (presentation o) n r.0 k.labelled k.sorted) in
           (g.0, g.1, g.2, rule_is n r g.0 g.1 g.2 tree (form_of r m))
 
-      all : (g : Element) → Mem g elements → g.arity ≡ n → (r : Rule) × Mem r h.rules × IsRuleOf o g r
+      all : (g : Element) → Mem g elements → g.arity ≡ n → (r : Rule) × Mem r h.rules × IsPrintedRule o g r
       all g m arity =
           let k : IsMinimal (presentation o) (comparison o) n (S g.lead) = subst (λ j. IsMinimal (presentation o) (comparison o) j (S g.lead)) arity (basis.each g m).2.minimal in
           let r = mem_of_map (λ (s : Rule). s.0) (S g.lead) h.rules ((h.are_minimal.all (S g.lead)).1 k) in

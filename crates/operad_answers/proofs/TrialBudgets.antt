@@ -9,7 +9,7 @@ use Rattle.labelled_trees.specs.RangeSums.{range_sum}
 use Rattle.labelled_trees.proofs.RangeSums.{range_sum_ext}
 use Rattle.symmetric_trees.specs.Trees.{IsLabelled}
 use Rattle.std.proofs.lemmas.List.{append-nil}
-use Rattle.presentation_text.specs.LineForms.{same}
+use Rattle.presentation_text.specs.LineReadings.{same}
 use Rattle.presentation_text.specs.declared.document.Document.{Document}
 use Rattle.counted_runs.specs.Items.{Question}
 use Rattle.counted_runs.specs.Enough.{tree_number, relation_number, question_number, counts_question, enough}

@@ -5,8 +5,8 @@ use Rattle.operad_ideals.specs.Presentations.{Relation}
 use Rattle.shuffle_transfer.specs.NormalTrees.{OneOrder}
 use Rattle.symmetric_trees.specs.declared.generators.Generator.{Generator}
 use Rattle.symmetric_sums.specs.Membership.{relation_of}
-use Rattle.presentation_text.specs.DraftForms.{asked}
-use Rattle.presentation_text.specs.LineForms.{Asked, same}
+use Rattle.presentation_text.specs.DraftReadings.{asked}
+use Rattle.presentation_text.specs.LineReadings.{Asked, same}
 use Rattle.presentation_text.specs.declared.document.Ask.{Ask}
 use Rattle.presentation_text.specs.declared.document.AskKind.TheVariants.{Same}
 use Rattle.presentation_text.specs.declared.document.Document.{Document}

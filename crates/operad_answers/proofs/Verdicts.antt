@@ -18,13 +18,13 @@ use Rattle.operad_ideals.specs.Collected.{HaveOneForm, IsCollected}
 use Rattle.symmetric_sums.specs.Instances.{products, without_zeros}
 use Rattle.symmetric_sums.specs.Terms.{terms_of}
 use Rattle.symmetric_sums.specs.declared.instance.Instance.{Instance as Use}
-use Rattle.presentation_text.specs.PrintedElements.{IsSaidTerm, IsSaidOver}
+use Rattle.presentation_text.specs.PrintedElements.{IsWrittenTerm, IsWrittenOver}
 use Rattle.presentation_text.specs.ReadBack.{IsWritable}
 use Rattle.presentation_text.specs.SumText.{sum_text}
 use Rattle.presentation_text.specs.declared.document.Document.{Document}
 use Rattle.certificate_text.specs.Plain.{plain_block, plain_step, plain_use}
 use Rattle.certificate_text.specs.PrintedBlocks.{block_text}
-use Rattle.certificate_text.specs.Writable.{IsSaidSum, IsWritableUse, IsWritableStep}
+use Rattle.certificate_text.specs.Writable.{IsWrittenSum, IsWritableUse, IsWritableStep}
 use Rattle.certificate_text.specs.declared.block.Step.{Step}
 use Rattle.certificate_text.proofs.ReadyBlocks.{prime_positive}
 use Rattle.symmetric_sums.specs.Uses.{IsGoodUse, sum_of}
@@ -61,8 +61,8 @@ module _ (d : Document) (formed : IsWritable d) (n : ℕ) (e : Sum) (narrow : Is
       multiple-same d.field 1 e (prime_positive d.field formed.field) t
       ∙ ap (λ k. k % suc q) (coef-scale tree_discrete 1 e t ∙ omega arith)
 
-  wanted_writable : IsSaidOver d.field d.gens n wanted
-  wanted_writable = All-from_recursion (IsSaidTerm d.field d.gens n) wanted (multiple_writable d.field 1 d.gens n e (prime_positive d.field formed.field) narrow.0 narrow.1)
+  wanted_writable : IsWrittenOver d.field d.gens n wanted
+  wanted_writable = All-from_recursion (IsWrittenTerm d.field d.gens n) wanted (multiple_writable d.field 1 d.gens n e (prime_positive d.field formed.field) narrow.0 narrow.1)
 
   wanted_labelled : AllTerms wanted (IsLabelled d.gens n)
   wanted_labelled = writable_labelled d.field d.gens n wanted wanted_writable
@@ -77,7 +77,7 @@ module _ (d : Document) (formed : IsWritable d) (n : ℕ) (e : Sum) (narrow : Is
       let one : HaveOneForm d.field (parts_at d.gens) wanted sum = one_form_of (written d) well_formed n wanted sum wanted_labelled (uses_labelled d formed n narrow.0 k.uses k.good) apart in
       let back = sym (made_terms wanted) in
       let form : IsCollected d.field (parts_at d.gens) (terms_of (program_terms wanted)) one.0 = subst (λ w. IsCollected d.field (parts_at d.gens) w one.0) back one.1 in
-      let writable : IsSaidSum d.field d.gens (terms_of (program_terms wanted)) = subst (IsSaidSum d.field d.gens) back (n, wanted_writable) in
+      let writable : IsWrittenSum d.field d.gens (terms_of (program_terms wanted)) = subst (IsWrittenSum d.field d.gens) back (n, wanted_writable) in
       let step : Step = record { element = program_terms wanted; uses = k.uses } in
       record {
         block = record { want = program_terms wanted; steps = step ∷ [] };

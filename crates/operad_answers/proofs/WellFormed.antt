@@ -4,7 +4,7 @@ use Rattle.std.specs.List.{All}
 use Rattle.std.proofs.Math.Nat.{mod-eq_of_lt, mod-mod}
 use Rattle.std.proofs.lemmas.Nat.{mod_below}
 use Rattle.modular_sums.specs.Lists.{Mem}
-use Rattle.modular_sums.specs.Residues.{Alike}
+use Rattle.modular_sums.specs.Residues.{IsCongruent}
 use Rattle.modular_sums.specs.Sums.{AllTerms}
 use Rattle.modular_sums.proofs.Residues.{alike_mul}
 use Rattle.labelled_trees.specs.Trees.{Tree}
@@ -25,8 +25,8 @@ use Rattle.symmetric_sums.specs.Terms.{terms_of}
 use Rattle.symmetric_sums.specs.Instances.{element_arity}
 use Rattle.symmetric_sums.specs.Membership.{relation_of, IsElement}
 use Rattle.symmetric_sums.specs.declared.term.Term.{Term}
-use Rattle.presentation_text.specs.PrintedElements.{IsSaidOver}
-use Rattle.presentation_text.specs.ReadBack.{IsSaidRelation, IsWritable, ReadDocumentsAreWritable}
+use Rattle.presentation_text.specs.PrintedElements.{IsWrittenOver}
+use Rattle.presentation_text.specs.ReadBack.{IsWrittenRelation, IsWritable, ReadDocumentsAreWritable}
 use Rattle.presentation_text.specs.declared.document.Document.{Document}
 use Rattle.presentation_text.proofs.ElementsAccepted.{elements_accepted}
 use Rattle.presentation_text.proofs.TreesAccepted.{all_accepted}
@@ -37,7 +37,7 @@ use Rattle.operad_answers.specs.Laws.{DocumentsAreWellFormed}
 
 -- ---- elements that are read
 
-pub writable_labelled : (p : ℕ) (generators : List Generator) (n : ℕ) (e : Sum) → IsSaidOver p generators n e → AllTerms e (IsLabelled generators n)
+pub writable_labelled : (p : ℕ) (generators : List Generator) (n : ℕ) (e : Sum) → IsWrittenOver p generators n e → AllTerms e (IsLabelled generators n)
 writable_labelled p generators n [] h = tt
 writable_labelled p generators n (x ∷ e) h = ((h 0 x (omega arith)).tree.labelled, writable_labelled p generators n e (λ k d l. h (suc k) d (omega (arith, l))))
 
@@ -52,7 +52,7 @@ labelled_element generators n (x ∷ e) h = subst (λ m. AllTerms (x ∷ e) (IsL
 -- ---- relations
 
 module _ (p : ℕ) (generators : List Generator) where
-  relation_sound : (rels : List (List Term)) → All (λ sum. IsSaidRelation p generators (terms_of sum)) rels → (r : Relation) → Mem r (map relation_of rels) → AllTerms r.terms (IsLabelled generators r.arity)
+  relation_sound : (rels : List (List Term)) → All (λ sum. IsWrittenRelation p generators (terms_of sum)) rels → (r : Relation) → Mem r (map relation_of rels) → AllTerms r.terms (IsLabelled generators r.arity)
   relation_sound [] h r m = absurd m
   relation_sound (x ∷ rels) h r (inl e) =
       let writable = h 0 x (omega arith) in
@@ -63,7 +63,7 @@ module _ (p : ℕ) (generators : List Generator) where
   two_or_none n [] two h = inl refl
   two_or_none n (x ∷ e) two h = let a = arity_of_labelled generators n x e h in inr (omega (arith, two, a))
 
-  relation_proper : (rels : List (List Term)) → All (λ sum. IsSaidRelation p generators (terms_of sum)) rels → (r : Relation) → Mem r (map relation_of rels) → (r.terms ≡ []) ⊎ (2 ≤ r.arity)
+  relation_proper : (rels : List (List Term)) → All (λ sum. IsWrittenRelation p generators (terms_of sum)) rels → (r : Relation) → Mem r (map relation_of rels) → (r.terms ≡ []) ⊎ (2 ≤ r.arity)
   relation_proper [] h r m = absurd m
   relation_proper (x ∷ rels) h r (inl e) =
       let writable = h 0 x (omega arith) in
@@ -101,7 +101,7 @@ inverses p prime c nonzero =
     let small : r < suc (p - 1) = mod_below c (suc (p - 1)) (omega arith) in
     let positive : 0 < c % suc (p - 1) = some (c % suc (p - 1)) (λ z. nonzero (z ∙ sym (mod-eq_of_lt (omega arith)))) in
     let i = (fields p prime).inverse r positive (omega (arith, small, whole)) in
-    let same : Alike (p - 1) (r * i.0) (c * i.0) = alike_mul (p - 1) r c i.0 i.0 (mod-mod c (suc (p - 1))) refl in
+    let same : IsCongruent (p - 1) (r * i.0) (c * i.0) = alike_mul (p - 1) r c i.0 i.0 (mod-mod c (suc (p - 1))) refl in
     let turned : c * i.0 ≡ i.0 * c = omega arith in
     (i.0, ap (λ n. n % suc (p - 1)) (sym turned) ∙ sym same ∙ i.3)
   where

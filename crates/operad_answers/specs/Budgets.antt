@@ -9,7 +9,7 @@ use Rattle.modular_sums.specs.Lists.{Nth}
 use Rattle.counted_runs.specs.Runs.{EntryOf, IsStoppedRun, run_length}
 use Rattle.counted_runs.specs.FullRuns.{IsFullRun, HasItem}
 use Rattle.symmetric_sums.specs.Instances.{element_arity}
-use Rattle.presentation_text.specs.LineForms.{Asked, query, same}
+use Rattle.presentation_text.specs.LineReadings.{Asked, query, same}
 use Rattle.presentation_text.specs.declared.document.Document.{Document}
 use Rattle.operad_answers.specs.OrderedPresentations.{OrderedPresentation, presentation, comparison, written, asks_of}
 use Rattle.operad_answers.specs.Texts.{Sum}

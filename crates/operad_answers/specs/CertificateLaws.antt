@@ -3,7 +3,7 @@ use Rattle.std.specs.Prelude.{ℕ, ◌≡◌, ◌↔◌, ◌≤◌, List}
 use Rattle.modular_sums.specs.Lists.{Mem, Distinct}
 use Rattle.labelled_trees.specs.Trees.{Tree}
 use Rattle.shuffle_bases.specs.Elements.{Element, AreMonic}
-use Rattle.shuffle_transfer.specs.Certified.{setting, IsCertified}
+use Rattle.shuffle_transfer.specs.GroebnerBases.{setting, IsGroebnerBasis}
 use Rattle.shuffle_transfer.specs.NormalLaws.{NormalLaw}
 use Rattle.presentation_text.specs.declared.document.Document.{Document}
 use Rattle.certificate_text.specs.declared.block.Step.{Step}
@@ -11,7 +11,7 @@ use Rattle.basis_certificates.specs.Certificates.{ElemEntry, Certificate}
 use Rattle.basis_certificates.specs.Faults.{Cause}
 use Rattle.basis_certificates.specs.ShuffleElements.{shuffle_elements}
 use Rattle.basis_certificates.specs.Writing.{IsWritten}
-use Rattle.basis_certificates.specs.Laws.{IsUndivided}
+use Rattle.basis_certificates.specs.Laws.{IsUndividedSpelling}
 use Rattle.operad_answers.specs.OrderedPresentations.{presentation, comparison, written, IsWellFormed}
 use Rattle.operad_answers.specs.CertifiedDocuments.{BlockShows, HoldsOver, IsFaultOver, HasElementSteps}
 
@@ -19,8 +19,8 @@ use Rattle.operad_answers.specs.CertifiedDocuments.{BlockShows, HoldsOver, IsFau
 -- in each arity up to N the sorted spellings that no leading tree of it divides are the normal trees, independent and spanning.
 abbrev pub HeldCertificatesListNormalTrees : Type 0
 HeldCertificatesListNormalTrees = (d : Document) → IsWellFormed (written d) → (N : ℕ) (cert : Certificate (List Step)) → HasElementSteps d cert → HoldsOver d N cert
-    → IsCertified (presentation (written d)) (comparison (written d)) (shuffle_elements (presentation (written d)) (comparison (written d)) cert.elems) N
-    × ((n : ℕ) → n ≤ N → (l : List (Tree ℕ)) × ((t : Tree ℕ) → Mem t l ↔ IsUndivided (presentation (written d)).generators cert.elems n t) × NormalLaw (presentation (written d)) (comparison (written d)) n l)
+    → IsGroebnerBasis (presentation (written d)) (comparison (written d)) (shuffle_elements (presentation (written d)) (comparison (written d)) cert.elems) N
+    × ((n : ℕ) → n ≤ N → (l : List (Tree ℕ)) × ((t : Tree ℕ) → Mem t l ↔ IsUndividedSpelling (presentation (written d)).generators cert.elems n t) × NormalLaw (presentation (written d)) (comparison (written d)) n l)
 
 -- A certificate that holds over a document has no fault there, and no certificate has two.
 abbrev pub OneFaultOverDocuments : Type 0

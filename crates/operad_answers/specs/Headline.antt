@@ -8,7 +8,7 @@ use Rattle.symmetric_trees.specs.Trees.{IsLabelled}
 use Rattle.presentation_text.specs.Lines.{lines}
 use Rattle.presentation_text.specs.Presentations.{IsReadAs}
 use Rattle.presentation_text.specs.declared.document.Document.{Document}
-use Rattle.certificate_text.specs.BlockForms.{between, blocks_from, base_of}
+use Rattle.certificate_text.specs.BlockReadings.{between, blocks_from, base_of}
 use Rattle.certificate_text.specs.Plain.{plain_block}
 use Rattle.operad_answers.specs.OrderedPresentations.{presentation, written, asks_of}
 use Rattle.operad_answers.specs.Parts.{line, AreParts}

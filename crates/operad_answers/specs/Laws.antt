@@ -15,7 +15,7 @@ use Rattle.operad_ideals.specs.Ideals.{InIdeal}
 use Rattle.operad_ideals.specs.Presentations.{Relation}
 use Rattle.shuffle_transfer.specs.Labels.{inputs_of, symmetric_tree}
 use Rattle.shuffle_transfer.specs.Transfer.{shuffled}
-use Rattle.shuffle_transfer.specs.Certified.{setting}
+use Rattle.shuffle_transfer.specs.GroebnerBases.{setting}
 use Rattle.shuffle_transfer.specs.NormalTrees.{normal_list, IsNormalTree}
 use Rattle.shuffle_completion.specs.Completion.{IsCompletedThrough}
 use Rattle.shuffle_completion.specs.ReducedBases.{IsMinimal}
@@ -30,20 +30,20 @@ use Rattle.operad_ideals.specs.SpellingOrder.{order}
 use Rattle.symmetric_trees.specs.Trees.{IsLabelled}
 use Rattle.operad_ideals.specs.Collected.{IsReduced, IsCollected}
 use Rattle.operad_ideals.specs.Pairs.{Pairs}
-use Rattle.presentation_text.specs.LineForms.{Asked, query, same}
+use Rattle.presentation_text.specs.LineReadings.{Asked, query, same}
 use Rattle.presentation_text.specs.Lines.{EndsWith, lines}
 use Rattle.presentation_text.specs.Presentations.{IsReadAs}
 use Rattle.presentation_text.specs.ReadBack.{IsWritable}
 use Rattle.presentation_text.specs.TreeText.{tree_text}
 use Rattle.presentation_text.specs.declared.document.Document.{Document}
 use Rattle.presentation_text.specs.declared.document.Tail.{Tail}
-use Rattle.certificate_text.specs.BlockForms.{between, blocks_from, base_of}
+use Rattle.certificate_text.specs.BlockReadings.{between, blocks_from, base_of}
 use Rattle.certificate_text.specs.Plain.{plain_block}
 use Rattle.certificate_text.specs.Tails.{AreReadAs}
 use Rattle.certificate_text.specs.declared.block.Block.{Block}
 use Rattle.operad_answers.specs.OrderedPresentations.{OrderedPresentation, presentation, comparison, written, IsWellFormed, asks_of}
-use Rattle.operad_answers.specs.Parts.{line, part_text, AreParts, AreInOrder}
-use Rattle.operad_answers.specs.Texts.{Sum, IsNarrow, queries, IsNormalText, IsBasisText, IsFormsText, IsBasisOfQuotient, IsForm, IsAnswer, IsRuleOf}
+use Rattle.operad_answers.specs.Parts.{line, part_text, AreParts, ListsInOrder}
+use Rattle.operad_answers.specs.Texts.{Sum, IsNarrow, queries, IsNormalText, IsBasisText, IsFormsText, IsBasisOfQuotient, IsForm, IsAnswer, IsPrintedRule}
 use Rattle.operad_answers.specs.Verdicts.{Holds, Sides, difference, comparisons, numbered_from, yes_number, WantingBlock, IsYes, IsNo, IsVerdict, IsProveText, verdict_blocks, AreQuestionsOver}
 use Rattle.operad_answers.specs.Limits.{HasFewTrees, IsWithinLimits}
 use Rattle.operad_answers.specs.Budgets.{question_of, counted, IsSpent, IsPaid}
@@ -173,12 +173,12 @@ VerdictsExist = (d : Document) → IsWritable d
 pub record ListingLaw (o : OrderedPresentation) (elements : List Element) (n : ℕ) : Type 0 where
   -- trees in the spelling order are the normal trees where they are those that no leading tree divides
   pub listed : (l : List (Tree ℕ)) → Pairs (λ t u. order t u ≡ Less) l → ((t : Tree ℕ) → Mem t l ↔ Mem t (normal_list (presentation o).generators elements n))
-      → AreInOrder (IsNormalTree (presentation o) (comparison o) n) l
+      → ListsInOrder (IsNormalTree (presentation o) (comparison o) n) l
   -- rules in the spelling order are the minimal trees with their normal forms where they are those of the elements of arity n
   pub ruled : 2 ≤ n → (rules : List (Tree ℕ × Sum)) → Pairs (λ r s. order r.0 s.0 ≡ Less) rules
-      → ((r : Tree ℕ × Sum) → Mem r rules → (g : Element) × Mem g elements × (g.arity ≡ n) × IsRuleOf o g r)
-      → ((g : Element) → Mem g elements → g.arity ≡ n → (r : Tree ℕ × Sum) × Mem r rules × IsRuleOf o g r)
-      → AreInOrder (IsMinimal (presentation o) (comparison o) n) (map (λ r. r.0) rules) × AllByRecursion (λ r. IsForm o n ((1, r.0) ∷ []) r.1) rules
+      → ((r : Tree ℕ × Sum) → Mem r rules → (g : Element) × Mem g elements × (g.arity ≡ n) × IsPrintedRule o g r)
+      → ((g : Element) → Mem g elements → g.arity ≡ n → (r : Tree ℕ × Sum) × Mem r rules × IsPrintedRule o g r)
+      → ListsInOrder (IsMinimal (presentation o) (comparison o) n) (map (λ r. r.0) rules) × AllByRecursion (λ r. IsForm o n ((1, r.0) ∷ []) r.1) rules
   -- the last sum of a finished chain, passed back and collected, is the normal form
   pub reduced : (e : Sum) → AllTerms e (IsLabelled o.generators n) → (more : List Element) → Extends (setting (presentation o) (comparison o) elements) more
       → (uses : List (ℕ × Insertion (setting (presentation o) (comparison o) more) n)) (f : Sum)

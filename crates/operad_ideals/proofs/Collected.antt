@@ -1,7 +1,7 @@
 -- Elements with one collected form differ by instances of symmetry rules.
 use Rattle.std.proofs.Common.{◌≡◌, ℕ, zero, suc, ◌+◌, ◌*◌, ◌%◌, ◌<◌, List, [], ◌∷◌, ◌++◌, length, refl, sym, ap, ◌∙◌, subst, arith}
 use mathlib.Core.Path.{ap₂}
-use Rattle.modular_sums.specs.Residues.{Alike}
+use Rattle.modular_sums.specs.Residues.{IsCongruent}
 use Rattle.modular_sums.specs.Sums.{hit, coef, scale, Same, expand, moved, AllTerms}
 use Rattle.modular_sums.proofs.Residues.{alike_add, alike_mul, alike_of_gone, less_alike}
 use Rattle.modular_sums.proofs.Sums.{hit-mul, coef-append, coef-scale}
@@ -132,7 +132,7 @@ module _ (p : Presentation) where
 
   -- ---- instances of symmetry rules collect to nothing
 
-  signs_gone : (s t u : Sign) → t ≡ times s u → Alike p.q (1 * residue_of p.q t + residue_of p.q (times minus s) * residue_of p.q u) 0
+  signs_gone : (s t u : Sign) → t ≡ times s u → IsCongruent p.q (1 * residue_of p.q t + residue_of p.q (times minus s) * residue_of p.q u) 0
   signs_gone s t u e =
       let one : 1 * residue_of p.q t ≡ residue_of p.q t = omega arith in
       rw one (alike_add p.q (residue_of p.q t) (residue_of p.q t) (residue_of p.q (times minus s) * residue_of p.q u) (residue_of p.q (times minus t)) refl
@@ -170,11 +170,11 @@ module _ (p : Presentation) where
       others : List (ℕ × Tree ℕ)
       others = expand (hole_element (without_relations p) n) l
 
-      zeros : (a : ℕ) → a ≡ 0 → Alike p.q (x.0 * a + a) a
+      zeros : (a : ℕ) → a ≡ 0 → IsCongruent p.q (x.0 * a + a) a
       zeros a e = let z : x.0 * a + a ≡ a = rw e (omega arith) in ap (λ k. k % suc p.q) z
 
-      go : Alike p.q (coef tree_discrete (collected p first) t) (coef {M = Tree ℕ} tree_discrete [] t) → Alike p.q (coef tree_discrete (collected p others) t) (coef {M = Tree ℕ} tree_discrete [] t)
-          → Alike p.q (coef tree_discrete (collected p (scale x.0 first ++ others)) t) (coef {M = Tree ℕ} tree_discrete [] t)
+      go : IsCongruent p.q (coef tree_discrete (collected p first) t) (coef {M = Tree ℕ} tree_discrete [] t) → IsCongruent p.q (coef tree_discrete (collected p others) t) (coef {M = Tree ℕ} tree_discrete [] t)
+          → IsCongruent p.q (coef tree_discrete (collected p (scale x.0 first ++ others)) t) (coef {M = Tree ℕ} tree_discrete [] t)
       go a b = rw (collected-append (scale x.0 first) others, collected-scale x.0 first, coef-append tree_discrete (scale x.0 (collected p first)) (collected p others) t, coef-scale tree_discrete x.0 (collected p first) t)
           (alike_add p.q (x.0 * coef tree_discrete (collected p first) t) (x.0 * coef {M = Tree ℕ} tree_discrete [] t) (coef tree_discrete (collected p others) t) (coef {M = Tree ℕ} tree_discrete [] t)
           (alike_mul p.q x.0 x.0 (coef tree_discrete (collected p first) t) (coef {M = Tree ℕ} tree_discrete [] t) refl a) b ∙ zeros (coef {M = Tree ℕ} tree_discrete [] t) (coef_nothing tree_discrete t))
@@ -198,17 +198,17 @@ module _ (p : Presentation) where
       near = (ideals_are_one (without_relations p) n (less_signed p.q x.1 (spelled_sign (parts p) x.1) (spelled (parts p) x.1)) (λ r m. absurd m)).1 (near_spelled (without_relations p) n x.1 h.0)
 
       -- the coefficient of the sorted spelling
-      signed : Alike p.q (p.q * (x.0 * residue_of p.q (spelled_sign (parts p) x.1))) (x.0 * residue_of p.q (times minus (spelled_sign (parts p) x.1)))
+      signed : IsCongruent p.q (p.q * (x.0 * residue_of p.q (spelled_sign (parts p) x.1))) (x.0 * residue_of p.q (times minus (spelled_sign (parts p) x.1)))
       signed =
           let r : ℕ = residue_of p.q (spelled_sign (parts p) x.1) in
           let a : p.q * (x.0 * r) ≡ x.0 * (p.q * r) = omega arith in
           rw a (alike_mul p.q x.0 x.0 (p.q * r) (residue_of p.q (times minus (spelled_sign (parts p) x.1))) refl (residue-times p.q minus (spelled_sign (parts p) x.1)))
 
-      at_hit : {C : Type 0} (z : Dec C) → Alike p.q (hit z (p.q * (x.0 * residue_of p.q (spelled_sign (parts p) x.1)))) (hit z (x.0 * residue_of p.q (times minus (spelled_sign (parts p) x.1))))
+      at_hit : {C : Type 0} (z : Dec C) → IsCongruent p.q (hit z (p.q * (x.0 * residue_of p.q (spelled_sign (parts p) x.1)))) (hit z (x.0 * residue_of p.q (times minus (spelled_sign (parts p) x.1))))
       at_hit (yes _) = signed
       at_hit (no _) = refl
 
-      adds_up : (t : Tree ℕ) → Alike p.q (hit (tree_discrete x.1 t) x.0 + coef tree_discrete (e ++ ((p.q * (x.0 * residue_of p.q s), u) ∷ scale p.q (collected p e))) t)
+      adds_up : (t : Tree ℕ) → IsCongruent p.q (hit (tree_discrete x.1 t) x.0 + coef tree_discrete (e ++ ((p.q * (x.0 * residue_of p.q s), u) ∷ scale p.q (collected p e))) t)
           (hit (tree_discrete x.1 t) (x.0 * 1) + (hit (tree_discrete u t) (x.0 * residue_of p.q (times minus s)) + coef tree_discrete (e ++ scale p.q (collected p e)) t))
       adds_up t =
           let one : x.0 * 1 ≡ x.0 = omega arith in
@@ -219,7 +219,7 @@ module _ (p : Presentation) where
           rw (one, a, b) (sums (hit (tree_discrete x.1 t) x.0) (coef tree_discrete e t) (coef tree_discrete (scale p.q (collected p e)) t)
           (hit (tree_discrete u t) (p.q * (x.0 * residue_of p.q s))) (hit (tree_discrete u t) (x.0 * residue_of p.q (times minus s))) (at_hit (tree_discrete u t)))
         where
-          sums : (k l m v w : ℕ) → Alike p.q v w → Alike p.q (k + (l + (v + m))) (k + (w + (l + m)))
+          sums : (k l m v w : ℕ) → IsCongruent p.q v w → IsCongruent p.q (k + (l + (v + m))) (k + (w + (l + m)))
           sums k l m v w h =
               let y : k + (l + (v + m)) ≡ k + l + m + v = omega arith in
               let z : k + (w + (l + m)) ≡ k + l + m + w = omega arith in

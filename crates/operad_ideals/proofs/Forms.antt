@@ -6,7 +6,7 @@ use Rattle.std.proofs.lemmas.List.Elements.{recursion_from_All}
 use Rattle.std.specs.declared.cmp.Ordering.{Ordering}
 use Rattle.std.specs.declared.cmp.Ordering.TheVariants.{Less, Equal, Greater}
 use Rattle.std.specs.Ordering.{ordering_reverse}
-use Rattle.modular_sums.specs.Residues.{Alike}
+use Rattle.modular_sums.specs.Residues.{IsCongruent}
 use Rattle.modular_sums.specs.Sums.{hit, coef, Same}
 use Rattle.modular_sums.proofs.Residues.{alike_cancel}
 use Rattle.modular_sums.proofs.Coefficients.{coef_nothing}
@@ -48,7 +48,7 @@ coef-after t (x ∷ e) h = coef-other x e t (not_itself t x.1 h.0) ∙ coef-afte
 later : (t u : Tree ℕ) (e : List (ℕ × Tree ℕ)) → order t u ≡ Less → AllByRecursion (λ x. order u x.1 ≡ Less) e → AllByRecursion (λ x. order t x.1 ≡ Less) e
 later t u e l h = every_weaker (λ x. order u x.1 ≡ Less) (λ x. order t x.1 ≡ Less) e (λ x k. order_is_total.transitive t u x.1 l k) h
 
-one_residue : (p a b : ℕ) → a < p → b < p → Alike (p - 1) a b → a ≡ b
+one_residue : (p a b : ℕ) → a < p → b < p → IsCongruent (p - 1) a b → a ≡ b
 one_residue p a b la lb h =
     let a_small : a < suc (p - 1) = omega (arith, la) in
     let b_small : b < suc (p - 1) = omega (arith, lb) in

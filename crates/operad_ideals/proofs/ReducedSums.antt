@@ -7,7 +7,7 @@ use Rattle.std.proofs.lemmas.Nat.{mod_below}
 use Rattle.std.proofs.lemmas.List.Elements.{All-from_recursion}
 use Rattle.std.specs.declared.cmp.Ordering.TheVariants.{Less}
 use Rattle.modular_sums.specs.Lists.{Mem, has_by}
-use Rattle.modular_sums.specs.Residues.{Alike}
+use Rattle.modular_sums.specs.Residues.{IsCongruent}
 use mathlib.Core.List.{◌++◌}
 use Rattle.modular_sums.specs.Sums.{coef, scale, Same, AllTerms}
 use Rattle.modular_sums.proofs.Residues.{alike_add, alike_mul}
@@ -74,7 +74,7 @@ module _ (q : ℕ) (f : Sum) where
       go (yes _) r = r
       go (no _) r = coef-other (at t, t) (read_out l) u (λ e. n (inl (sym e))) ∙ r
 
-  read_there : (l : Trees) → Ascending l → (u : Tree ℕ) → Mem u l → Alike q (coef tree_discrete (read_out l) u) (coef tree_discrete f u)
+  read_there : (l : Trees) → Ascending l → (u : Tree ℕ) → Mem u l → IsCongruent q (coef tree_discrete (read_out l) u) (coef tree_discrete f u)
   unfolding read_out keep
   read_there [] a u m = absurd m
   read_there (t ∷ l) a u m = go (ℕ_discrete (at t) 0) m (read_there l a.1 u)
@@ -82,22 +82,22 @@ module _ (q : ℕ) (f : Sum) where
       again : (n : ℕ) → n % suc q % suc q ≡ n % suc q
       again n = mod-mod n (suc q)
 
-      here : (d : Dec (at t ≡ 0)) → Alike q (coef tree_discrete (keep d (at t, t) (read_out l)) t) (coef tree_discrete f t)
+      here : (d : Dec (at t ≡ 0)) → IsCongruent q (coef tree_discrete (keep d (at t, t) (read_out l)) t) (coef tree_discrete f t)
       here (yes z) = ap (λ c. c % suc q) (read_none l t (λ k. not_itself t t (each_member (λ v. order t v ≡ Less) l t a.0 k) refl)) ∙ ap (λ c. c % suc q) (sym z) ∙ again (coef tree_discrete f t)
       here (no n) = ap (λ c. c % suc q) (coef-first (suc q) (at t, t) (read_out l) (all_read (λ x. order t x.1 ≡ Less) l (λ v k i. each_member (λ w. order t w ≡ Less) l v a.0 k), read_rising l a.1)) ∙ again (coef tree_discrete f t)
 
-      later : (d : Dec (at t ≡ 0)) → Mem u l → (Mem u l → Alike q (coef tree_discrete (read_out l) u) (coef tree_discrete f u)) → Alike q (coef tree_discrete (keep d (at t, t) (read_out l)) u) (coef tree_discrete f u)
+      later : (d : Dec (at t ≡ 0)) → Mem u l → (Mem u l → IsCongruent q (coef tree_discrete (read_out l) u) (coef tree_discrete f u)) → IsCongruent q (coef tree_discrete (keep d (at t, t) (read_out l)) u) (coef tree_discrete f u)
       later (yes z) k r = r k
       later (no n) k r = ap (λ c. c % suc q) (coef-other (at t, t) (read_out l) u (λ e. not_itself t u (each_member (λ v. order t v ≡ Less) l u a.0 k) (sym e))) ∙ r k
 
-      go : (d : Dec (at t ≡ 0)) → Mem u (t ∷ l) → (Mem u l → Alike q (coef tree_discrete (read_out l) u) (coef tree_discrete f u)) → Alike q (coef tree_discrete (keep d (at t, t) (read_out l)) u) (coef tree_discrete f u)
-      go d (inl e) r = subst (λ v. Alike q (coef tree_discrete (keep d (at t, t) (read_out l)) v) (coef tree_discrete f v)) (sym e) (here d)
+      go : (d : Dec (at t ≡ 0)) → Mem u (t ∷ l) → (Mem u l → IsCongruent q (coef tree_discrete (read_out l) u) (coef tree_discrete f u)) → IsCongruent q (coef tree_discrete (keep d (at t, t) (read_out l)) u) (coef tree_discrete f u)
+      go d (inl e) r = subst (λ v. IsCongruent q (coef tree_discrete (keep d (at t, t) (read_out l)) v) (coef tree_discrete f v)) (sym e) (here d)
       go d (inr k) r = later d k r
 
   pub read_same : (l : Trees) → Ascending l → AllTerms f (λ t. Mem t l) → Same tree_discrete q (read_out l) f
   read_same l a h u = go (has_by tree_discrete l u) refl
     where
-      go : (b : Bool) → has_by tree_discrete l u ≡ b → Alike q (coef tree_discrete (read_out l) u) (coef tree_discrete f u)
+      go : (b : Bool) → has_by tree_discrete l u ≡ b → IsCongruent q (coef tree_discrete (read_out l) u) (coef tree_discrete f u)
       go true e = read_there l a u (has_by_mem tree_discrete l u e)
       go false e =
           let out : Mem u l → ⊥ = λ m. apart (sym (mem_has_by tree_discrete l u m) ∙ e) in

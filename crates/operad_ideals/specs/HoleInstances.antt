@@ -1,6 +1,6 @@
 -- Instances with a built-in hole: a form that serves the proofs. The law `one_ideal` says that they give the same ideal.
 use Rattle.std.specs.Prelude.{ℕ, List}
-use Rattle.modular_sums.specs.Sums.{Member, moved, AllTerms}
+use Rattle.modular_sums.specs.Sums.{IsLinearCombination, moved, AllTerms}
 use Rattle.labelled_trees.specs.Trees.{Tree, graft}
 use Rattle.labelled_trees.specs.Contexts.{Ctx, fill}
 use Rattle.labelled_trees.specs.Equality.{tree_discrete}
@@ -20,4 +20,4 @@ hole_element p n i = moved (λ x. fill i.context (graft x i.inputs)) (rule_terms
 
 -- a sum of numbers times these
 abbrev pub InHoleIdeal : (p : Presentation) (n : ℕ) → List (ℕ × Tree ℕ) → Type 0
-InHoleIdeal p n e = Member tree_discrete (hole_element p n) p.q e
+InHoleIdeal p n e = IsLinearCombination tree_discrete (hole_element p n) p.q e

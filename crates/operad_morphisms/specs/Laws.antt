@@ -13,7 +13,7 @@ use Rattle.operad_ideals.specs.Ideals.{InIdeal}
 use Rattle.operad_morphisms.specs.Compositions.{product, composed}
 use Rattle.operad_morphisms.specs.Images.{image, image_sum, composite, identity}
 use Rattle.operad_morphisms.specs.Maps.{IsMap, AreMet, SendsIdeal}
-use Rattle.operad_morphisms.specs.Obligations.{Obligation, relation_at, swap, rel, obligations, obligation_arity, obligation_terms, AreInOrder, swap_count, has_terms}
+use Rattle.operad_morphisms.specs.Obligations.{Obligation, relation_at, swap, rel, obligations, obligation_arity, obligation_terms, ObligationsAreInOrder, swap_count, has_terms}
 
 -- The map is a morphism of free operads: it keeps composition.
 pub record CompositionLaw (from to : Presentation) (images : List (List (ℕ × Tree ℕ))) : Type 0 where
@@ -59,7 +59,7 @@ Morphism = (from to : Presentation) (images : List (List (ℕ × Tree ℕ))) →
 pub record ObligationLaw (p : Presentation) : Type 0 where
   pub swaps : (g i : ℕ) (s : Sign) → Mem (swap g i s) (obligations p) ↔ ((0 < i) × InOnePart (parts p g) (i - 1) s)
   pub rels : (k : ℕ) → Mem (rel k) (obligations p) ↔ ((relation_at p.relations k).terms ≡ [] → ⊥)
-  pub in_order : AreInOrder (obligations p)
+  pub in_order : ObligationsAreInOrder (obligations p)
   pub count : length (obligations p) ≡ sum_by (λ parts. sum_by (λ part. swap_count part.kind part.size) parts) p.generators + count_by (λ r. has_terms r.terms) p.relations
   pub each_rule : (rule : Rule p) → (rule_terms p rule ≡ [] → ⊥)
       → (o : Obligation) × Mem o (obligations p) × (obligation_arity p o ≡ rule_arity p rule) × (obligation_terms p o ≡ rule_terms p rule)

@@ -11,14 +11,14 @@ use Rattle.presentation_text.specs.declared.document.Ask.{Ask}
 use Rattle.presentation_text.specs.declared.document.AskKind.{AskKind}
 use Rattle.presentation_text.specs.declared.document.AskKind.TheVariants.{Query, Same}
 use Rattle.certificate_check.proofs.GoodUses.{split-at, taken}
-use Rattle.presentation_text.specs.DraftForms.{asked_kind}
+use Rattle.presentation_text.specs.DraftReadings.{asked_kind}
 use Rattle.operad_answers.specs.OrderedPresentations.{asked_by}
 use Rattle.operad_answers.specs.Parts.{line}
 use Rattle.operad_answers.specs.Texts.{Sum, queries}
-use Rattle.operad_answers.specs.Limits.{IsWithin, IsAskWithin, IsFirstOfGreaterArity}
+use Rattle.operad_answers.specs.Limits.{IsOfArityWithin, IsAskWithin, IsFirstOfGreaterArity}
 use Rattle.operad_answers.proofs.Growing.{each_push, joined_push, queried_push, queries_pass}
-use Rattle.operad_run.specs.Answers.{IsAnswer, AddsAnswer, AreAnswered}
-use Rattle.operad_run.specs.Forms.{AnswersAsk}
+use Rattle.operad_run.specs.Answers.{IsCollectedAnswer, AddsAnswer, AreAnswered}
+use Rattle.operad_run.specs.FormsAnswers.{AnswersAsk}
 
 -- ---- arities
 
@@ -50,7 +50,7 @@ one_answered : (p : ℕ) (generators : List Generator) (es : List Sum) (e : Sum)
     → AreAnswered p generators es old → AddsAnswer p generators e old new → AreAnswered p generators (es ++ e ∷ []) new
 one_answered p generators es e old new before h = record {
   answers = before.answers ++ h.answer ∷ [];
-  are_answers = each_push (IsAnswer p generators) es before.answers e h.answer before.are_answers h.is_answer;
+  are_answers = each_push (IsCollectedAnswer p generators) es before.answers e h.answer before.are_answers h.is_answer;
   text_is = h.text_is ∙ ap (λ a. a ++ line h.answer) before.text_is ∙ sym (joined_push line before.answers h.answer);
 }
 
@@ -79,7 +79,7 @@ all_answered p generators asks i text l before = subst (λ xs. AreAnswered p gen
 -- ---- whether a sum is narrow
 
 -- its arity is the only one that a sum with terms has
-pub arity_within : (sum : List Term) (m n : ℕ) → ArityIs sum (Some m) → IsWithin n sum → m ≤ n
+pub arity_within : (sum : List Term) (m n : ℕ) → ArityIs sum (Some m) → IsOfArityWithin n sum → m ≤ n
 arity_within [] m n h w = let some = (h.numbered m refl).0 in absurd (omega (arith, some))
 arity_within (x ∷ sum) m n h w =
     let same = one_number m w.0 (tree_of x.tree) ((h.numbered m refl).1 0 x (omega arith)) (w.2 0 x (omega arith)) in

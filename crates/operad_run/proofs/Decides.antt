@@ -12,7 +12,7 @@ use Rattle.operad_answers.specs.Texts as normal
 use Rattle.operad_answers.specs.Texts.{Sum}
 use Rattle.operad_answers.proofs.Forms.{decide}
 use Rattle.operad_answers.proofs.FreePresentations.{collected_is_form}
-use Rattle.operad_run.specs.Answers.{IsAnswer, AnswersDecide}
+use Rattle.operad_run.specs.Answers.{IsCollectedAnswer, CollectedAnswersDecide}
 
 -- the presentation without relations, with an order
 abbrev written : ℕ → List Generator → OrderedPresentation
@@ -23,7 +23,7 @@ module _ (p : ℕ) (generators : List Generator) (prime : IsFieldPrime p) (table
   well_formed = record { prime = prime; table = table; words = words; sound = λ r m. absurd m; proper = λ r m. absurd m }
 
   -- without relations the collected form is the normal form
-  normal_answer : (n : ℕ) (e : Sum) (answer : List ℕ) → AllTerms e (IsLabelled generators n) → IsAnswer p generators e answer → normal.IsAnswer (written p generators) e answer
+  normal_answer : (n : ℕ) (e : Sum) (answer : List ℕ) → AllTerms e (IsLabelled generators n) → IsCollectedAnswer p generators e answer → normal.IsAnswer (written p generators) e answer
   normal_answer n e answer labelled a = record {
     arity = n;
     labelled = labelled;
@@ -32,6 +32,6 @@ module _ (p : ℕ) (generators : List Generator) (prime : IsFieldPrime p) (table
     answer_is = a.answer_is;
   }
 
-  pub answers_decide : AnswersDecide p generators
+  pub answers_decide : CollectedAnswersDecide p generators
   answers_decide n few d e answer other a b ld le =
       decide (written p generators) well_formed n few d e ld le answer other (normal_answer n d answer ld a) (normal_answer n e other le b)

@@ -1,7 +1,7 @@
 -- What a run tells is determined by the bytes.
 use Rattle.std.proofs.Common.{◌≡◌, ℕ, ◌<◌, List, [], ap, sym, ◌∙◌, refl, subst}
 use Rattle.std.specs.List.{All}
-use Rattle.presentation_text.specs.DocumentForms.{LineFault}
+use Rattle.presentation_text.specs.DocumentReadings.{LineFault}
 use Rattle.presentation_text.specs.Presentations.{IsReadAs}
 use Rattle.presentation_text.specs.ReadBack.{ReadDocumentsAreWritable}
 use Rattle.presentation_text.specs.declared.document.Ask.{Ask}
@@ -13,7 +13,7 @@ use Rattle.operad_answers.specs.Texts.{queries}
 use Rattle.operad_answers.specs.Limits.{IsAskWithin, IsFirstOfGreaterArity}
 use Rattle.operad_answers.proofs.Bounds.{one_number, none_greater}
 use Rattle.operad_run.specs.Answers.{AreAnswered}
-use Rattle.operad_run.specs.Forms.{IsFree, IsRefused, by_line, by_tail, by_relation, IsTooWide, IsAnswered, Tells}
+use Rattle.operad_run.specs.FormsAnswers.{IsFreeDocument, IsFormsRefusal, by_line, by_tail, by_relation, HasGreaterArity, IsAnswered, FormsTells}
 use Rattle.operad_run.specs.Runs.{fault_text}
 use Rattle.operad_run.specs.Laws.{AnswersAreDetermined}
 use Rattle.operad_run.specs.declared.status.Status.{Status}
@@ -23,13 +23,13 @@ use Rattle.operad_run.proofs.SameReadings.{never_refused, refused_once, same_doc
 use Rattle.certificate_text.proofs.ReadyBlocks.{prime_positive}
 
 -- a text that is free is not refused
-pub free_or_refused : (bytes : List ℕ) (document : document_of.Document) (text : List ℕ) → IsFree bytes document → IsRefused bytes text → ⊥
+pub free_or_refused : (bytes : List ℕ) (document : document_of.Document) (text : List ℕ) → IsFreeDocument bytes document → IsFormsRefusal bytes text → ⊥
 free_or_refused bytes document _ free (by_line number kind e) = never_refused bytes free.read.whole (number, kind) free.read.reading_is e
 free_or_refused bytes document _ free (by_tail other tail r e) = no_tail_once bytes document other free.read r tail free.no_tail e
 free_or_refused bytes document _ free (by_relation other r e some) =
     some (subst (All (λ sum. sum ≡ [])) (same_documents bytes document other free.read r).relations free.no_relations)
 
-one_refusal : (bytes text other : List ℕ) → IsRefused bytes text → IsRefused bytes other → text ≡ other
+one_refusal : (bytes text other : List ℕ) → IsFormsRefusal bytes text → IsFormsRefusal bytes other → text ≡ other
 one_refusal bytes _ _ (by_line n k e) (by_line m l f) = ap (λ (x : LineFault). fault_text x.0 x.1) (refused_once bytes (n, k) (m, l) e f)
 one_refusal bytes _ _ (by_line n k e) (by_tail d t r f) = absurd (never_refused bytes r.whole (n, k) r.reading_is e)
 one_refusal bytes _ _ (by_line n k e) (by_relation d r f some) = absurd (never_refused bytes r.whole (n, k) r.reading_is e)
@@ -46,19 +46,19 @@ abbrev AskWithin : ℕ → Ask → Type 0
 AskWithin n ask = IsAskWithin n ask.kind
 
 -- nor has it a question of a greater arity where none is
-pub free_or_wide : (bytes : List ℕ) (n : ℕ) (document : document_of.Document) (text : List ℕ) → IsFree bytes document → All (AskWithin n) document.asks → IsTooWide bytes n text → ⊥
+pub free_or_wide : (bytes : List ℕ) (n : ℕ) (document : document_of.Document) (text : List ℕ) → IsFreeDocument bytes document → All (AskWithin n) document.asks → HasGreaterArity bytes n text → ⊥
 free_or_wide bytes n document text free within h =
     none_greater n document.asks h.number within (subst (λ asks. IsFirstOfGreaterArity n asks h.number) (sym (same_documents bytes document h.document free.read h.free.read).asks) h.wide)
 
 module _ (writable : ReadDocumentsAreWritable) (bytes : List ℕ) (n : ℕ) where
-  same_asks : (document other : document_of.Document) → IsFree bytes document → IsFree bytes other → document.asks ≡ other.asks
+  same_asks : (document other : document_of.Document) → IsFreeDocument bytes document → IsFreeDocument bytes other → document.asks ≡ other.asks
   same_asks document other h g = (same_documents bytes document other h.read g.read).asks
 
-  wide_or_answered : (text other : List ℕ) → IsTooWide bytes n text → IsAnswered bytes n other → ⊥
+  wide_or_answered : (text other : List ℕ) → HasGreaterArity bytes n text → IsAnswered bytes n other → ⊥
   wide_or_answered text other h g =
       none_greater n g.document.asks h.number g.within (subst (λ asks. IsFirstOfGreaterArity n asks h.number) (same_asks h.document g.document h.free g.free) h.wide)
 
-  one_limit : (text other : List ℕ) → IsTooWide bytes n text → IsTooWide bytes n other → text ≡ other
+  one_limit : (text other : List ℕ) → HasGreaterArity bytes n text → HasGreaterArity bytes n other → text ≡ other
   one_limit text other h g =
       let asks = same_asks h.document g.document h.free g.free in
       h.text_is
@@ -78,7 +78,7 @@ module _ (writable : ReadDocumentsAreWritable) (bytes : List ℕ) (n : ℕ) wher
       (subst (λ gens. AreAnswered d.field gens (queries (asks_of e)) text) same.generators (subst (λ asks. AreAnswered d.field d.gens (queries (asked_by asks)) text) same.asks h.answered)) in
       same_answered e.field e.gens (queries (asks_of e)) text other (positive e g.free.read) here g.answered
 
-  pub one_telling : (status other : Status) (text others : List ℕ) → Tells bytes n status text → Tells bytes n other others → (status ≡ other) × (text ≡ others)
+  pub one_telling : (status other : Status) (text others : List ℕ) → FormsTells bytes n status text → FormsTells bytes n other others → (status ≡ other) × (text ≡ others)
   one_telling Document Document text others h g = (refl, one_refusal bytes text others h g)
   one_telling Document Limit text others h g = absurd (free_or_refused bytes g.document text g.free h)
   one_telling Document Done text others h g = absurd (free_or_refused bytes g.document text g.free h)

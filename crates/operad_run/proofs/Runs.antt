@@ -1,7 +1,7 @@
 -- How runs end.
 use Rattle.std.proofs.Common.{◌≡◌, ℕ, ◌+◌, ◌≤◌, ⊎_elim, List, ◌++◌, length, Option, Some, None, ap, sym, ◌∙◌, subst, arith, length-append, append-nil}
 use Rattle.std.specs.Io.KnownBytes.{Consumes, IsAtEnd}
-use Rattle.operad_run.specs.Runs.{Outside, Came, CameTooMany, Told, Wrote, Ends, most_bytes}
+use Rattle.operad_run.specs.Runs.{Outside, Came, CameTooMany, IsWrittenOut, Wrote, Ends, most_bytes}
 use Rattle.operad_run.specs.declared.status.Status.{Status}
 use Rattle.operad_run.specs.declared.status.Status.TheVariants.{Done, Refused, Usage, Document, Limit, Budget, ReadFault, WriteFault, NoMemory}
 
@@ -24,11 +24,11 @@ module _ (IsCommand : Type 0) (Says : Status → List ℕ → Type 0) where
 
   -- what is meant is told, or the sink failed
   pub told_ends : (meant status : Status) (o : Outside) (text : List ℕ) → IsSilent → Says meant text
-      → Told meant text status o.taken o.taken_now o.write_faults o.write_faults_now → Ends IsCommand Says status o
-  told_ends meant status o text silent says told = ⊎_elim
+      → IsWrittenOut meant text status o.taken o.taken_now o.write_faults o.write_faults_now → Ends IsCommand Says status o
+  told_ends meant status o text silent says contents = ⊎_elim
       (λ whole. subst (λ s. Ends IsCommand Says s o) (sym whole.0) (written meant o text silent says (record { written = whole.1; sound = whole.2 })))
       (λ part. subst (λ s. Ends IsCommand Says s o) (sym part.0) (record { rose = part.1; status = meant; text = text; says = says; part = part.2; less = part.3; written = part.4 }))
-      told
+      contents
 
 all_consumed : (bytes came : List ℕ) (now : Option (List ℕ)) → Consumes (Some bytes) now came → IsAtEnd now → came ≡ bytes
 all_consumed bytes came None h l = absurd h

@@ -11,12 +11,12 @@ use Rattle.presentation_text.specs.declared.document.AskKind.{AskKind}
 use Rattle.presentation_text.specs.declared.document.AskKind.TheVariants.{Query, Same}
 use Rattle.presentation_text.specs.declared.document.Document.{Document}
 use Rattle.presentation_text.specs.declared.document.Tail.{Tail}
-use Rattle.presentation_text.specs.DocumentForms.{LineFault, Whole, read_text}
-use Rattle.presentation_text.specs.DraftForms.{asked, asked_kind}
-use Rattle.presentation_text.specs.LineForms.{Asked}
+use Rattle.presentation_text.specs.DocumentReadings.{LineFault, Whole, read_text}
+use Rattle.presentation_text.specs.DraftReadings.{asked, asked_kind}
+use Rattle.presentation_text.specs.LineReadings.{Asked}
 use Rattle.presentation_text.specs.Lines.{lines}
-use Rattle.presentation_text.specs.Presentations.{IsReadAs, IsTail}
-use Rattle.certificate_text.specs.BlockForms.{Base, between, blocks_from, base_of, read_tail}
+use Rattle.presentation_text.specs.Presentations.{IsReadAs, IsTailOfText}
+use Rattle.certificate_text.specs.BlockReadings.{Base, between, blocks_from, base_of, read_tail}
 use Rattle.certificate_text.specs.Plain.{PlainBlock, plain_use, plain_step, plain_block}
 use Rattle.certificate_text.specs.Tails.{AreReadAs}
 use Rattle.certificate_text.specs.declared.block.Block.{Block}
@@ -95,7 +95,7 @@ over_ground : (bytes : List ℕ) (document : Document) (tail : Option Tail) → 
 over_ground bytes document None = refl
 over_ground bytes document (Some tail) = refl
 
-same_tail : (bytes : List ℕ) (ground : Base) (number : Option ℕ) (tail other : Option Tail) → IsTail bytes number tail → IsTail bytes number other
+same_tail : (bytes : List ℕ) (ground : Base) (number : Option ℕ) (tail other : Option Tail) → IsTailOfText bytes number tail → IsTailOfText bytes number other
     → tail_over bytes ground tail ≡ tail_over bytes ground other
 same_tail bytes ground None tail other h g = ap (tail_over bytes ground) (h ∙ sym g)
 same_tail bytes ground (Some n) None other h g = absurd h
@@ -106,7 +106,7 @@ same_tail bytes ground (Some n) (Some t) (Some u) h g =
     ap₂ (λ n ls. blocks_from ground (between, []) n ls) (h.line_is ∙ sym g.line_is) left
 
 -- a tail stands where one was read, and only there
-pub tail_or_none : (bytes : List ℕ) (number : Option ℕ) (tail : Option Tail) (other : Tail) → IsTail bytes number tail → tail ≡ None → IsTail bytes number (Some other) → ⊥
+pub tail_or_none : (bytes : List ℕ) (number : Option ℕ) (tail : Option Tail) (other : Tail) → IsTailOfText bytes number tail → tail ≡ None → IsTailOfText bytes number (Some other) → ⊥
 tail_or_none bytes None tail other h e g = cc
 tail_or_none bytes (Some n) None other h e g = absurd h
 tail_or_none bytes (Some n) (Some t) other h e g = cc
@@ -151,11 +151,11 @@ module _ (bytes : List ℕ) (document other : Document) (h : IsReadAs bytes docu
 
   pub same_documents : AreSame document other
   same_documents = record {
-    version = h.says.version_is ∙ ap (λ w. w.told.version) whole ∙ sym g.says.version_is;
-    field = some_apart document.field other.field (sym h.says.field_is ∙ ap (λ w. w.told.field) whole ∙ g.says.field_is);
-    generators = h.says.generators_are ∙ ap (λ w. w.told.generators) whole ∙ sym g.says.generators_are;
-    relations = same_by terms_of terms_apart document.rels other.rels (h.says.relations_are ∙ ap (λ w. w.told.relations) whole ∙ sym g.says.relations_are);
-    asks = same_by asked ask_apart document.asks other.asks (h.says.asks_are ∙ ap (λ w. w.told.asks) whole ∙ sym g.says.asks_are);
+    version = h.says.version_is ∙ ap (λ w. w.contents.version) whole ∙ sym g.says.version_is;
+    field = some_apart document.field other.field (sym h.says.field_is ∙ ap (λ w. w.contents.field) whole ∙ g.says.field_is);
+    generators = h.says.generators_are ∙ ap (λ w. w.contents.generators) whole ∙ sym g.says.generators_are;
+    relations = same_by terms_of terms_apart document.rels other.rels (h.says.relations_are ∙ ap (λ w. w.contents.relations) whole ∙ sym g.says.relations_are);
+    asks = same_by asked ask_apart document.asks other.asks (h.says.asks_are ∙ ap (λ w. w.contents.asks) whole ∙ sym g.says.asks_are);
   }
 
   grounds : base_of document ≡ base_of other
@@ -167,20 +167,20 @@ module _ (bytes : List ℕ) (document other : Document) (h : IsReadAs bytes docu
   pub same_tails : read_tail bytes document document.tail ≡ read_tail bytes other other.tail
   same_tails =
       over_ground bytes document document.tail ∙ ap (λ ground. tail_over bytes ground document.tail) grounds
-      ∙ same_tail bytes (base_of other) g.whole.tail document.tail other.tail (subst (λ w. IsTail bytes w.tail document.tail) whole h.tail_is) g.tail_is
+      ∙ same_tail bytes (base_of other) g.whole.tail document.tail other.tail (subst (λ w. IsTailOfText bytes w.tail document.tail) whole h.tail_is) g.tail_is
       ∙ sym (over_ground bytes other other.tail)
 
   -- a tail of the one is a tail of the other
   pub same_tail_lines : (tail turned : Tail) → document.tail ≡ Some tail → other.tail ≡ Some turned → tail.line ≡ turned.line
-  same_tail_lines tail turned e f = go g.whole.tail (subst (λ t. IsTail bytes g.whole.tail t) e (subst (λ w. IsTail bytes w.tail document.tail) whole h.tail_is)) (subst (λ t. IsTail bytes g.whole.tail t) f g.tail_is)
+  same_tail_lines tail turned e f = go g.whole.tail (subst (λ t. IsTailOfText bytes g.whole.tail t) e (subst (λ w. IsTailOfText bytes w.tail document.tail) whole h.tail_is)) (subst (λ t. IsTailOfText bytes g.whole.tail t) f g.tail_is)
     where
-      go : (number : Option ℕ) → IsTail bytes number (Some tail) → IsTail bytes number (Some turned) → tail.line ≡ turned.line
+      go : (number : Option ℕ) → IsTailOfText bytes number (Some tail) → IsTailOfText bytes number (Some turned) → tail.line ≡ turned.line
       go None a b = cc
       go (Some n) a b = a.line_is ∙ sym b.line_is
 
   pub no_tail_once : (turned : Tail) → document.tail ≡ None → other.tail ≡ Some turned → ⊥
   no_tail_once turned e f =
-      tail_or_none bytes g.whole.tail document.tail turned (subst (λ w. IsTail bytes w.tail document.tail) whole h.tail_is) e (subst (λ t. IsTail bytes g.whole.tail t) f g.tail_is)
+      tail_or_none bytes g.whole.tail document.tail turned (subst (λ w. IsTailOfText bytes w.tail document.tail) whole h.tail_is) e (subst (λ t. IsTailOfText bytes g.whole.tail t) f g.tail_is)
 
   -- the blocks of the one are those of the other
   pub same_blocks : (blocks others : List Block) → AreReadAs bytes document blocks → AreReadAs bytes other others → blocks ≡ others

@@ -1,8 +1,8 @@
 pub mod Commands
 pub mod Answers
-pub mod Forms
+pub mod FormsAnswers
 pub mod Laws
 pub mod Runs
 pub mod FormsRuns
-pub mod Certified
+pub mod CheckedTexts
 pub mod CheckRuns

@@ -96,8 +96,8 @@ pub record Wrote (o : Outside) (text : List ℕ) : Type 0 where
   pub sound : o.write_faults_now ≡ o.write_faults
 
 -- The whole text was written, and the status is as meant; or the sink failed, and has a first part of the text.
-abbrev pub Told : Status → List ℕ → Status → Option (List ℕ) → Option (List ℕ) → ℕ → ℕ → Type 0
-Told meant text status taken taken_now faults faults_now =
+abbrev pub IsWrittenOut : Status → List ℕ → Status → Option (List ℕ) → Option (List ℕ) → ℕ → ℕ → Type 0
+IsWrittenOut meant text status taken taken_now faults faults_now =
     ((status ≡ meant) × Takes taken taken_now text × (faults_now ≡ faults))
     ⊎ ((status ≡ WriteFault) × Rose faults faults_now × (n : ℕ) × (n < length text) × Takes taken taken_now (take n text))
 

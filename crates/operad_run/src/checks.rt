@@ -5,7 +5,7 @@ ghost use Rattle.symmetric_sums.specs.Terms.{FitsOver};
 ghost use Rattle.certificate_text.specs.Tails.{IsReadyBlock};
 ghost use Rattle.operad_answers.specs.Parts.{line};
 ghost use Rattle.operad_answers.specs.Verdicts.{Holds};
-ghost use Rattle.operad_run.specs.Certified.{IsRefusedBy, Tells, cause_name as name_of};
+ghost use Rattle.operad_run.specs.CheckedTexts.{IsRefusedBy, CheckTells, cause_name as name_of};
 
 use crate::run::fault_text;
 use crate::status::Status;
@@ -88,7 +88,7 @@ fn refused_text(alloc: Global, refusal: Refusal) -> Result<Vec<u8>, AllocError>
 /// is refused, with its kind. `AllocError` comes for want of memory alone.
 pub fn check_text(alloc: Global, bytes: &[u8]) -> Result<(Status, Vec<u8>), AllocError>
     requires short { length bytes.now ≤ 16777216 }
-    ensures told { IfOk result (λ told. Tells bytes.now told.0 told.1.items) }
+    ensures contents { IfOk result (λ contents. CheckTells bytes.now contents.0 contents.1.items) }
 {
     let document = match read_document(alloc, bytes) {
         Ok(document) => document,

@@ -1,13 +1,13 @@
 ghost use Rattle.std.specs.Prelude.{◌≡◌, ◌↔◌, ◌≤◌, ◌++◌, [], ◌∷◌, IfOk, IsTrue, MatchOption, OnOk, length};
 ghost use Rattle.std.specs.List.{All};
 ghost use Rattle.symmetric_sums.specs.Terms.{FitsOver, terms_of};
-ghost use Rattle.presentation_text.specs.DraftForms.{AskFits};
+ghost use Rattle.presentation_text.specs.DraftReadings.{AskFits};
 ghost use Rattle.operad_answers.specs.OrderedPresentations.{asks_of};
 ghost use Rattle.operad_answers.specs.Commands.{query_fault};
 ghost use Rattle.operad_answers.specs.Texts.{queries};
 ghost use Rattle.operad_answers.specs.Limits as limits;
 ghost use Rattle.operad_run.specs.Answers.{AddsAnswer, AreAnswered};
-ghost use Rattle.operad_run.specs.Forms as spec;
+ghost use Rattle.operad_run.specs.FormsAnswers as spec;
 ghost use Rattle.operad_run.specs.Laws.{AnswersAreDetermined};
 
 use crate::run::fault_text;
@@ -22,7 +22,7 @@ use symmetric_trees::GenTable;
 
 // Whether all trees of a sum have at most so many leaves.
 fn is_within(sum: &Sum, most: u8) -> bool
-    ensures { IsTrue result ↔ limits.IsWithin most sum.now }
+    ensures { IsTrue result ↔ limits.IsOfArityWithin most sum.now }
 {
     match sum.arity() {
         Some(arity) => arity <= most,
@@ -53,7 +53,7 @@ fn first_wide(asks: &[Ask], most: u8) -> Option<u32>
 
 // Whether no relation has terms.
 fn has_no_relations(document: &Document) -> bool
-    ensures { IsTrue result ↔ spec.HasNoRelations document.now }
+    ensures { IsTrue result ↔ spec.DocumentHasNoRelations document.now }
 {
     document
         .rels
@@ -127,7 +127,7 @@ fn wide_text(alloc: Global, line: u32) -> Result<Vec<u8>, AllocError>
 pub fn forms_text(alloc: Global, bytes: &[u8], most: u8) -> Result<(Status, Vec<u8>), AllocError>
     requires few { most ≤ 9 }
     requires short { length bytes.now ≤ 16777216 }
-    ensures told { IfOk result (λ told. spec.Tells bytes.now most told.0 told.1.items) }
+    ensures contents { IfOk result (λ contents. spec.FormsTells bytes.now most contents.0 contents.1.items) }
 {
     let document = match read_document(alloc, bytes) {
         Ok(document) => document,

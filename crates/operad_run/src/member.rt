@@ -1,6 +1,6 @@
 //! A run of the checker: the words and the bytes of a source in, the verdict into a sink.
 ghost use Rattle.std.specs.Prelude.{◌≡◌, ◌↔◌, IsTrue, map, string_bytes};
-ghost use Rattle.operad_run.specs.CheckRuns.{IsMemberWord, IsRun};
+ghost use Rattle.operad_run.specs.CheckRuns.{IsMemberWord, IsCheckRun};
 
 use crate::checks::check_text;
 use crate::run::{MOST_BYTES, tell};
@@ -38,7 +38,7 @@ pub fn check_run<S: Source, K: Sink>(
     source: &mut S,
     sink: &mut K,
 ) -> Status
-    ensures run { IsRun result (map string_bytes words.now) (record {
+    ensures run { IsCheckRun result (map string_bytes words.now) (record {
       left = S.left source.old;
       left_now = S.left source.new;
       read_faults = S.faults source.old;

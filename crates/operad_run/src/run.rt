@@ -1,7 +1,7 @@
 //! A run: the words and the bytes of a source in, the text into a sink.
 ghost use Rattle.std.specs.Prelude.{◌≡◌, IfOk, map, string_bytes};
-ghost use Rattle.operad_run.specs.Runs.{Told, fault_text as text_of_fault, kind_name as name_of};
-ghost use Rattle.operad_run.specs.FormsRuns.{IsRun};
+ghost use Rattle.operad_run.specs.Runs.{IsWrittenOut, fault_text as text_of_fault, kind_name as name_of};
+ghost use Rattle.operad_run.specs.FormsRuns.{IsFormsRun};
 
 use crate::commands::forms_arity;
 use crate::forms::forms_text;
@@ -15,7 +15,7 @@ pub(crate) const MOST_BYTES: u64 = 16_777_216;
 
 // Writes the text; the status is then this one, or that the sink failed.
 pub(crate) fn tell<K: Sink>(sink: &mut K, text: &[u8], status: Status) -> Status
-    ensures told { Told status text.now result (K.taken sink.old) (K.taken sink.new) (K.faults sink.old) (K.faults sink.new) }
+    ensures contents { IsWrittenOut status text.now result (K.taken sink.old) (K.taken sink.new) (K.faults sink.old) (K.faults sink.new) }
 {
     match write_all(sink, text) {
         Ok(()) => status,
@@ -82,7 +82,7 @@ pub fn operad_run<S: Source, K: Sink>(
     source: &mut S,
     sink: &mut K,
 ) -> Status
-    ensures run { IsRun result (map string_bytes words.now) (record {
+    ensures run { IsFormsRun result (map string_bytes words.now) (record {
       left = S.left source.old;
       left_now = S.left source.new;
       read_faults = S.faults source.old;

@@ -4,7 +4,7 @@ use Rattle.std.proofs.Common.{suc}
 use Rattle.labelled_trees.specs.Trees.{Tree, leaves}
 use Rattle.shuffle_insertions.specs.ShuffleTrees.{IsShuffle}
 use Rattle.shuffle_insertions.specs.Keys.{key, words_below}
-use Rattle.shuffle_insertions.specs.KeyBlocks.{AreAlike}
+use Rattle.shuffle_insertions.specs.KeyBlocks.{AreComparableKeys}
 use Rattle.shuffle_trees.specs.ValidTrees.{IsValid, IsWide}
 use Rattle.shuffle_trees.specs.Walks.{words, vertex_labels}
 use Rattle.shuffle_trees.specs.KeyParts.{words_in, row_in, labels_in}
@@ -25,4 +25,4 @@ FlatKeysAreSeen = (weights : ℕ → ℕ) (t : Tree ℕ) (k : FlatKey)
 
 -- Trees with the leaves 1 to n, each vertex of which has two or more inputs, have alike keys.
 abbrev pub KeysAreAlike : Type 0
-KeysAreAlike = (weights : ℕ → ℕ) (n : ℕ) (x y : Tree ℕ) → n ≤ 65535 → IsShuffle n x → IsShuffle n y → IsWide x → IsWide y → AreAlike (key weights x) (key weights y)
+KeysAreAlike = (weights : ℕ → ℕ) (n : ℕ) (x y : Tree ℕ) → n ≤ 65535 → IsShuffle n x → IsShuffle n y → IsWide x → IsWide y → AreComparableKeys (key weights x) (key weights y)

@@ -4,7 +4,7 @@ ghost use Rattle.std.specs.Cmp.Lexicographic.{slice_cmp};
 ghost use Rattle.labelled_trees.specs.Trees.{leaves};
 ghost use Rattle.shuffle_insertions.specs.ShuffleTrees.{IsShuffle};
 ghost use Rattle.shuffle_insertions.specs.Keys as spec;
-ghost use Rattle.shuffle_insertions.specs.KeyBlocks.{marked, AreAlike};
+ghost use Rattle.shuffle_insertions.specs.KeyBlocks.{marked, AreComparableKeys};
 ghost use Rattle.shuffle_insertions.specs.Orders.{IsTreeOrder};
 ghost use Rattle.shuffle_trees.specs.FlatKeys.{flat_row, flat_words};
 ghost use Rattle.path_orders.specs.Comparing.{AreComparable, key_words, words_by};
@@ -47,7 +47,7 @@ pub trait TreeOrder {
 
     ghost is_order: { (order : Self) (arity : ℕ → ℕ) → IsTreeOrder arity (λ x y. by_keys (spec.key (weights order) x) (spec.key (weights order) y)) };
 
-    ghost blocks_compare: { (order : Self) (a b : spec.Key) → AreAlike a b → slice_cmp nat_cmp (block order a) (block order b) ≡ by_keys a b };
+    ghost blocks_compare: { (order : Self) (a b : spec.Key) → AreComparableKeys a b → slice_cmp nat_cmp (block order a) (block order b) ≡ by_keys a b };
 }
 
 /// Law: the key of a shuffle tree whose leaves are 1 to `n`, as `Key::of` makes it, is seen as the key of the definitions.

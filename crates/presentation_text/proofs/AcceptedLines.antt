@@ -5,12 +5,12 @@ use Rattle.std.proofs.lemmas.Bool.Decides.{Decides-eqb}
 use Rattle.symmetric_trees.specs.Generators.{IsTable}
 use Rattle.symmetric_trees.specs.declared.generators.Generator.{Generator}
 use Rattle.presentation_text.specs.Accepted.{AreDemanded, ElementsAreAccepted, EndsBefore}
-use Rattle.presentation_text.specs.Elements.{Written, element_tokens, said}
-use Rattle.presentation_text.specs.ElementForms.{arity_of_first, element_in}
-use Rattle.presentation_text.specs.Grammar.{Adds, a_field, an_order, a_generator, a_weight, a_relation, a_query, a_comparison, IsGeneratorLine}
-use Rattle.presentation_text.specs.LineForms.{Asked, Told, field_line, gen_line, generator_in, is_prime, is_weighed, known, order_line, order_named, prime_of, query, query_in, query_line, rel_line, same, same_in, same_line, weight_line, weighed, with_ask, with_generator}
+use Rattle.presentation_text.specs.Elements.{Written, element_tokens, written_sum}
+use Rattle.presentation_text.specs.ElementReadings.{arity_of_first, element_in}
+use Rattle.presentation_text.specs.Grammar.{LineAdds, a_field, an_order, a_generator, a_weight, a_relation, a_query, a_comparison, IsGeneratorLine}
+use Rattle.presentation_text.specs.LineReadings.{Asked, Contents, field_line, gen_line, generator_in, is_prime, is_weighed, known, order_line, order_named, prime_of, query, query_in, query_line, rel_line, same, same_in, same_line, weight_line, weighed, with_ask, with_generator}
 use Rattle.presentation_text.specs.Readings.{Fault, end_in, first_row, mark_in, number_in, refused, word_in}
-use Rattle.presentation_text.specs.TreeForms.{demands_of, index_of}
+use Rattle.presentation_text.specs.TreeReadings.{demands_of, index_of}
 use Rattle.presentation_text.specs.declared.document.OrderName.{OrderName}
 use Rattle.presentation_text.specs.declared.kinds.DocKind.TheVariants as kind
 use Rattle.presentation_text.specs.declared.lexing.Token.{Token}
@@ -20,81 +20,81 @@ use Rattle.presentation_text.proofs.LineFormsNumbers.{not_at_most, not_at_most_t
 use Rattle.presentation_text.proofs.LineFormsRead.{both_read, not_refused, number_read, one_value, was_known, word_read}
 
 -- a line adds the same where its tokens, and what it leads to, are the same
-adds_as : (told whole now : Told) (number : ℕ) (word : List ℕ) (us ts : List Token) → ts ≡ us → whole ≡ now → Adds told number (Word word ∷ us) whole → Adds told number (Word word ∷ ts) now
-adds_as told whole now number word us ts e f h = subst (λ xs. Adds told number (Word word ∷ xs) now) (sym e) (subst (Adds told number (Word word ∷ us)) f h)
+adds_as : (contents whole now : Contents) (number : ℕ) (word : List ℕ) (us ts : List Token) → ts ≡ us → whole ≡ now → LineAdds contents number (Word word ∷ us) whole → LineAdds contents number (Word word ∷ ts) now
+adds_as contents whole now number word us ts e f h = subst (λ xs. LineAdds contents number (Word word ∷ xs) now) (sym e) (subst (LineAdds contents number (Word word ∷ us)) f h)
 
 -- ---- the field and the order
 
-pub field_adds : (told now : Told) (number : ℕ) (ts : List Token) → field_line told ts ≡ Ok now → Adds told number (Word (codes "field") ∷ ts) now
+pub field_adds : (contents now : Contents) (number : ℕ) (ts : List Token) → field_line contents ts ≡ Ok now → LineAdds contents number (Word (codes "field") ∷ ts) now
 unfolding field_line
-field_adds told now number ts e =
+field_adds contents now number ts e =
     let n = both_read (number_in ts) _ now e in
     let p = (n.0).0 in
     let left = (n.0).1 in
     let end = both_read (refused (suc (length left)) (first_row ((not (is_prime p), kind.FieldUnknown) ∷ [])) (end_in left)) _ now n.2 in
     let out = not_refused (suc (length left)) (not (is_prime p)) kind.FieldUnknown (end_in left) end.0 end.1 in
-    let whole : Told = record told { field = Some p; section = 2 } in
-    adds_as told whole now number (codes "field") (Number p ∷ []) ts (number_read ts n.0 n.1 ∙ ap (λ r. Number p ∷ r) (end_read left end.0 out.1)) (one_value (Ok whole) whole now refl end.2)
+    let whole : Contents = record contents { field = Some p; section = 2 } in
+    adds_as contents whole now number (codes "field") (Number p ∷ []) ts (number_read ts n.0 n.1 ∙ ap (λ r. Number p ∷ r) (end_read left end.0 out.1)) (one_value (Ok whole) whole now refl end.2)
     (a_field p (not_false_told (is_prime p) out.0))
 
-pub field_accepted : (told : Told) (p : ℕ) → is_prime p ≡ true → field_line told (Number p ∷ []) ≡ Ok (record told { field = Some p; section = 2 })
+pub field_accepted : (contents : Contents) (p : ℕ) → is_prime p ≡ true → field_line contents (Number p ∷ []) ≡ Ok (record contents { field = Some p; section = 2 })
 unfolding field_line
-field_accepted told p prime = rw prime refl
+field_accepted contents p prime = rw prime refl
 
-pub order_adds : (told now : Told) (number : ℕ) (ts : List Token) → order_line told ts ≡ Ok now → Adds told number (Word (codes "order") ∷ ts) now
+pub order_adds : (contents now : Contents) (number : ℕ) (ts : List Token) → order_line contents ts ≡ Ok now → LineAdds contents number (Word (codes "order") ∷ ts) now
 unfolding order_line
-order_adds told now number ts e =
+order_adds contents now number ts e =
     let word = both_read (word_in ts) _ now e in
     let w = (word.0).0 in
     let left = (word.0).1 in
-    let order = both_read (known (suc (length left)) kind.OrderUnknown (order_named told.version w)) _ now word.2 in
+    let order = both_read (known (suc (length left)) kind.OrderUnknown (order_named contents.version w)) _ now word.2 in
     let end = both_read (end_in left) _ now order.2 in
-    let whole : Told = record told { order = Some order.0; section = 3 } in
-    adds_as told whole now number (codes "order") (Word w ∷ []) ts (word_read ts word.0 word.1 ∙ ap (λ r. Word w ∷ r) (end_read left end.0 end.1)) (one_value (Ok whole) whole now refl end.2)
-    (an_order w order.0 (was_known (suc (length left)) kind.OrderUnknown (order_named told.version w) order.0 order.1))
+    let whole : Contents = record contents { order = Some order.0; section = 3 } in
+    adds_as contents whole now number (codes "order") (Word w ∷ []) ts (word_read ts word.0 word.1 ∙ ap (λ r. Word w ∷ r) (end_read left end.0 end.1)) (one_value (Ok whole) whole now refl end.2)
+    (an_order w order.0 (was_known (suc (length left)) kind.OrderUnknown (order_named contents.version w) order.0 order.1))
 
-pub order_accepted : (told : Told) (word : List ℕ) (order : OrderName) → order_named told.version word ≡ Some order
-    → order_line told (Word word ∷ []) ≡ Ok (record told { order = Some order; section = 3 })
+pub order_accepted : (contents : Contents) (word : List ℕ) (order : OrderName) → order_named contents.version word ≡ Some order
+    → order_line contents (Word word ∷ []) ≡ Ok (record contents { order = Some order; section = 3 })
 unfolding order_line
-order_accepted told word order named = rw named refl
+order_accepted contents word order named = rw named refl
 
 -- ---- generators and weights
 
-pub gen_adds : (told now : Told) (number : ℕ) (ts : List Token) → gen_line told ts ≡ Ok now → Adds told number (Word (codes "gen") ∷ ts) now
+pub gen_adds : (contents now : Contents) (number : ℕ) (ts : List Token) → gen_line contents ts ≡ Ok now → LineAdds contents number (Word (codes "gen") ∷ ts) now
 unfolding gen_line
-gen_adds told now number ts e =
-    let generator = both_read (generator_in told.version told.generators ts) _ now e in
-    let whole : Told = with_generator told generator.0 in
-    adds_as told whole now number (codes "gen") ts ts refl (one_value (Ok whole) whole now refl generator.2) (a_generator ts generator.0 (generator_told told ts generator.0 generator.1))
+gen_adds contents now number ts e =
+    let generator = both_read (generator_in contents.version contents.generators ts) _ now e in
+    let whole : Contents = with_generator contents generator.0 in
+    adds_as contents whole now number (codes "gen") ts ts refl (one_value (Ok whole) whole now refl generator.2) (a_generator ts generator.0 (generator_told contents ts generator.0 generator.1))
 
-pub gen_accepted : (told : Told) (ts : List Token) (generator : Generator) → IsGeneratorLine told ts generator → gen_line told ts ≡ Ok (with_generator told generator)
+pub gen_accepted : (contents : Contents) (ts : List Token) (generator : Generator) → IsGeneratorLine contents ts generator → gen_line contents ts ≡ Ok (with_generator contents generator)
 unfolding gen_line
-gen_accepted told ts generator h = rw (generator_accepted told ts generator h) refl
+gen_accepted contents ts generator h = rw (generator_accepted contents ts generator h) refl
 
-pub weight_adds : (told now : Told) (number : ℕ) (ts : List Token) → weight_line told ts ≡ Ok now → Adds told number (Word (codes "weight") ∷ ts) now
+pub weight_adds : (contents now : Contents) (number : ℕ) (ts : List Token) → weight_line contents ts ≡ Ok now → LineAdds contents number (Word (codes "weight") ∷ ts) now
 unfolding weight_line
-weight_adds told now number ts e =
+weight_adds contents now number ts e =
     let word = both_read (word_in ts) _ now e in
     let w = (word.0).0 in
     let left = (word.0).1 in
-    let found = both_read (known (suc (length left)) kind.NameUnknown (index_of w told.generators)) _ now word.2 in
+    let found = both_read (known (suc (length left)) kind.NameUnknown (index_of w contents.generators)) _ now word.2 in
     let g = found.0 in
-    let number_is = both_read (refused (suc (length left)) (first_row ((is_weighed g told.weights, kind.WeightTaken) ∷ [])) (number_in left)) _ now found.2 in
+    let number_is = both_read (refused (suc (length left)) (first_row ((is_weighed g contents.weights, kind.WeightTaken) ∷ [])) (number_in left)) _ now found.2 in
     let n = (number_is.0).0 in
     let rest = (number_is.0).1 in
-    let free = not_refused (suc (length left)) (is_weighed g told.weights) kind.WeightTaken (number_in left) number_is.0 number_is.1 in
+    let free = not_refused (suc (length left)) (is_weighed g contents.weights) kind.WeightTaken (number_in left) number_is.0 number_is.1 in
     let end = both_read (refused (suc (length rest)) (first_row ((nat_lt 1000000 n, kind.WeightOut) ∷ [])) (end_in rest)) _ now number_is.2 in
     let out = not_refused (suc (length rest)) (nat_lt 1000000 n) kind.WeightOut (end_in rest) end.0 end.1 in
-    let whole : Told = record told { weights = weighed g n told.weights; section = 4 } in
-    adds_as told whole now number (codes "weight") (Word w ∷ (Number n ∷ [])) ts
+    let whole : Contents = record contents { weights = weighed g n contents.weights; section = 4 } in
+    adds_as contents whole now number (codes "weight") (Word w ∷ (Number n ∷ [])) ts
     (word_read ts word.0 word.1 ∙ ap (λ r. Word w ∷ r) (number_read left number_is.0 free.1 ∙ ap (λ r. Number n ∷ r) (end_read rest end.0 out.1)))
     (one_value (Ok whole) whole now refl end.2)
-    (a_weight w g n (was_known (suc (length left)) kind.NameUnknown (index_of w told.generators) g found.1) free.0 (not_below_told 1000000 n out.0))
+    (a_weight w g n (was_known (suc (length left)) kind.NameUnknown (index_of w contents.generators) g found.1) free.0 (not_below_told 1000000 n out.0))
 
-pub weight_accepted : (told : Told) (name : List ℕ) (g weight : ℕ) → index_of name told.generators ≡ Some g → is_weighed g told.weights ≡ false → weight ≤ 1000000
-    → weight_line told (Word name ∷ (Number weight ∷ [])) ≡ Ok (record told { weights = weighed g weight told.weights; section = 4 })
+pub weight_accepted : (contents : Contents) (name : List ℕ) (g weight : ℕ) → index_of name contents.generators ≡ Some g → is_weighed g contents.weights ≡ false → weight ≤ 1000000
+    → weight_line contents (Word name ∷ (Number weight ∷ [])) ≡ Ok (record contents { weights = weighed g weight contents.weights; section = 4 })
 unfolding weight_line
-weight_accepted told name g weight named free small = rw (named, free, not_below 1000000 weight small) refl
+weight_accepted contents name g weight named free small = rw (named, free, not_below 1000000 weight small) refl
 
 -- ---- relations and questions
 
@@ -146,65 +146,65 @@ module _ (accepted : ElementsAreAccepted) (generators : List Generator) (table :
       → element_in generators (demands_of 1 None) (element_tokens generators terms ++ Byte 61 ∷ rest) ≡ Ok (terms, Byte 61 ∷ rest)
   side_accepted terms rest h = (accepted generators table 1 None (element_tokens generators terms ++ Byte 61 ∷ rest) (Byte 61 ∷ rest) terms).1 (refl, h, ends_at_equals terms rest)
 
-module _ (accepted : ElementsAreAccepted) (told : Told) (table : IsTable told.generators) where
-  pub rel_adds : (now : Told) (number : ℕ) (ts : List Token) → rel_line told ts ≡ Ok now → Adds told number (Word (codes "rel") ∷ ts) now
+module _ (accepted : ElementsAreAccepted) (contents : Contents) (table : IsTable contents.generators) where
+  pub rel_adds : (now : Contents) (number : ℕ) (ts : List Token) → rel_line contents ts ≡ Ok now → LineAdds contents number (Word (codes "rel") ∷ ts) now
   unfolding rel_line
   rel_adds now number ts e =
-      let out = not_refused (suc (length ts)) (nat_le 1000 (length told.relations)) kind.TooManyRelations _ now e in
-      let element = both_read (element_in told.generators (demands_of 2 None) ts) _ now out.1 in
+      let out = not_refused (suc (length ts)) (nat_le 1000 (length contents.relations)) kind.TooManyRelations _ now e in
+      let element = both_read (element_in contents.generators (demands_of 2 None) ts) _ now out.1 in
       let terms = (element.0).0 in
       let end = both_read (end_in (element.0).1) _ now element.2 in
-      let h = whole_told accepted told.generators table 2 None ts (element.0).1 terms end.0 element.1 end.1 in
-      let whole : Told = record told { relations = told.relations ++ said (prime_of told.field) terms ∷ []; section = 5 } in
-      adds_as told whole now number (codes "rel") (element_tokens told.generators terms) ts h.0 (one_value (Ok whole) whole now refl end.2)
-      (a_relation terms (not_at_most_told 1000 (length told.relations) out.0) h.1)
+      let h = whole_told accepted contents.generators table 2 None ts (element.0).1 terms end.0 element.1 end.1 in
+      let whole : Contents = record contents { relations = contents.relations ++ written_sum (prime_of contents.field) terms ∷ []; section = 5 } in
+      adds_as contents whole now number (codes "rel") (element_tokens contents.generators terms) ts h.0 (one_value (Ok whole) whole now refl end.2)
+      (a_relation terms (not_at_most_told 1000 (length contents.relations) out.0) h.1)
 
-  pub rel_accepted : (terms : List Written) → length told.relations < 1000 → AreDemanded told.generators 2 None terms
-      → rel_line told (element_tokens told.generators terms) ≡ Ok (record told { relations = told.relations ++ said (prime_of told.field) terms ∷ []; section = 5 })
+  pub rel_accepted : (terms : List Written) → length contents.relations < 1000 → AreDemanded contents.generators 2 None terms
+      → rel_line contents (element_tokens contents.generators terms) ≡ Ok (record contents { relations = contents.relations ++ written_sum (prime_of contents.field) terms ∷ []; section = 5 })
   unfolding rel_line
-  rel_accepted terms few h = rw (not_at_most 1000 (length told.relations) few, whole_accepted accepted told.generators table 2 None terms h) refl
+  rel_accepted terms few h = rw (not_at_most 1000 (length contents.relations) few, whole_accepted accepted contents.generators table 2 None terms h) refl
 
-  pub query_adds : (now : Told) (number : ℕ) (ts : List Token) → query_line told number ts ≡ Ok now → Adds told number (Word (codes "query") ∷ ts) now
+  pub query_adds : (now : Contents) (number : ℕ) (ts : List Token) → query_line contents number ts ≡ Ok now → LineAdds contents number (Word (codes "query") ∷ ts) now
   unfolding query_line query_in
   query_adds now number ts e =
-      let ask = both_read (query_in (prime_of told.field) told.generators ts) _ now e in
-      let element = both_read (element_in told.generators (demands_of 1 None) ts) _ ask.0 ask.1 in
+      let ask = both_read (query_in (prime_of contents.field) contents.generators ts) _ now e in
+      let element = both_read (element_in contents.generators (demands_of 1 None) ts) _ ask.0 ask.1 in
       let terms = (element.0).0 in
       let end = both_read (end_in (element.0).1) _ ask.0 element.2 in
-      let h = whole_told accepted told.generators table 1 None ts (element.0).1 terms end.0 element.1 end.1 in
-      let asked : Asked = query (said (prime_of told.field) terms) in
-      let last : Told = with_ask told number ask.0 in
-      adds_as told (with_ask told number asked) now number (codes "query") (element_tokens told.generators terms) ts h.0
-      (ap (with_ask told number) (one_value (Ok asked) asked ask.0 refl end.2) ∙ one_value (Ok last) last now refl ask.2) (a_query terms h.1)
+      let h = whole_told accepted contents.generators table 1 None ts (element.0).1 terms end.0 element.1 end.1 in
+      let asked : Asked = query (written_sum (prime_of contents.field) terms) in
+      let last : Contents = with_ask contents number ask.0 in
+      adds_as contents (with_ask contents number asked) now number (codes "query") (element_tokens contents.generators terms) ts h.0
+      (ap (with_ask contents number) (one_value (Ok asked) asked ask.0 refl end.2) ∙ one_value (Ok last) last now refl ask.2) (a_query terms h.1)
 
-  pub query_accepted : (number : ℕ) (terms : List Written) → AreDemanded told.generators 1 None terms
-      → query_line told number (element_tokens told.generators terms) ≡ Ok (with_ask told number (query (said (prime_of told.field) terms)))
+  pub query_accepted : (number : ℕ) (terms : List Written) → AreDemanded contents.generators 1 None terms
+      → query_line contents number (element_tokens contents.generators terms) ≡ Ok (with_ask contents number (query (written_sum (prime_of contents.field) terms)))
   unfolding query_line query_in
-  query_accepted number terms h = rw (whole_accepted accepted told.generators table 1 None terms h) refl
+  query_accepted number terms h = rw (whole_accepted accepted contents.generators table 1 None terms h) refl
 
-  pub same_adds : (now : Told) (number : ℕ) (ts : List Token) → same_line told number ts ≡ Ok now → Adds told number (Word (codes "same") ∷ ts) now
+  pub same_adds : (now : Contents) (number : ℕ) (ts : List Token) → same_line contents number ts ≡ Ok now → LineAdds contents number (Word (codes "same") ∷ ts) now
   unfolding same_line same_in
   same_adds now number ts e =
-      let ask = both_read (same_in (prime_of told.field) told.generators ts) _ now e in
-      let left = both_read (element_in told.generators (demands_of 1 None) ts) _ ask.0 ask.1 in
+      let ask = both_read (same_in (prime_of contents.field) contents.generators ts) _ now e in
+      let left = both_read (element_in contents.generators (demands_of 1 None) ts) _ ask.0 ask.1 in
       let terms = (left.0).0 in
       let rest = both_read (mark_in 61 (left.0).1) _ ask.0 left.2 in
-      let right = both_read (element_in told.generators (demands_of 1 (arity_of_first terms)) rest.0) _ ask.0 rest.2 in
+      let right = both_read (element_in contents.generators (demands_of 1 (arity_of_first terms)) rest.0) _ ask.0 rest.2 in
       let others = (right.0).0 in
       let end = both_read (end_in (right.0).1) _ ask.0 right.2 in
-      let one = element_told accepted told.generators table 1 None ts (left.0).1 terms left.1 in
-      let other = whole_told accepted told.generators table 1 (arity_of_first terms) rest.0 (right.0).1 others end.0 right.1 end.1 in
-      let front = element_tokens told.generators terms in
-      let back = element_tokens told.generators others in
-      let asked : Asked = same (said (prime_of told.field) terms) (said (prime_of told.field) others) in
-      let last : Told = with_ask told number ask.0 in
-      adds_as told (with_ask told number asked) now number (codes "same") (front ++ Byte 61 ∷ back) ts
+      let one = element_told accepted contents.generators table 1 None ts (left.0).1 terms left.1 in
+      let other = whole_told accepted contents.generators table 1 (arity_of_first terms) rest.0 (right.0).1 others end.0 right.1 end.1 in
+      let front = element_tokens contents.generators terms in
+      let back = element_tokens contents.generators others in
+      let asked : Asked = same (written_sum (prime_of contents.field) terms) (written_sum (prime_of contents.field) others) in
+      let last : Contents = with_ask contents number ask.0 in
+      adds_as contents (with_ask contents number asked) now number (codes "same") (front ++ Byte 61 ∷ back) ts
       (one.tokens_are ∙ ap (λ r. front ++ r) (equals_read (left.0).1 rest.0 rest.1 ∙ ap (λ r. Byte 61 ∷ r) other.0))
-      (ap (with_ask told number) (one_value (Ok asked) asked ask.0 refl end.2) ∙ one_value (Ok last) last now refl ask.2) (a_comparison terms others one.demanded other.1)
+      (ap (with_ask contents number) (one_value (Ok asked) asked ask.0 refl end.2) ∙ one_value (Ok last) last now refl ask.2) (a_comparison terms others one.demanded other.1)
 
-  pub same_accepted : (number : ℕ) (terms others : List Written) → AreDemanded told.generators 1 None terms → AreDemanded told.generators 1 (arity_of_first terms) others
-      → same_line told number (element_tokens told.generators terms ++ Byte 61 ∷ element_tokens told.generators others)
-      ≡ Ok (with_ask told number (same (said (prime_of told.field) terms) (said (prime_of told.field) others)))
+  pub same_accepted : (number : ℕ) (terms others : List Written) → AreDemanded contents.generators 1 None terms → AreDemanded contents.generators 1 (arity_of_first terms) others
+      → same_line contents number (element_tokens contents.generators terms ++ Byte 61 ∷ element_tokens contents.generators others)
+      ≡ Ok (with_ask contents number (same (written_sum (prime_of contents.field) terms) (written_sum (prime_of contents.field) others)))
   unfolding same_line same_in
   same_accepted number terms others h k =
-      rw (side_accepted accepted told.generators table terms (element_tokens told.generators others) h) (rw (whole_accepted accepted told.generators table 1 (arity_of_first terms) others k) refl)
+      rw (side_accepted accepted contents.generators table terms (element_tokens contents.generators others) h) (rw (whole_accepted accepted contents.generators table 1 (arity_of_first terms) others k) refl)

@@ -8,9 +8,9 @@ use Rattle.symmetric_trees.specs.declared.generators.Generator.{Generator}
 use Rattle.symmetric_trees.specs.declared.generators.Part.{Part}
 use Rattle.symmetric_trees.specs.declared.generators.PartKind.{PartKind}
 use Rattle.presentation_text.specs.Grammar.{ArePartTokens, no_parts, one_part, IsSymmetry, ArePartsOf, IsGeneratorLine}
-use Rattle.presentation_text.specs.LineForms.{Told, all_parts_in, generator_in, inputs_in, known, named_arity_in, part_in, part_named, parts_in, symmetry_in, symmetry_named}
+use Rattle.presentation_text.specs.LineReadings.{Contents, all_parts_in, generator_in, inputs_in, known, named_arity_in, part_in, part_named, parts_in, symmetry_in, symmetry_named}
 use Rattle.presentation_text.specs.Readings.{end_in, first_row, number_in, refused, word_in}
-use Rattle.presentation_text.specs.TreeForms.{index_of}
+use Rattle.presentation_text.specs.TreeReadings.{index_of}
 use Rattle.presentation_text.specs.declared.kinds.DocKind.TheVariants.{PartsOut, Syntax}
 use Rattle.presentation_text.specs.declared.lexing.Token.{Token}
 use Rattle.presentation_text.specs.declared.lexing.Token.TheVariants.{Word, Number}
@@ -154,17 +154,17 @@ inputs_accepted version arity ts parts some (inr (other, h)) = let one = not_equ
 
 -- ---- the generator
 
-pub generator_told : (told : Told) (ts : List Token) (generator : Generator) → generator_in told.version told.generators ts ≡ Ok generator → IsGeneratorLine told ts generator
-generator_told told ts generator e =
-    let read = generator_read told.version told.generators ts generator e in
+pub generator_told : (contents : Contents) (ts : List Token) (generator : Generator) → generator_in contents.version contents.generators ts ≡ Ok generator → IsGeneratorLine contents ts generator
+generator_told contents ts generator e =
+    let read = generator_read contents.version contents.generators ts generator e in
     record {
       behind = read.rest;
       few = read.named.room;
       short = read.named.short;
-      new_name = index-none told.generators generator.name read.named.new_name;
+      new_name = index-none contents.generators generator.name read.named.new_name;
       arity = read.named.arity;
       tokens_are = read.named.tokens_are;
-      parts_are = inputs_told (told.version == 2) told.version generator.arity read.rest generator.parts refl read.parts;
+      parts_are = inputs_told (contents.version == 2) contents.version generator.arity read.rest generator.parts refl read.parts;
     }
 
 named_accepted : (generators : List Generator) (name : List ℕ) (arity : ℕ) (rest : List Token) → length generators < 12 → length name ≤ 16 → index_of name generators ≡ None → IsArity arity
@@ -172,10 +172,10 @@ named_accepted : (generators : List Generator) (name : List ℕ) (arity : ℕ) (
 unfolding named_arity_in
 named_accepted generators name arity rest few short new is = rw (not_at_most 12 (length generators) few, not_below 16 (length name) short, new, arity_is arity is.0 is.1) refl
 
-pub generator_accepted : (told : Told) (ts : List Token) (generator : Generator) → IsGeneratorLine told ts generator → generator_in told.version told.generators ts ≡ Ok generator
+pub generator_accepted : (contents : Contents) (ts : List Token) (generator : Generator) → IsGeneratorLine contents ts generator → generator_in contents.version contents.generators ts ≡ Ok generator
 unfolding generator_in
-generator_accepted told ts generator h =
-    let named = named_accepted told.generators generator.name generator.arity h.behind h.few h.short h.new_name h.arity in
+generator_accepted contents ts generator h =
+    let named = named_accepted contents.generators generator.name generator.arity h.behind h.few h.short h.new_name h.arity in
     let some : 0 < generator.arity = omega (arith, h.arity.0) in
-    let inputs = inputs_accepted told.version generator.arity h.behind generator.parts some h.parts_are in
-    rw (ap (named_arity_in told.generators) h.tokens_are ∙ named) (rw inputs refl)
+    let inputs = inputs_accepted contents.version generator.arity h.behind generator.parts some h.parts_are in
+    rw (ap (named_arity_in contents.generators) h.tokens_are ∙ named) (rw inputs refl)

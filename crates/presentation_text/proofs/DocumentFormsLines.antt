@@ -3,8 +3,8 @@ use Rattle.std.proofs.Common.{◌≡◌, ◌+◌, ℕ, zero, suc, true, false, �
 use Rattle.std.specs.Option.{is_some}
 use Rattle.std.specs.Result.{IsErr, IsErrAnd, MatchResult}
 use Rattle.presentation_text.specs.DocumentDrafts.{StopsAtLine, tail_number}
-use Rattle.presentation_text.specs.DocumentForms.{Behind, LineFault, Whole, at_end, behind_header, counted_line, document_from, goes_on, lines_from, on_from, refused_at, tail_begins, unless_refused, version_of, word_line}
-use Rattle.presentation_text.specs.LineForms.{Told, rest_of_line, section_of, told_by_header, word_fault}
+use Rattle.presentation_text.specs.DocumentReadings.{Behind, LineFault, Whole, at_end, behind_header, counted_line, document_from, goes_on, lines_from, on_from, refused_at, tail_begins, unless_refused, version_of, word_line}
+use Rattle.presentation_text.specs.LineReadings.{Contents, rest_of_line, section_of, contents_by_header, word_fault}
 use Rattle.presentation_text.specs.Lines.{counts}
 use Rattle.presentation_text.specs.Tokens.{tokens}
 use Rattle.presentation_text.specs.declared.kinds.DocKind.{DocKind}
@@ -21,19 +21,19 @@ pub begun_by : (all slice : List Token) (token : Token) (word name : List ℕ) �
 begun_by all [] token word name e l first f n = absurd (omega arith)
 begun_by all (t ∷ ts) token word name e l first f n = sym e ∙ ap (λ x. x ∷ ts) (sym first ∙ f ∙ ap Word (sym n))
 
-pub line_refused : (told : Told) (number : ℕ) (ts rest : List Token) (w : List ℕ) (kind : DocKind) → ts ≡ Word w ∷ rest → word_fault told w ≡ Some kind → counted_line told number ts ≡ Err (number, kind)
+pub line_refused : (contents : Contents) (number : ℕ) (ts rest : List Token) (w : List ℕ) (kind : DocKind) → ts ≡ Word w ∷ rest → word_fault contents w ≡ Some kind → counted_line contents number ts ≡ Err (number, kind)
 unfolding word_line
-line_refused told number ts rest w kind e f = rw (e, f) refl
+line_refused contents number ts rest w kind e f = rw (e, f) refl
 
-pub line_begins_tail : (told : Told) (number : ℕ) (ts rest : List Token) (w : List ℕ) → ts ≡ Word w ∷ rest → word_fault told w ≡ None → section_of told.version w ≡ 7
-    → counted_line told number ts ≡ Ok tail_begins
+pub line_begins_tail : (contents : Contents) (number : ℕ) (ts rest : List Token) (w : List ℕ) → ts ≡ Word w ∷ rest → word_fault contents w ≡ None → section_of contents.version w ≡ 7
+    → counted_line contents number ts ≡ Ok tail_begins
 unfolding word_line
-line_begins_tail told number ts rest w e f g = let seventh : (section_of told.version w == 7) ≡ true = ap (λ n. n == 7) g in rw (e, f, seventh) refl
+line_begins_tail contents number ts rest w e f g = let seventh : (section_of contents.version w == 7) ≡ true = ap (λ n. n == 7) g in rw (e, f, seventh) refl
 
-pub line_goes_on : (told : Told) (number : ℕ) (ts rest : List Token) (w : List ℕ) → ts ≡ Word w ∷ rest → word_fault told w ≡ None → (section_of told.version w == 7) ≡ false
-    → counted_line told number ts ≡ refused_at number (rest_of_line told number w rest)
+pub line_goes_on : (contents : Contents) (number : ℕ) (ts rest : List Token) (w : List ℕ) → ts ≡ Word w ∷ rest → word_fault contents w ≡ None → (section_of contents.version w == 7) ≡ false
+    → counted_line contents number ts ≡ refused_at number (rest_of_line contents number w rest)
 unfolding word_line
-line_goes_on told number ts rest w e f g = rw (e, f, g) refl
+line_goes_on contents number ts rest w e f g = rw (e, f, g) refl
 
 -- ---- what functions that stop at a line give
 
@@ -54,38 +54,38 @@ lines_stop on reading whole NoMemory e h = tt
 
 -- ---- the lines behind the header
 
-pub lines_passed : (told : Told) (number : ℕ) (all others : List (List ℕ)) (line : List ℕ) → all ≡ line ∷ others → counts line ≡ false → lines_from told number all ≡ lines_from told (number + 1) others
+pub lines_passed : (contents : Contents) (number : ℕ) (all others : List (List ℕ)) (line : List ℕ) → all ≡ line ∷ others → counts line ≡ false → lines_from contents number all ≡ lines_from contents (number + 1) others
 unfolding lines_from
-lines_passed told number all others line e passed = rw (e, passed, add-one) refl
+lines_passed contents number all others line e passed = rw (e, passed, add-one) refl
 
-pub lines_counted : (told : Told) (number : ℕ) (all others : List (List ℕ)) (line : List ℕ) → all ≡ line ∷ others → counts line ≡ true
-    → lines_from told number all ≡ unless_refused (on_from number (λ now. lines_from now (number + 1) others) told) (counted_line told number (tokens line))
+pub lines_counted : (contents : Contents) (number : ℕ) (all others : List (List ℕ)) (line : List ℕ) → all ≡ line ∷ others → counts line ≡ true
+    → lines_from contents number all ≡ unless_refused (on_from number (λ now. lines_from now (number + 1) others) contents) (counted_line contents number (tokens line))
 unfolding lines_from
-lines_counted told number all others line e counted = rw (e, counted, add-one) refl
+lines_counted contents number all others line e counted = rw (e, counted, add-one) refl
 
-pub lines_go_on : (told now : Told) (number : ℕ) (all others : List (List ℕ)) (line : List ℕ) → all ≡ line ∷ others → counts line ≡ true → counted_line told number (tokens line) ≡ Ok (goes_on now)
-    → lines_from told number all ≡ lines_from now (number + 1) others
-lines_go_on told now number all others line e counted h =
-    lines_counted told number all others line e counted ∙ ap (unless_refused (on_from number (λ later. lines_from later (number + 1) others) told)) h
+pub lines_go_on : (contents now : Contents) (number : ℕ) (all others : List (List ℕ)) (line : List ℕ) → all ≡ line ∷ others → counts line ≡ true → counted_line contents number (tokens line) ≡ Ok (goes_on now)
+    → lines_from contents number all ≡ lines_from now (number + 1) others
+lines_go_on contents now number all others line e counted h =
+    lines_counted contents number all others line e counted ∙ ap (unless_refused (on_from number (λ later. lines_from later (number + 1) others) contents)) h
 
-pub lines_tail : (told : Told) (number : ℕ) (all others : List (List ℕ)) (line : List ℕ) → all ≡ line ∷ others → counts line ≡ true → counted_line told number (tokens line) ≡ Ok tail_begins
-    → lines_from told number all ≡ Ok (record { told = told; tail = Some number })
-lines_tail told number all others line e counted h =
-    lines_counted told number all others line e counted ∙ ap (unless_refused (on_from number (λ later. lines_from later (number + 1) others) told)) h
+pub lines_tail : (contents : Contents) (number : ℕ) (all others : List (List ℕ)) (line : List ℕ) → all ≡ line ∷ others → counts line ≡ true → counted_line contents number (tokens line) ≡ Ok tail_begins
+    → lines_from contents number all ≡ Ok (record { contents = contents; tail = Some number })
+lines_tail contents number all others line e counted h =
+    lines_counted contents number all others line e counted ∙ ap (unless_refused (on_from number (λ later. lines_from later (number + 1) others) contents)) h
 
 pub tail_some : (left number : ℕ) → 0 < left → tail_number left number ≡ Some number
 tail_some zero number l = absurd (omega arith)
 tail_some (suc left) number l = refl
 
-pub lines_end : (told : Told) (number : ℕ) (all : List (List ℕ)) → all ≡ [] → lines_from told number all ≡ at_end told number
+pub lines_end : (contents : Contents) (number : ℕ) (all : List (List ℕ)) → all ≡ [] → lines_from contents number all ≡ at_end contents number
 unfolding lines_from
-lines_end told number all e = rw e refl
+lines_end contents number all e = rw e refl
 
-pub end_missing : (told : Told) (number : ℕ) → (is_some told.field && is_some told.order) ≡ false → at_end told number ≡ Err (number, Missing)
-end_missing told number e = rw e refl
+pub end_missing : (contents : Contents) (number : ℕ) → (is_some contents.field && is_some contents.order) ≡ false → at_end contents number ≡ Err (number, Missing)
+end_missing contents number e = rw e refl
 
-pub end_whole : (told : Told) (number : ℕ) → (is_some told.field && is_some told.order) ≡ true → at_end told number ≡ Ok (record { told = told; tail = None })
-end_whole told number e = rw e refl
+pub end_whole : (contents : Contents) (number : ℕ) → (is_some contents.field && is_some contents.order) ≡ true → at_end contents number ≡ Ok (record { contents = contents; tail = None })
+end_whole contents number e = rw e refl
 
 -- ---- the header
 
@@ -94,7 +94,7 @@ unfolding document_from
 header_passed number all others line e passed = rw (e, passed, add-one) refl
 
 pub header_counted : (number : ℕ) (all others : List (List ℕ)) (line : List ℕ) → all ≡ line ∷ others → counts line ≡ true
-    → document_from number all ≡ behind_header number (λ version. lines_from (told_by_header version) (number + 1) others) (version_of (tokens line))
+    → document_from number all ≡ behind_header number (λ version. lines_from (contents_by_header version) (number + 1) others) (version_of (tokens line))
 unfolding document_from
 header_counted number all others line e counted = rw (e, counted, add-one) refl
 

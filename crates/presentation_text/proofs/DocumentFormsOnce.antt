@@ -1,10 +1,10 @@
 -- A text is read in one way.
 use Rattle.std.proofs.Common.{◌≡◌, ◌<◌, ◌≤◌, ◌+◌, ◌==◌, ◌⊎◌, inl, inr, ℕ, suc, Bool, true, false, if◌then◌else◌, List, [], ◌∷◌, ◌++◌, length, drop, get_or, Option, Some, None, Result, Ok, Err, arith, ap, sym, ◌∙◌, refl, subst, length-drop}
 use Rattle.std.proofs.Math.Seq.{drop-cons}
-use Rattle.presentation_text.specs.DocumentForms.{LineFault, Whole, read_text}
+use Rattle.presentation_text.specs.DocumentReadings.{LineFault, Whole, read_text}
 use Rattle.presentation_text.specs.Laws.{DocumentsAreDetermined, SayTheSame}
 use Rattle.presentation_text.specs.Lines.{in_front, lines}
-use Rattle.presentation_text.specs.Presentations.{IsReadAs, IsRefused, IsTail, IsTailAt, Says}
+use Rattle.presentation_text.specs.Presentations.{IsReadAs, IsTextRefused, IsTailOfText, IsTailAt, HasContents}
 use Rattle.presentation_text.specs.declared.document.Document.{Document}
 use Rattle.presentation_text.specs.declared.document.Tail.{Tail}
 use Rattle.presentation_text.specs.declared.kinds.DocFail.{DocFail}
@@ -89,7 +89,7 @@ one_start bytes number tail other h g =
     let line : tail.line ≡ other.line = h.line_is ∙ sym g.line_is in
     ap (λ n. record { line = n; from = tail.from }) line ∙ ap (λ n. record { line = other.line; from = n }) from
 
-one_tail : (bytes : List ℕ) (number : Option ℕ) (tail other : Option Tail) → IsTail bytes number tail → IsTail bytes number other → tail ≡ other
+one_tail : (bytes : List ℕ) (number : Option ℕ) (tail other : Option Tail) → IsTailOfText bytes number tail → IsTailOfText bytes number other → tail ≡ other
 one_tail bytes None tail other h g = h ∙ sym g
 one_tail bytes (Some number) None other h g = absurd h
 one_tail bytes (Some number) (Some tail) None h g = absurd g
@@ -103,12 +103,12 @@ same_value found x y e f = cc
 one_whole : {A : Type 0} (reading : Result A LineFault) (x y : A) → reading ≡ Ok x → reading ≡ Ok y → x ≡ y
 one_whole reading x y e f = cc
 
-say_same : (bytes : List ℕ) (whole : Whole) (document other : Document) → Says whole.told document → Says whole.told other → IsTail bytes whole.tail document.tail → IsTail bytes whole.tail other.tail
+say_same : (bytes : List ℕ) (whole : Whole) (document other : Document) → HasContents whole.contents document → HasContents whole.contents other → IsTailOfText bytes whole.tail document.tail → IsTailOfText bytes whole.tail other.tail
     → SayTheSame document other
 say_same bytes whole document other h g tail end = record {
   version = h.version_is ∙ sym g.version_is;
-  field = same_value whole.told.field document.field other.field h.field_is g.field_is;
-  order = same_value whole.told.order document.order other.order h.order_is g.order_is;
+  field = same_value whole.contents.field document.field other.field h.field_is g.field_is;
+  order = same_value whole.contents.order document.order other.order h.order_is g.order_is;
   generators = h.generators_are ∙ sym g.generators_are;
   weights = h.weights_are ∙ sym g.weights_are;
   relations = h.relations_are ∙ sym g.relations_are;
@@ -119,12 +119,12 @@ say_same bytes whole document other h g tail end = record {
 one_document : (bytes : List ℕ) (document other : Document) → IsReadAs bytes document → IsReadAs bytes other → SayTheSame document other
 one_document bytes document other h g =
     let same = one_whole (read_text bytes) g.whole h.whole g.reading_is h.reading_is in
-    say_same bytes h.whole document other h.says (subst (λ whole. Says whole.told other) same g.says) h.tail_is (subst (λ whole. IsTail bytes whole.tail other.tail) same g.tail_is)
+    say_same bytes h.whole document other h.says (subst (λ whole. HasContents whole.contents other) same g.says) h.tail_is (subst (λ whole. IsTailOfText bytes whole.tail other.tail) same g.tail_is)
 
 same_fault : {A : Type 0} (reading : Result A LineFault) (x y : LineFault) → reading ≡ Err x → reading ≡ Err y → x ≡ y
 same_fault reading x y e f = cc
 
-one_fault : (bytes : List ℕ) (fail other : DocFail) → IsRefused bytes (At fail) → IsRefused bytes (At other) → fail ≡ other
+one_fault : (bytes : List ℕ) (fail other : DocFail) → IsTextRefused bytes (At fail) → IsTextRefused bytes (At other) → fail ≡ other
 one_fault bytes fail other h g =
     let same = same_fault (read_text bytes) (fail.line, fail.kind) (other.line, other.kind) h g in
     let line : fail.line ≡ other.line = ap (λ fault. fault.0) same in
@@ -134,7 +134,7 @@ one_fault bytes fail other h g =
 never_both : {A : Type 0} (reading : Result A LineFault) (x : A) (fault : LineFault) → reading ≡ Ok x → reading ≡ Err fault → ⊥
 never_both reading x fault e f = cc
 
-accepted_or_refused : (bytes : List ℕ) (reading : Result Whole LineFault) → read_text bytes ≡ reading → ((whole : Whole) × (read_text bytes ≡ Ok whole)) ⊎ ((fail : DocFail) × IsRefused bytes (At fail))
+accepted_or_refused : (bytes : List ℕ) (reading : Result Whole LineFault) → read_text bytes ≡ reading → ((whole : Whole) × (read_text bytes ≡ Ok whole)) ⊎ ((fail : DocFail) × IsTextRefused bytes (At fail))
 accepted_or_refused bytes (Ok whole) e = inl (whole, e)
 accepted_or_refused bytes (Err fault) e = inr (record { line = fault.0; kind = fault.1 }, e)
 

@@ -2,7 +2,7 @@
 use Rattle.std.proofs.Common.{◌≡◌, ◌<◌, ◌+◌, ◌-◌, ℕ, zero, suc, Option, Some, List, [], ◌∷◌, ◌++◌, length, drop, append_assoc, length-append, arith, sym, ap, ◌∙◌, refl, subst}
 use Rattle.presentation_text.specs.DocumentDrafts.{IsRestFrom, tail_number, tail_of}
 use Rattle.presentation_text.specs.Lines.{EndsWith, lines}
-use Rattle.presentation_text.specs.Presentations.{IsTail, IsTailAt}
+use Rattle.presentation_text.specs.Presentations.{IsTailOfText, IsTailAt}
 use Rattle.presentation_text.specs.declared.document.Tail.{Tail}
 use Rattle.presentation_text.proofs.TextEnds.{drop-end, ends_itself, ends_within}
 
@@ -41,8 +41,8 @@ tail_stands text rest number tail stands line from =
     }
 
 pub is_tail : (text rest : List ℕ) (left number : ℕ) (tail : Option Tail) → IsRestFrom text 1 number rest → left ≡ length rest → tail ≡ tail_of (length text) left number
-    → IsTail text (tail_number left number) tail
+    → IsTailOfText text (tail_number left number) tail
 is_tail text rest zero number tail stands l e = e
 is_tail text rest (suc left) number tail stands l e =
-    subst (IsTail text (Some number)) (sym e)
+    subst (IsTailOfText text (Some number)) (sym e)
     (tail_stands text rest number (record { line = number; from = length text - suc left }) stands refl (ap (λ n. length text - n) l))

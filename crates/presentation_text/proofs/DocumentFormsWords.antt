@@ -1,7 +1,7 @@
 -- What is known where nothing stands against the word of a line.
 use Rattle.std.proofs.Common.{◌≡◌, ℕ, Bool, true, false, not, ◌&&◌, ◌||◌, nat_lt, if◌then◌else◌, List, [], ◌∷◌, codes, Option, Some, None, refl}
 use Rattle.std.specs.Option.{is_some}
-use Rattle.presentation_text.specs.LineForms.{Told, is, is_inside_tail, is_missing, is_out_of_order, is_unknown, section_of, word_fault}
+use Rattle.presentation_text.specs.LineReadings.{Contents, is, is_inside_tail, is_missing, is_out_of_order, is_unknown, section_of, word_fault}
 use Rattle.presentation_text.specs.Readings.{first_row}
 use Rattle.presentation_text.specs.declared.kinds.DocKind.{DocKind}
 use Rattle.presentation_text.proofs.Names.{other_name, same_name}
@@ -45,25 +45,25 @@ both_stand false b c true e f g = absurd cc
 both_stand false b c false e f g = absurd cc
 
 -- the word isn't missed, and is not out of order
-nothing_against : (told : Told) (w : List ℕ) → word_fault told w ≡ None → (is_missing told w ≡ false) × (is_out_of_order told w ≡ false)
+nothing_against : (contents : Contents) (w : List ℕ) → word_fault contents w ≡ None → (is_missing contents w ≡ false) × (is_out_of_order contents w ≡ false)
 unfolding word_fault
-nothing_against told w e =
-    let rows = no_row (is_unknown told.version w) (is_missing told w) (is_out_of_order told w) (is_inside_tail w) _ _ _ _ e in
+nothing_against contents w e =
+    let rows = no_row (is_unknown contents.version w) (is_missing contents w) (is_out_of_order contents w) (is_inside_tail w) _ _ _ _ e in
     (rows.1, rows.2)
 
 -- a `field` line is the first one
-pub first_field : (told : Told) (w : List ℕ) → word_fault told w ≡ None → w ≡ codes "field" → told.field ≡ None
-first_field told w e f =
-    let order = (nothing_against told w e).1 in
-    is_none told.field (not_both (is w (codes "field")) (is_some told.field) (same_name w (codes "field") f)
-    (or_middle (nat_lt 0 (section_of told.version w) && nat_lt (section_of told.version w) told.section) (is w (codes "field") && is_some told.field) (is w (codes "order") && is_some told.order) order))
+pub first_field : (contents : Contents) (w : List ℕ) → word_fault contents w ≡ None → w ≡ codes "field" → contents.field ≡ None
+first_field contents w e f =
+    let order = (nothing_against contents w e).1 in
+    is_none contents.field (not_both (is w (codes "field")) (is_some contents.field) (same_name w (codes "field") f)
+    (or_middle (nat_lt 0 (section_of contents.version w) && nat_lt (section_of contents.version w) contents.section) (is w (codes "field") && is_some contents.field) (is w (codes "order") && is_some contents.order) order))
 
 -- before any other line a field stands
-pub field_before : (told : Told) (w : List ℕ) → word_fault told w ≡ None → (w ≡ codes "field" → ⊥) → is_some told.field ≡ true
-field_before told w e other =
-    let missing = (nothing_against told w e).0 in
-    stands (is_some told.field) (is w (codes "field")) (other_name w (codes "field") other)
-    (or_first (not (is_some told.field) && not (is w (codes "field"))) (is_some told.field && not (is_some told.order) && not (is w (codes "order")) && not (is w (codes "field"))) missing)
+pub field_before : (contents : Contents) (w : List ℕ) → word_fault contents w ≡ None → (w ≡ codes "field" → ⊥) → is_some contents.field ≡ true
+field_before contents w e other =
+    let missing = (nothing_against contents w e).0 in
+    stands (is_some contents.field) (is w (codes "field")) (other_name w (codes "field") other)
+    (or_first (not (is_some contents.field) && not (is w (codes "field"))) (is_some contents.field && not (is_some contents.order) && not (is w (codes "order")) && not (is w (codes "field"))) missing)
 
 late_section : (a b : Bool) (section : ℕ) → (if a then 2 else (if b then 3 else section)) ≡ 7 → (a ≡ false) × (b ≡ false)
 late_section true b section e = absurd cc
@@ -71,8 +71,8 @@ late_section false true section e = absurd cc
 late_section false false section e = (refl, refl)
 
 -- before a tail a field and an order stand
-pub both_before : (told : Told) (w : List ℕ) → word_fault told w ≡ None → section_of told.version w ≡ 7 → (is_some told.field ≡ true) × (is_some told.order ≡ true)
-both_before told w e section =
-    let missing = (nothing_against told w e).0 in
+pub both_before : (contents : Contents) (w : List ℕ) → word_fault contents w ≡ None → section_of contents.version w ≡ 7 → (is_some contents.field ≡ true) × (is_some contents.order ≡ true)
+both_before contents w e section =
+    let missing = (nothing_against contents w e).0 in
     let other = late_section (is w (codes "field")) (is w (codes "order")) _ section in
-    both_stand (is_some told.field) (is_some told.order) (is w (codes "order")) (is w (codes "field")) other.1 other.0 missing
+    both_stand (is_some contents.field) (is_some contents.order) (is w (codes "order")) (is w (codes "field")) other.1 other.0 missing

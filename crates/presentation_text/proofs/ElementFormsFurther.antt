@@ -8,8 +8,8 @@ use Rattle.presentation_text.specs.declared.terms.ElementAt.{ElementAt}
 use Rattle.presentation_text.specs.declared.terms.TermRead.{TermRead}
 use Rattle.presentation_text.specs.declared.trees.Demands.{Demands}
 use Rattle.presentation_text.specs.Readings.{Fault, Reading, ◌>>=◌}
-use Rattle.presentation_text.specs.Elements.{Written, said}
-use Rattle.presentation_text.specs.ElementForms.{behind_one, sign, term_in, further_in, written, IsTermRead, GoesOn}
+use Rattle.presentation_text.specs.Elements.{Written, written_sum}
+use Rattle.presentation_text.specs.ElementReadings.{behind_one, sign, term_in, further_in, written, IsTermRead, GoesOn}
 use Rattle.presentation_text.proofs.ElementFormsRead.{drop-behind_one}
 use Rattle.presentation_text.proofs.ElementFormsSums.{said-append}
 
@@ -71,7 +71,7 @@ module _ (generators : List Generator) (demands : Demands) where
     pub within : next ≤ length tokens
     pub behind : begun.next ≤ next
     pub reading_is : further_in (length (drop begun.next tokens)) generators demands (drop begun.next tokens) ≡ behind_terms terms (further_in most generators demands (drop next tokens))
-    pub sum_is : terms_of sum ≡ terms_of begun.sum ++ said p terms
+    pub sum_is : terms_of sum ≡ terms_of begun.sum ++ written_sum p terms
 
   module _ (p : ℕ) (tokens : List Token) (begun : ElementAt) where
     pub way-start : begun.next ≤ length tokens → OnTheWay p tokens begun begun.sum begun.next
@@ -104,7 +104,7 @@ module _ (generators : List Generator) (demands : Demands) where
 
       -- a further term is read
       pub way-step : (negative : Bool) → sign (drop next tokens) ≡ Some negative → (term : TermRead) → IsTermRead tokens (term_in generators demands negative (drop (next + 1) tokens)) term
-          → next + 1 < term.tree.end → (new : List Term) → terms_of new ≡ terms_of sum ++ said p (written term ∷ []) → OnTheWay p tokens begun new term.tree.end
+          → next + 1 < term.tree.end → (new : List Term) → terms_of new ≡ terms_of sum ++ written_sum p (written term ∷ []) → OnTheWay p tokens begun new term.tree.end
       way-step negative is term read further new says =
           let goes = goes_on negative is in
           let reads = ap (term_in generators demands negative) (drop-behind_one tokens next) ∙ read.reading_is in
@@ -119,7 +119,7 @@ module _ (generators : List Generator) (demands : Demands) where
             behind = omega arith;
             reading_is = way.reading_is ∙ ap (behind_terms way.terms) (goes.2 ∙ sign-reads goes.0 (drop next tokens) (drop term.tree.end tokens) negative (written term) reads)
                 ∙ behind_both way.terms (written term ∷ []) (further_in goes.0 generators demands (drop term.tree.end tokens));
-            sum_is = says ∙ ap (λ l. l ++ said p (written term ∷ [])) way.sum_is ∙ append_assoc (terms_of begun.sum) (said p way.terms) (said p (written term ∷ []))
+            sum_is = says ∙ ap (λ l. l ++ written_sum p (written term ∷ [])) way.sum_is ∙ append_assoc (terms_of begun.sum) (written_sum p way.terms) (written_sum p (written term ∷ []))
                 ∙ ap (λ l. terms_of begun.sum ++ l) (sym (said-append p way.terms (written term ∷ [])));
           }
 

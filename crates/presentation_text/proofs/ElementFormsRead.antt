@@ -15,8 +15,8 @@ use Rattle.presentation_text.specs.declared.lexing.Token.{Token}
 use Rattle.presentation_text.specs.declared.trees.Demands.{Demands}
 use Rattle.presentation_text.specs.declared.trees.TreeRead.{TreeRead}
 use Rattle.presentation_text.specs.Readings.{Fault}
-use Rattle.presentation_text.specs.TreeForms.{has_each, differs, tree_in, whole_tree_in, IsTreeRead}
-use Rattle.presentation_text.specs.ElementForms.{behind_one, coefficient, behind_coefficient, term_in, IsTermRead}
+use Rattle.presentation_text.specs.TreeReadings.{has_each, differs, tree_in, whole_tree_in, IsTreeRead}
+use Rattle.presentation_text.specs.ElementReadings.{behind_one, coefficient, behind_coefficient, term_in, IsTermRead}
 use Rattle.presentation_text.proofs.TreeFormsLeaves.{numbered-had}
 use Rattle.presentation_text.proofs.TreeFormsSteps.{judged}
 use Rattle.presentation_text.proofs.TreesAcceptedTrees.{bound}

@@ -11,9 +11,9 @@ use Rattle.presentation_text.specs.declared.lexing.Token.{Token}
 use Rattle.presentation_text.specs.declared.terms.ElementAt.{ElementAt}
 use Rattle.presentation_text.specs.declared.terms.TermRead.{TermRead}
 use Rattle.presentation_text.specs.Readings.{Fault, Reading, ◌>>=◌}
-use Rattle.presentation_text.specs.TreeForms.{begins_with, demands_of}
-use Rattle.presentation_text.specs.Elements.{Written, said}
-use Rattle.presentation_text.specs.ElementForms.{behind_one, is_nothing, term_in, further_in, element_in, IsElementOf, GivesElement, written, IsTermRead, GivesFurther}
+use Rattle.presentation_text.specs.TreeReadings.{begins_with, demands_of}
+use Rattle.presentation_text.specs.Elements.{Written, written_sum}
+use Rattle.presentation_text.specs.ElementReadings.{behind_one, is_nothing, term_in, further_in, element_in, IsElementAsRead, GivesElement, written, IsTermRead, GivesFurther}
 use Rattle.presentation_text.proofs.TreeFormsPlaces.{stops-on}
 use Rattle.presentation_text.proofs.ElementFormsRead.{drop-behind_one}
 use Rattle.presentation_text.proofs.ElementFormsSums.{said-append}
@@ -55,7 +55,7 @@ some_token (token ∷ ts) e = omega arith
 
 module _ (p : ℕ) (generators : List Generator) (least : ℕ) (arity : Option ℕ) (tokens : List Token) (at : ℕ) where
   pub nothing-read : is_nothing (drop at tokens) ≡ true → (sum : List Term) → sum ≡ []
-      → IsElementOf p tokens (element_in generators (demands_of least arity) (drop at tokens)) (record { sum = sum; arity = None; next = at + 1 })
+      → IsElementAsRead p tokens (element_in generators (demands_of least arity) (drop at tokens)) (record { sum = sum; arity = None; next = at + 1 })
   nothing-read is sum none = record {
     terms = [];
     reading_is = nothing-is generators least arity (drop at tokens) is ∙ ap (λ ts. Ok ([], ts)) (drop-behind_one tokens at);
@@ -74,7 +74,7 @@ module _ (p : ℕ) (generators : List Generator) (least : ℕ) (arity : Option �
     element-stops e is = whole ∙ first-stops generators least arity (drop begin tokens) negative e is
 
     module _ (first : TermRead) (read : IsTermRead tokens (term_in generators (demands_of least arity) negative (drop begin tokens)) first)
-        (sum : List Term) (says : terms_of sum ≡ said p (written first ∷ [])) where
+        (sum : List Term) (says : terms_of sum ≡ written_sum p (written first ∷ [])) where
       abbrev begun : ElementAt
       begun = record { sum = sum; arity = Some first.tree.leaves; next = first.tree.end }
 
@@ -91,7 +91,7 @@ module _ (p : ℕ) (generators : List Generator) (least : ℕ) (arity : Option �
         terms = written first ∷ goes.terms;
         reading_is = whole ∙ further-reads generators least arity (drop begin tokens) (drop first.tree.end tokens) (drop found.next tokens) negative (written first) goes.terms read.reading_is (same ∙ goes.reading_is);
         within = goes.within;
-        sum_is = goes.sum_is ∙ ap (λ l. l ++ said p goes.terms) says ∙ sym (said-append p (written first ∷ []) goes.terms);
+        sum_is = goes.sum_is ∙ ap (λ l. l ++ written_sum p goes.terms) says ∙ sym (said-append p (written first ∷ []) goes.terms);
         arity_is = goes.arity_is ∙ ap Some read.leaves_are;
       }
       element-reads (Err fail) stops = stops-on tokens (further first.tree.leaves) (element_in generators (demands_of least arity) (drop at tokens))

@@ -9,10 +9,10 @@ use Rattle.symmetric_trees.specs.declared.generators.Generator.{Generator}
 use Rattle.presentation_text.specs.declared.lexing.Token.{Token}
 use Rattle.presentation_text.specs.declared.lexing.Token.TheVariants.{Word, Number, Long, Byte, Bad}
 use Rattle.presentation_text.specs.Readings.{is_mark}
-use Rattle.presentation_text.specs.TreeForms.{begins_with}
+use Rattle.presentation_text.specs.TreeReadings.{begins_with}
 use Rattle.presentation_text.specs.TreeText.{tree_tokens}
 use Rattle.presentation_text.specs.Elements.{coefficient_tokens, mark}
-use Rattle.presentation_text.specs.ElementForms.{behind_one, is_zero, is_nothing, coefficient_of, coefficient, behind_coefficient, sign_of, sign}
+use Rattle.presentation_text.specs.ElementReadings.{behind_one, is_zero, is_nothing, coefficient_of, coefficient, behind_coefficient, sign_of, sign}
 use Rattle.presentation_text.specs.Accepted.{NotMarked, is_bare_leaf}
 use Rattle.presentation_text.proofs.LineFormsNumbers.{both_true}
 

@@ -15,10 +15,10 @@ use Rattle.presentation_text.specs.declared.lexing.Token.{Token}
 use Rattle.presentation_text.specs.declared.lexing.Token.TheVariants.{Byte}
 use Rattle.presentation_text.specs.declared.trees.Demands.{Demands}
 use Rattle.presentation_text.specs.Readings.{Reading, ◌>>=◌}
-use Rattle.presentation_text.specs.TreeForms.{begins_with, demands_of, whole_tree_in}
+use Rattle.presentation_text.specs.TreeReadings.{begins_with, demands_of, whole_tree_in}
 use Rattle.presentation_text.specs.TreeText.{tree_tokens}
 use Rattle.presentation_text.specs.Elements.{Written, coefficient_tokens, term_tokens, mark, further_tokens, element_tokens, IsElementTree}
-use Rattle.presentation_text.specs.ElementForms.{behind_one, is_nothing, coefficient, behind_coefficient, term_in, sign, further_in, element_in}
+use Rattle.presentation_text.specs.ElementReadings.{behind_one, is_nothing, coefficient, behind_coefficient, term_in, sign, further_in, element_in}
 use Rattle.presentation_text.specs.Accepted.{IsDemanded, TreesAreAccepted, NotMarked, is_bare_leaf, ends_bare, EndsBefore, HaveDemandedArity, AreDemanded, ElementsAreAccepted}
 use Rattle.presentation_text.proofs.TreesAcceptedTrees.{bound}
 use Rattle.presentation_text.proofs.ElementFormsFurther.{behind_sign, signed, unsigned}

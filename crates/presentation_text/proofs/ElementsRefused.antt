@@ -14,11 +14,11 @@ use Rattle.presentation_text.specs.declared.lexing.Token.{Token}
 use Rattle.presentation_text.specs.declared.lexing.Token.TheVariants.{Word, Number, Long, Byte, Bad}
 use Rattle.presentation_text.specs.declared.trees.Demands.{Demands}
 use Rattle.presentation_text.specs.Readings.{Fault, Reading, ◌>>=◌, first_row, refused}
-use Rattle.presentation_text.specs.TreeForms.{begins_with, demands_of, has_each, differs, tree_in, whole_tree_in}
+use Rattle.presentation_text.specs.TreeReadings.{begins_with, demands_of, has_each, differs, tree_in, whole_tree_in}
 use Rattle.presentation_text.specs.TreeText.{nested, tree_tokens}
 use Rattle.presentation_text.specs.Elements.{Written, coefficient_tokens, term_tokens, further_tokens, element_tokens}
-use Rattle.presentation_text.specs.ElementForms.{behind_one, is_zero, is_nothing, coefficient_of, coefficient, behind_coefficient, term_in, sign, further_in, element_in}
-use Rattle.presentation_text.specs.Accepted.{IsDemanded, AreDemanded, NotMarked, is_bare_leaf, EndsBefore, AreAlike, AreRuledOut, IsRuledOut, ElementsAreRefusedRightly}
+use Rattle.presentation_text.specs.ElementReadings.{behind_one, is_zero, is_nothing, coefficient_of, coefficient, behind_coefficient, term_in, sign, further_in, element_in}
+use Rattle.presentation_text.specs.Accepted.{IsDemanded, AreDemanded, NotMarked, is_bare_leaf, EndsBefore, GoOnAlike, AreRuledOut, IsRuledOut, ElementsAreRefusedRightly}
 use Rattle.presentation_text.proofs.TreeFormsSteps.{tree_in-number, whole-stops, whole-refused}
 use Rattle.presentation_text.proofs.TreesAcceptedTrees.{IsReadInside, tree_sound}
 use Rattle.presentation_text.proofs.TreesAccepted.{all_accepted}
@@ -69,16 +69,16 @@ nothing-same : (x : Token) (front : List Token) (token : Token) (back beyond : L
 nothing-same x front token back beyond = ap (λ star. is_zero x && not star) (begins-same 42 front token back beyond)
 
 -- what is refused at a whole tree
-alike-labels : (kind : DocKind) (others back : List Token) → kind ≡ Labels → AreAlike kind others back → begins_with 42 others ≡ begins_with 42 back
-alike-labels kind others back e h = subst (λ k. AreAlike k others back) e h
+alike-labels : (kind : DocKind) (others back : List Token) → kind ≡ Labels → GoOnAlike kind others back → begins_with 42 others ≡ begins_with 42 back
+alike-labels kind others back e h = subst (λ k. GoOnAlike k others back) e h
 
-alike-arity : (kind : DocKind) (others back : List Token) → kind ≡ ArityOut → AreAlike kind others back → begins_with 42 others ≡ begins_with 42 back
-alike-arity kind others back e h = subst (λ k. AreAlike k others back) e h
+alike-arity : (kind : DocKind) (others back : List Token) → kind ≡ ArityOut → GoOnAlike kind others back → begins_with 42 others ≡ begins_with 42 back
+alike-arity kind others back e h = subst (λ k. GoOnAlike k others back) e h
 
-alike-mixed : (kind : DocKind) (others back : List Token) → kind ≡ MixedArity → AreAlike kind others back → begins_with 42 others ≡ begins_with 42 back
-alike-mixed kind others back e h = subst (λ k. AreAlike k others back) e h
+alike-mixed : (kind : DocKind) (others back : List Token) → kind ≡ MixedArity → GoOnAlike kind others back → begins_with 42 others ≡ begins_with 42 back
+alike-mixed kind others back e h = subst (λ k. GoOnAlike k others back) e h
 
-alike-three : (a b c : Bool) (kind : DocKind) (others back : List Token) → first_row ((a, Labels) ∷ (b, ArityOut) ∷ (c, MixedArity) ∷ []) ≡ Some kind → AreAlike kind others back
+alike-three : (a b c : Bool) (kind : DocKind) (others back : List Token) → first_row ((a, Labels) ∷ (b, ArityOut) ∷ (c, MixedArity) ∷ []) ≡ Some kind → GoOnAlike kind others back
     → begins_with 42 others ≡ begins_with 42 back
 alike-three true b c kind others back e h = let same : kind ≡ Labels = cc in alike-labels kind others back same h
 alike-three false true c kind others back e h = let same : kind ≡ ArityOut = cc in alike-arity kind others back same h
@@ -86,7 +86,7 @@ alike-three false false true kind others back e h = let same : kind ≡ MixedAri
 alike-three false false false kind others back e h = absurd cc
 
 -- a number is refused as a leaf alone
-alike-leaf : (a b : Bool) (left : ℕ) (fault : Fault) (found : Tree ℕ × List Token) (others back : List Token) → a ≡ false → refused left (first_row ((a, TooWide) ∷ (b, Labels) ∷ [])) (Ok found) ≡ Err fault → AreAlike fault.1 others back
+alike-leaf : (a b : Bool) (left : ℕ) (fault : Fault) (found : Tree ℕ × List Token) (others back : List Token) → a ≡ false → refused left (first_row ((a, TooWide) ∷ (b, Labels) ∷ [])) (Ok found) ≡ Err fault → GoOnAlike fault.1 others back
     → begins_with 42 others ≡ begins_with 42 back
 alike-leaf true b left fault found others back low e h = absurd cc
 alike-leaf false true left fault found others back low e h =
@@ -155,7 +155,7 @@ module _ (generators : List Generator) (table : IsTable generators) where
     behind-again (Some n) (x ∷ []) token back beyond kind e = let l = whole-bounded back (suc (length back), kind) e in absurd (omega (arith, l))
     behind-again (Some n) (x ∷ (y ∷ front)) token back beyond kind e = whole-again front token back beyond kind e
 
-    number-alike : (n : ℕ) (ts : List Token) (left : ℕ) (kind : DocKind) (others back : List Token) → whole_tree_in generators demands (Number n ∷ ts) ≡ Err (left, kind) → AreAlike kind others back
+    number-alike : (n : ℕ) (ts : List Token) (left : ℕ) (kind : DocKind) (others back : List Token) → whole_tree_in generators demands (Number n ∷ ts) ≡ Err (left, kind) → GoOnAlike kind others back
         → begins_with 42 others ≡ begins_with 42 back
     number-alike n ts left kind others back e h = ⊎_elim
         (λ inside. alike-leaf (nat_le 9 0) (nat_lt 99 n) (suc (length ts)) (left, kind) (leaf n, ts) others back refl (sym (tree_in-number generators 8 0 n ts) ∙ inside) h)
@@ -164,7 +164,7 @@ module _ (generators : List Generator) (table : IsTable generators) where
         (stopped generators demands (Number n ∷ ts) left kind e)
 
     -- a number that begins a term and is refused has '*' behind it in both or in neither
-    first-alike : (negative : Bool) (n : ℕ) (back others : List Token) (kind : DocKind) → AreAlike kind others back → term_in generators demands negative (Number n ∷ back) ≡ Err (suc (length back), kind)
+    first-alike : (negative : Bool) (n : ℕ) (back others : List Token) (kind : DocKind) → GoOnAlike kind others back → term_in generators demands negative (Number n ∷ back) ≡ Err (suc (length back), kind)
         → begins_with 42 others ≡ begins_with 42 back
     first-alike negative n back others kind h e = by_star (begins_with 42 back) (term-by-tree negative (Number n ∷ back) (suc (length back), kind) e)
       where
@@ -172,7 +172,7 @@ module _ (generators : List Generator) (table : IsTable generators) where
         by_star true f = let l = whole-bounded (behind_one back) (suc (length back), kind) f in absurd (omega (arith, l, shorter-one back))
         by_star false f = number-alike n back (suc (length back)) kind others back f h
 
-    coefficient-alike : (negative : Bool) (front : List Token) (token : Token) (back beyond : List Token) (kind : DocKind) → AreAlike kind beyond back
+    coefficient-alike : (negative : Bool) (front : List Token) (token : Token) (back beyond : List Token) (kind : DocKind) → GoOnAlike kind beyond back
         → term_in generators demands negative (front ++ token ∷ back) ≡ Err (suc (length back), kind) → coefficient (front ++ token ∷ back) ≡ coefficient (front ++ token ∷ beyond)
     coefficient-alike negative (x ∷ front) token back beyond kind h e = coefficient-same x front token back beyond
     coefficient-alike negative [] token back beyond kind h e = by token e
@@ -184,7 +184,7 @@ module _ (generators : List Generator) (table : IsTable generators) where
         by Long f = refl
         by Bad f = refl
 
-    term-again : (negative : Bool) (front : List Token) (token : Token) (back beyond : List Token) (kind : DocKind) → AreAlike kind beyond back
+    term-again : (negative : Bool) (front : List Token) (token : Token) (back beyond : List Token) (kind : DocKind) → GoOnAlike kind beyond back
         → term_in generators demands negative (front ++ token ∷ back) ≡ Err (suc (length back), kind) → term_in generators demands negative (front ++ token ∷ beyond) ≡ Err (suc (length beyond), kind)
     term-again negative front token back beyond kind like e =
         let c = coefficient (front ++ token ∷ back) in
@@ -266,7 +266,7 @@ module _ (generators : List Generator) (table : IsTable generators) where
             (sign-either most negative ts fault (sym (signed generators demands most ts negative is) ∙ e))
 
     -- what is behind a sign is refused with other tokens behind the refused one too
-    sign-again : (most other : ℕ) (negative : Bool) (first_token : Token) (front : List Token) (token : Token) (back beyond : List Token) (kind : DocKind) → AreAlike kind beyond back
+    sign-again : (most other : ℕ) (negative : Bool) (first_token : Token) (front : List Token) (token : Token) (back beyond : List Token) (kind : DocKind) → GoOnAlike kind beyond back
         → length (front ++ token ∷ back) ≤ most → length (front ++ token ∷ beyond) ≤ other
         → ((between : List Token) → length (between ++ token ∷ back) ≤ most → length (between ++ token ∷ beyond) ≤ other → further_in most generators demands (between ++ token ∷ back) ≡ Err (suc (length back), kind)
         → further_in other generators demands (between ++ token ∷ beyond) ≡ Err (suc (length beyond), kind))
@@ -287,7 +287,7 @@ module _ (generators : List Generator) (table : IsTable generators) where
             (omega (arith, space, length-append t.between (token ∷ beyond), length-append front (token ∷ beyond))) (ap (further_in most generators demands) (sym t.behind_is) ∙ one.others_stop) in
             sign-further-stops other negative (first_token ∷ (front ++ token ∷ beyond)) (t.between ++ token ∷ beyond) one.first (suc (length beyond), kind) t.again stops
 
-    further-again : (most other : ℕ) (front : List Token) (token : Token) (back beyond : List Token) (kind : DocKind) → AreAlike kind beyond back
+    further-again : (most other : ℕ) (front : List Token) (token : Token) (back beyond : List Token) (kind : DocKind) → GoOnAlike kind beyond back
         → length (front ++ token ∷ back) ≤ most → length (front ++ token ∷ beyond) ≤ other → further_in most generators demands (front ++ token ∷ back) ≡ Err (suc (length back), kind)
         → further_in other generators demands (front ++ token ∷ beyond) ≡ Err (suc (length beyond), kind)
     further-again zero other front token back beyond kind like room space e = absurd (omega (arith, room, length-append front (token ∷ back)))
@@ -346,7 +346,7 @@ module _ (generators : List Generator) (table : IsTable generators) where
         let l = further-bounded (asked_of one.first.tree) (length one.behind) one.behind fault one.others_stop in omega (arith, l, term-length asked negative ts one.behind one.first one.first_is))
         (first-either negative ts fault e)
 
-    first-again : (negative : Bool) (front : List Token) (token : Token) (back beyond : List Token) (kind : DocKind) → AreAlike kind beyond back
+    first-again : (negative : Bool) (front : List Token) (token : Token) (back beyond : List Token) (kind : DocKind) → GoOnAlike kind beyond back
         → from_first generators least arity negative (front ++ token ∷ back) ≡ Err (suc (length back), kind) → from_first generators least arity negative (front ++ token ∷ beyond) ≡ Err (suc (length beyond), kind)
     first-again negative front token back beyond kind like e = ⊎_elim
         (λ term. first-stops generators least arity (front ++ token ∷ beyond) negative (suc (length beyond), kind) (term-again asked negative front token back beyond kind like term))
@@ -362,7 +362,7 @@ module _ (generators : List Generator) (table : IsTable generators) where
             (ap (further_in (length one.behind) generators demands) (sym t.behind_is) ∙ one.others_stop) in
             further-stops generators least arity (front ++ token ∷ beyond) (t.between ++ token ∷ beyond) negative one.first (suc (length beyond), kind) t.again stops
 
-    first-nothing : (token : Token) (back beyond : List Token) (kind : DocKind) → AreAlike kind beyond back → is_nothing (token ∷ back) ≡ false
+    first-nothing : (token : Token) (back beyond : List Token) (kind : DocKind) → GoOnAlike kind beyond back → is_nothing (token ∷ back) ≡ false
         → element_in generators asked (token ∷ back) ≡ Err (suc (length back), kind) → is_nothing (token ∷ beyond) ≡ false
     first-nothing (Number n) back beyond kind like other e = ⊎_elim
         (λ term. ap (λ star. is_zero (Number n) && not star) (first-alike asked false n back beyond kind like term) ∙ other)
@@ -375,12 +375,12 @@ module _ (generators : List Generator) (table : IsTable generators) where
     first-nothing Long back beyond kind like other e = refl
     first-nothing Bad back beyond kind like other e = refl
 
-    nothing-again : (front : List Token) (token : Token) (back beyond : List Token) (kind : DocKind) → AreAlike kind beyond back → is_nothing (front ++ token ∷ back) ≡ false
+    nothing-again : (front : List Token) (token : Token) (back beyond : List Token) (kind : DocKind) → GoOnAlike kind beyond back → is_nothing (front ++ token ∷ back) ≡ false
         → element_in generators asked (front ++ token ∷ back) ≡ Err (suc (length back), kind) → is_nothing (front ++ token ∷ beyond) ≡ false
     nothing-again [] token back beyond kind like other e = first-nothing token back beyond kind like other e
     nothing-again (x ∷ front) token back beyond kind like other e = sym (nothing-same x front token back beyond) ∙ other
 
-    element-again : (front : List Token) (token : Token) (back beyond : List Token) (kind : DocKind) → AreAlike kind beyond back
+    element-again : (front : List Token) (token : Token) (back beyond : List Token) (kind : DocKind) → GoOnAlike kind beyond back
         → element_in generators asked (front ++ token ∷ back) ≡ Err (suc (length back), kind) → element_in generators asked (front ++ token ∷ beyond) ≡ Err (suc (length beyond), kind)
     element-again front token back beyond kind like e = by_nothing (is_nothing (front ++ token ∷ back)) refl
       where

@@ -13,7 +13,7 @@ use Rattle.symmetric_sums.specs.Terms.{FitsOver}
 use Rattle.symmetric_sums.specs.declared.sum.Sum.{Sum}
 use Rattle.symmetric_sums.specs.declared.term.Term.{Term}
 use Rattle.presentation_text.specs.declared.document.Ask.{Ask}
-use Rattle.presentation_text.specs.DraftForms.{AskFits}
+use Rattle.presentation_text.specs.DraftReadings.{AskFits}
 use Rattle.presentation_text.specs.declared.document.AskKind.{AskKind}
 use Rattle.presentation_text.specs.declared.document.AskKind.TheVariants.{Query, Same}
 

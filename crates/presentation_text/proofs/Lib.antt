@@ -40,8 +40,8 @@ pub mod ShortTrees
 pub mod TermsOnce
 pub mod TextEnds
 pub mod TokenLaws
-pub mod ToldForms
-pub mod ToldLines
+pub mod ContentsReadings
+pub mod ContentsLines
 pub mod TreeFormsLeaves
 pub mod TreeFormsPlaces
 pub mod TreeFormsSteps

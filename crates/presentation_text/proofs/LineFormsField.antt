@@ -2,7 +2,7 @@
 use Rattle.std.proofs.Common.{◌≡◌, ℕ, true, false, ◌==◌, sym, refl, subst, inl, inr, arith}
 use Rattle.std.proofs.lemmas.Bool.Decides.{nat_tests}
 use Rattle.prime_field.specs.Primes.{IsFieldPrime}
-use Rattle.presentation_text.specs.LineForms.{is_prime}
+use Rattle.presentation_text.specs.LineReadings.{is_prime}
 
 pub prime_is : (p : ℕ) → IsFieldPrime p → is_prime p ≡ true
 prime_is p (inl e) = subst (λ n. is_prime n ≡ true) (sym e) refl

@@ -3,11 +3,11 @@ use Rattle.std.proofs.Common.{◌≡◌, ◌<◌, ◌≤◌, ◌+◌, ℕ, zero,
 use Rattle.std.specs.List.{All, sum_by}
 use Rattle.std.proofs.lemmas.List.Elements.{All-cons, All-nil}
 use Rattle.std.proofs.lemmas.List.Sums.{sum_by-cons}
-use Rattle.symmetric_trees.specs.Generators.{IsArity, IsTaken, IsWelcome, Refuses}
+use Rattle.symmetric_trees.specs.Generators.{IsArity, IsTaken, MayBeAdded, Refuses}
 use Rattle.symmetric_trees.specs.declared.generators.Generator.{Generator}
 use Rattle.symmetric_trees.specs.declared.generators.Part.{Part}
 use Rattle.symmetric_trees.specs.declared.generators.PartKind.{PartKind}
-use Rattle.presentation_text.specs.LineForms.{all_parts_in, generator_in, inputs_in, is_arity, is_known, known, named_arity_in, part_in, parts_in, symmetry_in, symmetry_named}
+use Rattle.presentation_text.specs.LineReadings.{all_parts_in, generator_in, inputs_in, is_arity, is_known, known, named_arity_in, part_in, parts_in, symmetry_in, symmetry_named}
 use Rattle.presentation_text.specs.Readings.{Fault, ◌>>=◌, end_in, first_row, number_in, refused, word_in}
 use Rattle.symmetric_trees.specs.declared.generators.GenFail.{GenFail}
 use Rattle.symmetric_trees.specs.declared.generators.GenFail.TheVariants.{NameTaken, ArityOut, TooManyGens, PartsOut, NoMemory}
@@ -137,7 +137,7 @@ generator_read version generators ts generator e =
     let x = both_read (named_arity_in generators ts) _ generator e in
     made version generators ts x.0 generator (named_read generators ts x.0 x.1) x.2
 
-pub generator_welcome : (version : ℕ) (generators : List Generator) (ts : List Token) (generator : Generator) → generator_in version generators ts ≡ Ok generator → IsWelcome generators generator
+pub generator_welcome : (version : ℕ) (generators : List Generator) (ts : List Token) (generator : Generator) → generator_in version generators ts ≡ Ok generator → MayBeAdded generators generator
 generator_welcome version generators ts generator e =
     let read = generator_read version generators ts generator e in
     let some : 0 < generator.arity = omega (arith, read.named.arity.0) in
@@ -150,7 +150,7 @@ generator_welcome version generators ts generator e =
     }
 
 -- nothing stands against a generator that may join
-pub no_refusal : (generators : List Generator) (generator : Generator) (fail : GenFail) → IsWelcome generators generator → Refuses generators generator fail → fail ≡ NoMemory
+pub no_refusal : (generators : List Generator) (generator : Generator) (fail : GenFail) → MayBeAdded generators generator → Refuses generators generator fail → fail ≡ NoMemory
 no_refusal generators generator NameTaken welcome h = absurd (welcome.new_name h.1)
 no_refusal generators generator ArityOut welcome h = absurd (h.2 welcome.arity)
 no_refusal generators generator TooManyGens welcome h = absurd (omega (arith, h, welcome.room))

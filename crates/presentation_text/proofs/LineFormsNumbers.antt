@@ -2,7 +2,7 @@
 use Rattle.std.proofs.Common.{◌≡◌, ◌<◌, ◌≤◌, ◌+◌, ℕ, zero, suc, true, false, ◌==◌, ◌&&◌, ◌||◌, Bool, not, nat_le, nat_lt, List, [], ◌∷◌, length, get_or, Option, Some, refl, ap, arith, set}
 use Rattle.std.specs.Option.{is_some}
 use Rattle.std.proofs.lemmas.Bool.Decides.{nat_tests}
-use Rattle.presentation_text.specs.LineForms.{is_arity, is_weighed, weighed}
+use Rattle.presentation_text.specs.LineReadings.{is_arity, is_weighed, weighed}
 
 pub at_most : (m n : ℕ) → m ≤ n → nat_le m n ≡ true
 at_most m n l = grind (arith, nat_tests)

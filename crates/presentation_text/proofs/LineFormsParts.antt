@@ -2,7 +2,7 @@
 use Rattle.std.proofs.Common.{◌≡◌, ◌<◌, ◌≤◌, ◌+◌, ℕ, zero, suc, Bool, true, false, nat_lt, List, [], ◌∷◌, ◌++◌, length, Result, Ok, Err, append_assoc, arith, sym, ap, ◌∙◌, ◌==◌, ◌||◌, refl, subst}
 use Rattle.symmetric_trees.specs.declared.generators.Part.{Part}
 use Rattle.symmetric_trees.specs.declared.generators.PartKind.{PartKind}
-use Rattle.presentation_text.specs.LineForms.{all_parts_in, known, part_in, part_named, parts_in}
+use Rattle.presentation_text.specs.LineReadings.{all_parts_in, known, part_in, part_named, parts_in}
 use Rattle.presentation_text.specs.Readings.{Fault, ◌>>=◌, first_row, number_in, refused, word_in}
 use Rattle.presentation_text.specs.declared.kinds.DocKind.TheVariants.{PartsOut, Syntax}
 use Rattle.presentation_text.specs.declared.lexing.Token.{Token}

@@ -1,6 +1,6 @@
 -- What was read, told by what reading gave.
 use Rattle.std.proofs.Common.{◌≡◌, ℕ, Bool, true, false, List, [], ◌∷◌, Option, Some, None, Result, Ok, Err, ap, refl}
-use Rattle.presentation_text.specs.LineForms.{known}
+use Rattle.presentation_text.specs.LineReadings.{known}
 use Rattle.presentation_text.specs.Readings.{Fault, ◌>>=◌, first_row, number_in, refused, word_in}
 use Rattle.presentation_text.specs.declared.kinds.DocKind.{DocKind}
 use Rattle.presentation_text.specs.declared.lexing.Token.{Token}

@@ -4,8 +4,8 @@ use Rattle.std.specs.List.{All}
 use Rattle.std.proofs.lemmas.List.Elements.{All-nil}
 use Rattle.std.specs.Result.{IsErr, IsErrAnd, MatchResult}
 use Rattle.symmetric_trees.specs.declared.generators.Generator.{Generator}
-use Rattle.presentation_text.specs.DraftForms.{GivesAsk, GivesDraft, IsSound, told_of}
-use Rattle.presentation_text.specs.LineForms.{Asked, Told}
+use Rattle.presentation_text.specs.DraftReadings.{GivesAsk, GivesDraft, IsSoundDraft, contents_of}
+use Rattle.presentation_text.specs.LineReadings.{Asked, Contents}
 use Rattle.presentation_text.specs.Readings.{Fault, ◌>>=◌, StopsAs}
 use Rattle.presentation_text.specs.declared.document.AskKind.{AskKind}
 use Rattle.presentation_text.specs.declared.draft.Draft.{Draft}
@@ -24,7 +24,7 @@ pub stops_in : {A : Type 0} (tokens : List Token) (reading other : Result A Faul
 stops_in tokens reading other fail e h = subst (λ r. StopsAs tokens r fail) (sym e) h
 
 -- an error that is handed on gives what it says
-pub draft_stops : (tokens : List Token) (reading : Result Told Fault) (r : Result Draft PartFail) (fail : PartFail) → IsErr r → IsErrAnd r (λ e. e ≡ fail)
+pub draft_stops : (tokens : List Token) (reading : Result Contents Fault) (r : Result Draft PartFail) (fail : PartFail) → IsErr r → IsErrAnd r (λ e. e ≡ fail)
     → StopsAs tokens reading fail → GivesDraft tokens reading r
 draft_stops tokens reading (Ok draft) fail h e stops = absurd e
 draft_stops tokens reading (Err other) fail h e stops = subst (StopsAs tokens reading) (sym e) stops
@@ -34,7 +34,7 @@ pub left_from : (tokens : List Token) (at : ℕ) → at < length tokens → suc 
 left_from tokens at l = let e : length (drop (at + 1) tokens) ≡ length tokens - (at + 1) = length-drop (at + 1) tokens in omega arith
 
 -- a fault at a token
-pub draft_fails : (tokens : List Token) (at : ℕ) (kind : DocKind) (reading : Result Told Fault) (r : Result Draft PartFail) → at < length tokens
+pub draft_fails : (tokens : List Token) (at : ℕ) (kind : DocKind) (reading : Result Contents Fault) (r : Result Draft PartFail) → at < length tokens
     → reading ≡ Err (suc (length (drop (at + 1) tokens)), kind) → r ≡ Err (At at kind) → GivesDraft tokens reading r
 draft_fails tokens at kind reading r l e f =
     let here : reading ≡ Err (length tokens - at, kind) = e ∙ ap (λ left. Err (left, kind)) (left_from tokens at l) in
@@ -66,10 +66,10 @@ pub none_hold : {X : Type 0} (P : X → Type 0) (xs : List X) → xs ≡ [] → 
 none_hold P xs e = subst (All P) (sym e) (All-nil P)
 
 -- a draft that another question joined is given
-pub draft_asked : (tokens : List Token) (reading : Result Told Fault) (r : Result Draft PartFail) (told : Told) → reading ≡ Ok told
-    → MatchResult r (λ draft. (told_of draft ≡ told) × IsSound draft) (λ fail. fail ≡ NoMemory) → GivesDraft tokens reading r
-draft_asked tokens reading (Ok draft) told e h = (e ∙ ap Ok (sym h.0), h.1)
-draft_asked tokens reading (Err fail) told e h = subst (StopsAs tokens reading) (sym h) tt
+pub draft_asked : (tokens : List Token) (reading : Result Contents Fault) (r : Result Draft PartFail) (contents : Contents) → reading ≡ Ok contents
+    → MatchResult r (λ draft. (contents_of draft ≡ contents) × IsSoundDraft draft) (λ fail. fail ≡ NoMemory) → GivesDraft tokens reading r
+draft_asked tokens reading (Ok draft) contents e h = (e ∙ ap Ok (sym h.0), h.1)
+draft_asked tokens reading (Err fail) contents e h = subst (StopsAs tokens reading) (sym h) tt
 
 -- a fault at the end of the line
 pub part_fails_last : {A B : Type 0} (tokens : List Token) (at : ℕ) (kind : DocKind) (Given : A → Type 0) (reading : Result B Fault) (r : Result A PartFail) → at ≡ length tokens

@@ -6,8 +6,8 @@ use Rattle.std.specs.Str.{bytes_eq}
 use Rattle.std.proofs.lemmas.Slice.Eq.{bytes_eq-Decides}
 use Rattle.symmetric_trees.specs.Generators.{IsNamed, IsTaken, IsTable}
 use Rattle.symmetric_trees.specs.declared.generators.Generator.{Generator}
-use Rattle.presentation_text.specs.LineForms.{is_known}
-use Rattle.presentation_text.specs.TreeForms.{index_of, next_index}
+use Rattle.presentation_text.specs.LineReadings.{is_known}
+use Rattle.presentation_text.specs.TreeReadings.{index_of, next_index}
 use Rattle.presentation_text.proofs.TreeFormsSteps.{index-none, index-some}
 
 pub same_name : (a b : List ℕ) → a ≡ b → bytes_eq a b ≡ true

@@ -19,14 +19,14 @@ use Rattle.presentation_text.specs.declared.document.OrderName.{OrderName}
 use Rattle.presentation_text.specs.declared.lexing.Token.TheVariants.{Word, Byte}
 use Rattle.presentation_text.specs.Accepted.{AreDemanded}
 use Rattle.presentation_text.specs.DocumentText.{relation_text, ask_text}
-use Rattle.presentation_text.specs.DraftForms.{asked_kind}
-use Rattle.presentation_text.specs.ElementForms.{arity_of_first}
-use Rattle.presentation_text.specs.Elements.{Written, IsElementTree, element_tokens, said}
-use Rattle.presentation_text.specs.Grammar.{numbered_tokens, Adds, a_relation, a_query, a_comparison}
-use Rattle.presentation_text.specs.LineForms.{Told, Asked, query as a_query_of, same as a_pair_of}
+use Rattle.presentation_text.specs.DraftReadings.{asked_kind}
+use Rattle.presentation_text.specs.ElementReadings.{arity_of_first}
+use Rattle.presentation_text.specs.Elements.{Written, IsElementTree, element_tokens, written_sum}
+use Rattle.presentation_text.specs.Grammar.{numbered_tokens, LineAdds, a_relation, a_query, a_comparison}
+use Rattle.presentation_text.specs.LineReadings.{Contents, Asked, query as a_query_of, same as a_pair_of}
 use Rattle.presentation_text.specs.Lines.{HasNoFeed, lines}
-use Rattle.presentation_text.specs.ReadBack.{IsSaidRelation, IsSaidAsk}
-use Rattle.presentation_text.specs.PrintedElements.{IsSaidOver}
+use Rattle.presentation_text.specs.ReadBack.{IsWrittenRelation, IsWrittenAsk}
+use Rattle.presentation_text.specs.PrintedElements.{IsWrittenOver}
 use Rattle.presentation_text.specs.SumText.{sum_text}
 use Rattle.presentation_text.specs.TreeText.{HasWords}
 use Rattle.presentation_text.specs.Tokens.{tokens}
@@ -51,7 +51,7 @@ field_small p (inr (inr (inr (inr (inr (inr e)))))) = absurd e
 pub record IsPrintedAs (p : ℕ) (generators : List Generator) (n : ℕ) (e : List (ℕ × Tree ℕ)) : Type 0 where
   pub terms : List Written
   pub read : tokens (sum_text p generators e) ≡ element_tokens generators terms
-  pub says : said p terms ≡ e
+  pub says : written_sum p terms ≡ e
   pub trees : All (λ term. IsElementTree generators n term.tree) terms
   pub feed : HasNoFeed (sum_text p generators e)
 
@@ -82,7 +82,7 @@ first_arity generators n (term ∷ terms) h m e =
     sym own ∙ some_apart (leaf_count term.tree) m e
 
 module _ (p : ℕ) (generators : List Generator) (prime : IsFieldPrime p) (table : IsTable generators) (words : HasWords generators) where
-  pub printed_as : (n : ℕ) (e : List (ℕ × Tree ℕ)) → IsSaidOver p generators n e → IsPrintedAs p generators n e
+  pub printed_as : (n : ℕ) (e : List (ℕ × Tree ℕ)) → IsWrittenOver p generators n e → IsPrintedAs p generators n e
   printed_as n e h =
       let may = printable p generators n e h in
       let back = (read_back p generators prime table words).read_back e may in
@@ -96,11 +96,11 @@ module _ (p : ℕ) (generators : List Generator) (prime : IsFieldPrime p) (table
 
   -- ---- relations and questions one after the other
 
-  module _ (P : Told → Type 0) (version : ℕ) (order : OrderName) (weights : List (Option ℕ)) (v : IsVersion version) where
-    abbrev now : List (List (ℕ × Tree ℕ)) → List (ℕ × Asked) → ℕ → Told
+  module _ (P : Contents → Type 0) (version : ℕ) (order : OrderName) (weights : List (Option ℕ)) (v : IsVersion version) where
+    abbrev now : List (List (ℕ × Tree ℕ)) → List (ℕ × Asked) → ℕ → Contents
     now relations asks s = stage version p order generators weights relations asks s
 
-    pub reach-relations : (rest : List ℕ) (n : ℕ) (done : List (List (ℕ × Tree ℕ))) (rels : List (List Term)) (s : ℕ) → s ≤ 5 → length done + length rels ≤ 1000 → All (λ sum. IsSaidRelation p generators (terms_of sum)) rels
+    pub reach-relations : (rest : List ℕ) (n : ℕ) (done : List (List (ℕ × Tree ℕ))) (rels : List (List Term)) (s : ℕ) → s ≤ 5 → length done + length rels ≤ 1000 → All (λ sum. IsWrittenRelation p generators (terms_of sum)) rels
         → ((m t : ℕ) → t ≤ 5 → Reach P (now (done ++ map terms_of rels) [] t) (numbered_tokens m (lines rest)))
         → Reach P (now done [] s) (numbered_tokens n (lines (flat_map (λ sum. relation_text p generators (terms_of sum)) rels ++ rest)))
     reach-relations rest n done [] s early few said_all on = subst (λ rs. Reach P (now rs [] s) (numbered_tokens n (lines rest))) (append-nil done) (on n s early)
@@ -108,14 +108,14 @@ module _ (p : ℕ) (generators : List Generator) (prime : IsFieldPrime p) (table
         let own = said_all 0 sum (omega arith) in
         let e = terms_of sum in
         let printed = printed_as own.0 e own.2 in
-        let told = now done [] s in
+        let contents = now done [] s in
         let further = flat_map (λ x. relation_text p generators (terms_of x)) rels in
         let moved = append_assoc done (e ∷ []) (map terms_of rels) in
-        subst (λ xs. Reach P told (numbered_tokens n (lines xs))) (sym (append_assoc (relation_text p generators e) further rest))
-        (reach-line P told (now (done ++ e ∷ []) [] 5) n (codes "rel") (sum_text p generators e ∷ []) (further ++ rest) (Word (codes "rel") ∷ element_tokens generators printed.terms)
+        subst (λ xs. Reach P contents (numbered_tokens n (lines xs))) (sym (append_assoc (relation_text p generators e) further rest))
+        (reach-line P contents (now (done ++ e ∷ []) [] 5) n (codes "rel") (sum_text p generators e ∷ []) (further ++ rest) (Word (codes "rel") ∷ element_tokens generators printed.terms)
         (refl, refl) (no_feed-word (codes "rel") (refl, refl)) (printed.feed, tt) (ap (λ ts. Word (codes "rel") ∷ ts) (append-nil (tokens (sum_text p generators e)) ∙ printed.read))
         (stands-rel p order generators weights done [] s version v early (element_tokens generators printed.terms))
-        (subst (λ x. Adds told n (Word (codes "rel") ∷ element_tokens generators printed.terms) (now (done ++ x ∷ []) [] 5)) printed.says
+        (subst (λ x. LineAdds contents n (Word (codes "rel") ∷ element_tokens generators printed.terms) (now (done ++ x ∷ []) [] 5)) printed.says
         (a_relation printed.terms (omega (arith, few)) (demanded generators 2 own.0 None printed.terms own.1 (λ m no_one. cc) printed.trees)))
         (reach-relations rest (suc n) (done ++ e ∷ []) rels 5 (omega arith) (let l = length-append done (e ∷ []) in omega (arith, l, few)) (λ k d l. said_all (suc k) d (omega (arith, l)))
         (λ m t u. subst (λ rs. Reach P (now rs [] t) (numbered_tokens m (lines rest))) (sym moved) (on m t u))))
@@ -128,17 +128,17 @@ module _ (p : ℕ) (generators : List Generator) (prime : IsFieldPrime p) (table
     one_kind done n kind others = ap (λ xs. xs ++ others) (map-append (λ (x : ℕ × Asked). x.1) done ((n, kind) ∷ [])) ∙ append_assoc (kinds done) (kind ∷ []) others
 
     -- the line of one question
-    reach-ask : (relations : List (List (ℕ × Tree ℕ))) (rest : List ℕ) (n : ℕ) (done : List (ℕ × Asked)) (kind : AskKind) (s : ℕ) → s ≤ 6 → IsSaidAsk p generators kind
+    reach-ask : (relations : List (List (ℕ × Tree ℕ))) (rest : List ℕ) (n : ℕ) (done : List (ℕ × Asked)) (kind : AskKind) (s : ℕ) → s ≤ 6 → IsWrittenAsk p generators kind
         → Reach P (now relations (done ++ (n, asked_kind kind) ∷ []) 6) (numbered_tokens (suc n) (lines rest))
         → Reach P (now relations done s) (numbered_tokens n (lines (ask_text p generators kind ++ rest)))
     reach-ask relations rest n done (Query sum) s early may on =
         let e = terms_of sum in
         let printed = printed_as may.0 e may.1 in
-        let told = now relations done s in
-        reach-line P told (now relations (done ++ (n, a_query_of e) ∷ []) 6) n (codes "query") (sum_text p generators e ∷ []) rest (Word (codes "query") ∷ element_tokens generators printed.terms)
+        let contents = now relations done s in
+        reach-line P contents (now relations (done ++ (n, a_query_of e) ∷ []) 6) n (codes "query") (sum_text p generators e ∷ []) rest (Word (codes "query") ∷ element_tokens generators printed.terms)
         (refl, refl) (no_feed-word (codes "query") (refl, refl)) (printed.feed, tt) (ap (λ ts. Word (codes "query") ∷ ts) (append-nil (tokens (sum_text p generators e)) ∙ printed.read))
         (stands-query p order generators weights relations done s version v early (element_tokens generators printed.terms))
-        (subst (λ x. Adds told n (Word (codes "query") ∷ element_tokens generators printed.terms) (now relations (done ++ (n, a_query_of x) ∷ []) 6)) printed.says
+        (subst (λ x. LineAdds contents n (Word (codes "query") ∷ element_tokens generators printed.terms) (now relations (done ++ (n, a_query_of x) ∷ []) 6)) printed.says
         (a_query printed.terms (demanded_once generators may.0 None printed.terms (λ m no_one. cc) printed.trees)))
         on
     reach-ask relations rest n done (Same left right) s early may on =
@@ -146,18 +146,18 @@ module _ (p : ℕ) (generators : List Generator) (prime : IsFieldPrime p) (table
         let e = terms_of right in
         let one = printed_as may.0 d may.1 in
         let two = printed_as may.0 e may.2 in
-        let told = now relations done s in
+        let contents = now relations done s in
         let ts = element_tokens generators one.terms ++ Byte 61 ∷ element_tokens generators two.terms in
-        reach-line P told (now relations (done ++ (n, a_pair_of d e) ∷ []) 6) n (codes "same") (sum_text p generators d ∷ (codes "=" ∷ (sum_text p generators e ∷ []))) rest (Word (codes "same") ∷ ts)
+        reach-line P contents (now relations (done ++ (n, a_pair_of d e) ∷ []) 6) n (codes "same") (sum_text p generators d ∷ (codes "=" ∷ (sum_text p generators e ∷ []))) rest (Word (codes "same") ∷ ts)
         (refl, refl) (no_feed-word (codes "same") (refl, refl)) (one.feed, ((λ same. omega (arith, same), tt), (two.feed, tt)))
         (ap₂ (λ xs ys. Word (codes "same") ∷ (xs ++ Byte 61 ∷ ys)) one.read (append-nil (tokens (sum_text p generators e)) ∙ two.read))
         (stands-same p order generators weights relations done s version v early ts)
-        (subst (λ y. Adds told n (Word (codes "same") ∷ ts) (now relations (done ++ (n, a_pair_of d y) ∷ []) 6)) two.says
-        (subst (λ x. Adds told n (Word (codes "same") ∷ ts) (now relations (done ++ (n, a_pair_of x (said p two.terms)) ∷ []) 6)) one.says
+        (subst (λ y. LineAdds contents n (Word (codes "same") ∷ ts) (now relations (done ++ (n, a_pair_of d y) ∷ []) 6)) two.says
+        (subst (λ x. LineAdds contents n (Word (codes "same") ∷ ts) (now relations (done ++ (n, a_pair_of x (written_sum p two.terms)) ∷ []) 6)) one.says
         (a_comparison one.terms two.terms (demanded_once generators may.0 None one.terms (λ m no_one. cc) one.trees) (demanded_once generators may.0 (arity_of_first one.terms) two.terms (first_arity generators may.0 one.terms one.trees) two.trees))))
         on
 
-    pub reach-asks : (relations : List (List (ℕ × Tree ℕ))) (n : ℕ) (done : List (ℕ × Asked)) (asks : List Ask) (s : ℕ) → s ≤ 6 → All (λ ask. IsSaidAsk p generators ask.kind) asks
+    pub reach-asks : (relations : List (List (ℕ × Tree ℕ))) (n : ℕ) (done : List (ℕ × Asked)) (asks : List Ask) (s : ℕ) → s ≤ 6 → All (λ ask. IsWrittenAsk p generators ask.kind) asks
         → ((t : ℕ) (all : List (ℕ × Asked)) → kinds all ≡ kinds done ++ map (λ ask. asked_kind ask.kind) asks → P (now relations all t))
         → Reach P (now relations done s) (numbered_tokens n (lines (flat_map (λ ask. ask_text p generators ask.kind) asks)))
     reach-asks relations n done [] s early said_all on = reach-end P (now relations done s) (on s done (sym (append-nil (kinds done))))

@@ -9,15 +9,15 @@ use Rattle.symmetric_trees.specs.declared.generators.Generator.{Generator}
 use Rattle.presentation_text.specs.declared.lexing.Token.{Token}
 use Rattle.presentation_text.specs.Elements.{Written, IsElementTree}
 use Rattle.presentation_text.specs.SumText.{IsPrintable}
-use Rattle.presentation_text.specs.Laws.{IsReadBack}
+use Rattle.presentation_text.specs.Laws.{IsSumReadBack}
 use Rattle.presentation_text.specs.Accepted.{EndsBefore, AreDemanded, ElementsAreAccepted}
-use Rattle.presentation_text.specs.PrintedElements.{IsSaidTerm, IsSaidOver, EndsElements, PrintedElementsAreRead}
+use Rattle.presentation_text.specs.PrintedElements.{IsWrittenTerm, IsWrittenOver, EndsElements, PrintedElementsAreRead}
 use Rattle.presentation_text.proofs.PrintedSums.{read_back}
 
 small : (generators : List Generator) (n : ℕ) (t : Tree ℕ) → IsElementTree generators n t → AllLeaves t (λ i. (0 < i) × (i < 10 ^ 18))
 small generators n t h = by_leaf t (λ i. (0 < i) × (i < 10 ^ 18)) (λ i l. let range = h.labelled.only i l in let narrow = h.narrow in (range.0, omega arith))
 
-pub printable : (p : ℕ) (generators : List Generator) (n : ℕ) (e : List (ℕ × Tree ℕ)) → IsSaidOver p generators n e → IsPrintable p generators e
+pub printable : (p : ℕ) (generators : List Generator) (n : ℕ) (e : List (ℕ × Tree ℕ)) → IsWrittenOver p generators n e → IsPrintable p generators e
 printable p generators n e h = λ k d l. let x = h k d l in (x.nonzero, x.residue, x.tree.labelled.fits, small generators n (get_or e k d).1 x.tree)
 
 -- the trees of the written terms are those of the sum
@@ -42,9 +42,9 @@ ends (term ∷ terms) rest h = (h.1, h.2, λ _. h.0)
 
 pub printed_read : ElementsAreAccepted → PrintedElementsAreRead
 printed_read accepted p generators prime table words least n arity enough same e may rest behind =
-    let back : IsReadBack p generators e = (read_back p generators prime table words).read_back e (printable p generators n e may) in
+    let back : IsSumReadBack p generators e = (read_back p generators prime table words).read_back e (printable p generators n e may) in
     let trees = trees-of generators n back.terms e back.trees
-    (All-weaker (IsSaidTerm p generators n) (λ (x : ℕ × Tree ℕ). IsElementTree generators n x.1) (λ x h. h.tree) e may) in
+    (All-weaker (IsWrittenTerm p generators n) (λ (x : ℕ × Tree ℕ). IsElementTree generators n x.1) (λ x h. h.tree) e may) in
     record {
       terms = back.terms;
       reading_is = (accepted generators table least arity _ rest back.terms).1 (ap (λ ts. ts ++ rest) back.read, demanded generators least n arity back.terms enough same trees, ends back.terms rest behind);

@@ -14,7 +14,7 @@ use Rattle.presentation_text.specs.declared.lexing.Token.{Token}
 use Rattle.presentation_text.specs.declared.lexing.Token.TheVariants.{Word, Number}
 use Rattle.presentation_text.specs.DocumentText.{part_word, symmetry_word, part_words, symmetry_words}
 use Rattle.presentation_text.specs.Grammar.{ArePartTokens, no_parts, one_part, IsSymmetry, ArePartsOf, IsGeneratorLine}
-use Rattle.presentation_text.specs.LineForms.{Told, part_named, symmetry_named}
+use Rattle.presentation_text.specs.LineReadings.{Contents, part_named, symmetry_named}
 use Rattle.presentation_text.specs.Lines.{HasNoFeed}
 use Rattle.presentation_text.specs.Tokens.{IsWord, tokens}
 use Rattle.presentation_text.proofs.LineTexts.{no_feed-word, no_feed-decimal}
@@ -159,14 +159,14 @@ not_taken done rest generator apart taken =
     let own : get_or all (length done) taken.1 ≡ generator = get_or-append_seam done generator rest taken.1 in
     apart taken.0 (length done) taken.1 taken.2 len (ap (λ g. g.name) one ∙ taken.4 ∙ ap (λ g. g.name) (sym own))
 
-pub generator_line : (told : Told) (rest : List Generator) (generator : Generator) → IsTable (told.generators ++ generator ∷ rest) → MayPrint told.version generator
-    → IsGeneratorLine told (generator_tokens told.version generator) generator
-generator_line told rest generator table may = record {
-  behind = flat_map tokens (kind_words told.version generator.parts);
-  few = let len = length-append told.generators (generator ∷ rest) in omega (arith, len, table.few);
+pub generator_line : (contents : Contents) (rest : List Generator) (generator : Generator) → IsTable (contents.generators ++ generator ∷ rest) → MayPrint contents.version generator
+    → IsGeneratorLine contents (generator_tokens contents.version generator) generator
+generator_line contents rest generator table may = record {
+  behind = flat_map tokens (kind_words contents.version generator.parts);
+  few = let len = length-append contents.generators (generator ∷ rest) in omega (arith, len, table.few);
   short = may.short;
-  new_name = index-none told.generators generator.name (not_taken told.generators rest generator table.apart);
+  new_name = index-none contents.generators generator.name (not_taken contents.generators rest generator table.apart);
   arity = may.arity;
   tokens_are = refl;
-  parts_are = kind_tokens told.version generator may;
+  parts_are = kind_tokens contents.version generator may;
 }

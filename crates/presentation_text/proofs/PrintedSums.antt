@@ -14,7 +14,7 @@ use Rattle.symmetric_trees.specs.Generators.{IsTable}
 use Rattle.presentation_text.specs.declared.lexing.Token.TheVariants.{Number, Byte}
 use Rattle.presentation_text.specs.Tokens.{is_word_byte, StartsOtherwise, tokens}
 use Rattle.presentation_text.specs.TreeText.{HasWords, tree_tokens, tree_text}
-use Rattle.presentation_text.specs.Elements.{Written, coefficient_tokens, term_tokens, mark, further_tokens, element_tokens, number_of, residue, said}
+use Rattle.presentation_text.specs.Elements.{Written, coefficient_tokens, term_tokens, mark, further_tokens, element_tokens, number_of, residue, written_sum}
 use Rattle.presentation_text.specs.SumText.{is_negative, magnitude, factor_text, term_text, further_text, sum_text, IsPrintable}
 use Rattle.presentation_text.specs.Laws.{PrintedSumsAreReadBack}
 use Rattle.presentation_text.proofs.TokenLaws.{tokens-single, tokens-blank}
@@ -65,12 +65,12 @@ residue-back p x positive small =
     let number : number_of (coefficient_of m) ≡ m = number-is (m == 1) m refl in
     ap (λ k. if is_negative p x.0 then (p - k % p) % p else k % p) number ∙ residue-is p x.0 (is_negative p x.0) refl positive small
 
-kept : (p : ℕ) (term : Written) (terms : List Written) (c : ℕ) → residue p term ≡ c → 0 < c → said p (term ∷ terms) ≡ (c, term.tree) ∷ said p terms
+kept : (p : ℕ) (term : Written) (terms : List Written) (c : ℕ) → residue p term ≡ c → 0 < c → written_sum p (term ∷ terms) ≡ (c, term.tree) ∷ written_sum p terms
 kept p term terms c e positive =
     let nonzero : (residue p term == 0) ≡ false = grind (arith, nat_tests) in
-    rw nonzero (ap (λ k. (k, term.tree) ∷ said p terms) e)
+    rw nonzero (ap (λ k. (k, term.tree) ∷ written_sum p terms) e)
 
-same : (p : ℕ) (generators : List Generator) (e : List (ℕ × Tree ℕ)) → IsPrintable p generators e → said p (all_written p e) ≡ e
+same : (p : ℕ) (generators : List Generator) (e : List (ℕ × Tree ℕ)) → IsPrintable p generators e → written_sum p (all_written p e) ≡ e
 same p generators [] h = refl
 same p generators (x ∷ e) h =
     let may : MayPrint p generators x = All-head (MayPrint p generators) x e h in
@@ -153,7 +153,7 @@ apart p generators prime table words e f he hf text =
     let small = small_prime p prime in
     let terms : all_written p e ≡ all_written p f = terms-once generators table (all_written p e) (all_written p f) (are_positive p generators e he) (are_positive p generators f hf)
     (sym (tokens-sum p generators words small e he) ∙ ap tokens text ∙ tokens-sum p generators words small f hf) in
-    sym (same p generators e he) ∙ ap (said p) terms ∙ same p generators f hf
+    sym (same p generators e he) ∙ ap (written_sum p) terms ∙ same p generators f hf
 
 pub read_back : PrintedSumsAreReadBack
 read_back p generators prime table words = record {

@@ -10,11 +10,11 @@ use Rattle.symmetric_trees.specs.declared.generators.Generator.{Generator}
 use Rattle.presentation_text.specs.declared.document.OrderName.{OrderName}
 use Rattle.presentation_text.specs.declared.lexing.Token.TheVariants.{Word, Number}
 use Rattle.presentation_text.specs.DocumentText.{line_of, generator_text, weight_text, generators_text}
-use Rattle.presentation_text.specs.Grammar.{numbered_tokens, Adds, a_generator, a_weight, MayStand}
-use Rattle.presentation_text.specs.LineForms.{Told, is_weighed, weighed}
+use Rattle.presentation_text.specs.Grammar.{numbered_tokens, LineAdds, a_generator, a_weight, MayStand}
+use Rattle.presentation_text.specs.LineReadings.{Contents, is_weighed, weighed}
 use Rattle.presentation_text.specs.Lines.{lines}
 use Rattle.presentation_text.specs.Presentations.{weight_or_none}
-use Rattle.presentation_text.specs.TreeForms.{index_of}
+use Rattle.presentation_text.specs.TreeReadings.{index_of}
 use Rattle.presentation_text.proofs.LineTexts.{no_feed-word, no_feed-decimal}
 use Rattle.presentation_text.proofs.TreeFormsSteps.{first_named}
 use Rattle.presentation_text.proofs.PrintedGenerators.{MayPrint, kind_words, generator_tokens, generator-words, generator_line, no_feed-kinds, tokens-name, tokens-number}
@@ -65,8 +65,8 @@ one_behind ws w weight weights e =
 
 -- ---- generators one after the other
 
-module _ (P : Told → Type 0) (version p : ℕ) (order : OrderName) (v : IsVersion version) (rest : List ℕ) where
-  abbrev now : List Generator → List (Option ℕ) → ℕ → Told
+module _ (P : Contents → Type 0) (version p : ℕ) (order : OrderName) (v : IsVersion version) (rest : List ℕ) where
+  abbrev now : List Generator → List (Option ℕ) → ℕ → Contents
   now generators ws s = stage version p order generators ws [] [] s
 
   -- wherever the lines behind the generators' begin, they lead on
@@ -96,7 +96,7 @@ module _ (P : Told → Type 0) (version p : ℕ) (order : OrderName) (v : IsVers
       (ap₂ (λ xs ys. Word (codes "weight") ∷ (xs ++ (ys ++ []))) (tokens-name generator.name may.word) (tokens-number weight small))
       (subst (λ u. MayStand (stage u p order (done ++ generator ∷ []) (ws ++ None ∷ []) [] [] 4) (Word (codes "weight") ∷ (Word generator.name ∷ (Number weight ∷ [])))) (sym two)
       (stands-weight p order (done ++ generator ∷ []) (ws ++ None ∷ []) [] [] 4 (omega arith) (Word generator.name ∷ (Number weight ∷ []))))
-      (subst (λ us. Adds here n (Word (codes "weight") ∷ (Word generator.name ∷ (Number weight ∷ []))) (now (done ++ generator ∷ []) us 4)) heavy
+      (subst (λ us. LineAdds here n (Word (codes "weight") ∷ (Word generator.name ∷ (Number weight ∷ []))) (now (done ++ generator ∷ []) us 4)) heavy
       (a_weight generator.name (length done) weight index (not_weighed (length done) ws len) light.small))
       (further (suc n) (Some weight) refl)))
       (λ none. let never : (weight == 0) ≡ true = rw none refl in let both : false ≡ true = sym e ∙ never in cc)
@@ -112,16 +112,16 @@ module _ (P : Told → Type 0) (version p : ℕ) (order : OrderName) (v : IsVers
   reach-generators n done (generator ∷ gens) ws [] s early table len same may light on = absurd (omega (arith, same))
   reach-generators n done (generator ∷ gens) ws (weight ∷ weights) s early table len same may light on =
       let own = may 0 generator (omega arith) in
-      let told = now done ws s in
+      let contents = now done ws s in
       let ts = generator_tokens version generator in
       let text = generators_text version gens weights ++ rest in
       let moved : done ++ generator ∷ gens ≡ (done ++ generator ∷ []) ++ gens = sym (append_assoc done (generator ∷ []) gens) in
-      subst (λ xs. Reach P told (numbered_tokens n (lines xs))) (sym (regroup (generator_text version generator) (weight_text generator weight) (generators_text version gens weights) rest))
-      (reach-line P told (now (done ++ generator ∷ []) (ws ++ None ∷ []) 4) n (codes "gen") (generator.name ∷ (decimal generator.arity ∷ kind_words version generator.parts)) (weight_text generator weight ++ text)
+      subst (λ xs. Reach P contents (numbered_tokens n (lines xs))) (sym (regroup (generator_text version generator) (weight_text generator weight) (generators_text version gens weights) rest))
+      (reach-line P contents (now (done ++ generator ∷ []) (ws ++ None ∷ []) 4) n (codes "gen") (generator.name ∷ (decimal generator.arity ∷ kind_words version generator.parts)) (weight_text generator weight ++ text)
       (Word (codes "gen") ∷ ts) (refl, refl) (no_feed-word (codes "gen") (refl, refl))
       (no_feed-word generator.name own.word, (no_feed-decimal generator.arity (omega (arith, own.arity.1)), no_feed-kinds version generator own))
       (ap (λ xs. Word (codes "gen") ∷ xs) (generator-words version generator own)) (stands-gen p order done ws [] [] s version v early ts)
-      (a_generator ts generator (generator_line told gens generator table own))
+      (a_generator ts generator (generator_line contents gens generator table own))
       (reach-weight (suc n) done gens generator ws weight text table.apart len own (light 0 weight (omega arith)) (weight == 0) refl
       (λ m w worth. reach-generators m (done ++ generator ∷ []) gens (ws ++ w ∷ []) weights 4 (omega arith) (subst IsTable moved table)
       (let l = length-append ws (w ∷ []) in let k = length-append done (generator ∷ []) in omega (arith, l, k, len)) (omega (arith, same))

@@ -11,9 +11,9 @@ use Rattle.presentation_text.specs.declared.document.OrderName.TheVariants.{Path
 use Rattle.presentation_text.specs.declared.lexing.Token.TheVariants.{Word, Number}
 use Rattle.presentation_text.specs.DocumentText.{line_of, order_word, generators_text, relation_text, ask_text, document_text}
 use Rattle.presentation_text.specs.Grammar.{numbered_tokens, a_field, an_order, DocumentsAreAccepted}
-use Rattle.presentation_text.specs.LineForms.{Told, told_by_header, order_named}
+use Rattle.presentation_text.specs.LineReadings.{Contents, contents_by_header, order_named}
 use Rattle.presentation_text.specs.Lines.{HasNoFeed, lines}
-use Rattle.presentation_text.specs.ReadBack.{IsWritable, SayAgain, IsReadBack}
+use Rattle.presentation_text.specs.ReadBack.{IsWritable, HaveSameContents, IsReadBack}
 use Rattle.presentation_text.specs.Tokens.{IsWord, tokens}
 use Rattle.presentation_text.proofs.LineTexts.{no_feed-word, no_feed-decimal}
 use Rattle.presentation_text.proofs.PrintedDocuments.{field_small, reach-relations, reach-asks}
@@ -63,8 +63,8 @@ module _ (document : Document) (formed : IsWritable document) where
   weights_may : All (MayWeigh version) document.weights
   weights_may k d l = record { small = formed.small k d l; two = ⊎_elim (λ two. inl two) (λ one. inr (one.1.no_weights k d l)) formed.version }
 
-  abbrev P : Told → Type 0
-  P told = SayAgain told document
+  abbrev P : Contents → Type 0
+  P contents = HaveSameContents contents document
 
   abbrev asks_text : List ℕ
   asks_text = flat_map (λ ask. ask_text document.field document.gens ask.kind) document.asks
@@ -89,13 +89,13 @@ module _ (document : Document) (formed : IsWritable document) where
       ++ (line_of (codes "order") (order_word document.order ∷ []) ++ (generators_text version document.gens document.weights ++ (relations_text ++ asks_text)))
 
   -- its lines lead there too
-  reach-field : Reach P (told_by_header version) (numbered_tokens 2 (lines behind_header))
+  reach-field : Reach P (contents_by_header version) (numbered_tokens 2 (lines behind_header))
   reach-field =
       let p = document.field in
       let order = document.order in
       let small = small_prime p formed.field in
       let known : (version ≡ 2) ⊎ (order ≢ WeightPath) = ⊎_elim (λ two. inl two) (λ one. inr one.1.no_weight_order) formed.version in
-      reach-line P (told_by_header version) (with_field version p) 2 (codes "field") (decimal p ∷ []) _ (Word (codes "field") ∷ (Number p ∷ [])) (refl, refl) (no_feed-word (codes "field") (refl, refl))
+      reach-line P (contents_by_header version) (with_field version p) 2 (codes "field") (decimal p ∷ []) _ (Word (codes "field") ∷ (Number p ∷ [])) (refl, refl) (no_feed-word (codes "field") (refl, refl))
       (no_feed-decimal p (field_small p formed.field), tt) (ap (λ ts. Word (codes "field") ∷ (ts ++ [])) (tokens-number p small)) (stands-field version is_version (Number p ∷ []))
       (a_field p (prime_is p formed.field))
       (reach-line P (with_field version p) (stage version p order [] [] [] [] 3) 3 (codes "order") (order_word order ∷ []) _ (Word (codes "order") ∷ (Word (order_word order) ∷ [])) (refl, refl)
@@ -115,8 +115,8 @@ module _ (document : Document) (formed : IsWritable document) where
       ∙ numbered-first 1 (codes "operad") (decimal version ∷ []) behind_header header (refl, refl) (no_feed-word (codes "operad") (refl, refl)) (no_feed-decimal version (let s = small_version in omega (arith, s)), tt)
       (ap (λ ts. Word (codes "operad") ∷ (ts ++ [])) (tokens-number version small_version)) in
       record {
-        told = reach.end;
-        reading_is = (accepted (document_text document) (record { told = reach.end; tail = None })).1 (record {
+        contents = reach.end;
+        reading_is = (accepted (document_text document) (record { contents = reach.end; tail = None })).1 (record {
           first = 1;
           version = version;
           presentation = numbered_tokens 2 (lines behind_header);

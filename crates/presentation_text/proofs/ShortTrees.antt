@@ -18,7 +18,7 @@ use Rattle.symmetric_trees.specs.Generators.{parts_at}
 use Rattle.symmetric_trees.specs.Trees.{Fits, IsLabelled}
 use Rattle.symmetric_trees.specs.declared.generators.Generator.{Generator}
 use Rattle.presentation_text.specs.Accepted.{IsDemanded}
-use Rattle.presentation_text.specs.TreeForms.{any_arity}
+use Rattle.presentation_text.specs.TreeReadings.{any_arity}
 use Rattle.presentation_text.proofs.NestedTrees.{nested_less}
 
 -- a tree of at most nine leaves with small numbers may be read where leaf numbers are free

@@ -10,10 +10,10 @@ use Rattle.labelled_trees.proofs.Leaves.{by_leaf}
 use Rattle.symmetric_trees.specs.Trees.{Fits}
 use Rattle.symmetric_trees.specs.declared.generators.Generator.{Generator}
 use Rattle.presentation_text.specs.declared.lexing.Token.{Token}
-use Rattle.presentation_text.specs.TreeForms.{begins_with}
+use Rattle.presentation_text.specs.TreeReadings.{begins_with}
 use Rattle.presentation_text.specs.TreeText.{tree_tokens}
-use Rattle.presentation_text.specs.Elements.{Written, term_tokens, further_tokens, element_tokens, IsElementTree, HaveArity}
-use Rattle.presentation_text.specs.ElementForms.{behind_one, is_nothing, coefficient, behind_coefficient, sign}
+use Rattle.presentation_text.specs.Elements.{Written, term_tokens, further_tokens, element_tokens, IsElementTree, WrittenHaveArity}
+use Rattle.presentation_text.specs.ElementReadings.{behind_one, is_nothing, coefficient, behind_coefficient, sign}
 use Rattle.presentation_text.specs.Laws.{ElementsAreReadOnce}
 use Rattle.presentation_text.specs.Accepted.{NotMarked}
 use Rattle.presentation_text.proofs.ElementFronts.{coefficient-is, behind-is, sign-is, sign-no-star, nothing-there, something-there, minus-there, minus-behind}
@@ -103,13 +103,13 @@ module _ (generators : List Generator) (table : IsTable generators) where
 positive : (generators : List Generator) (n : ℕ) (t : Tree ℕ) → IsElementTree generators n t → IsPositive generators t
 positive generators n t h = record { fits = h.labelled.fits; leaves = by_leaf t (λ i. 0 < i) (λ i l. (h.labelled.only i l).0) }
 
-all_positive : (generators : List Generator) (terms : List Written) (arity : Option ℕ) → HaveArity generators arity terms → ArePositive generators terms
+all_positive : (generators : List Generator) (terms : List Written) (arity : Option ℕ) → WrittenHaveArity generators arity terms → ArePositive generators terms
 all_positive generators terms None none = subst (ArePositive generators) (sym none) (All-nil (λ (x : Written). IsPositive generators x.tree))
 all_positive generators terms (Some n) all =
     All-weaker (λ (x : Written). IsElementTree generators n x.tree) (λ (x : Written). IsPositive generators x.tree) (λ x h. positive generators n x.tree h) terms all.1
 
 -- the terms have one arity
-arity_once : (generators : List Generator) (terms : List Written) (arity other : Option ℕ) → HaveArity generators arity terms → HaveArity generators other terms → arity ≡ other
+arity_once : (generators : List Generator) (terms : List Written) (arity other : Option ℕ) → WrittenHaveArity generators arity terms → WrittenHaveArity generators other terms → arity ≡ other
 arity_once generators terms None None a b = refl
 arity_once generators terms None (Some n) a b = absurd (omega (arith, ap length a, b.0))
 arity_once generators terms (Some m) None a b = absurd (omega (arith, ap length b, a.0))
@@ -122,4 +122,4 @@ arity_once generators (term ∷ terms) (Some m) (Some n) a b =
 pub elements-once : ElementsAreReadOnce
 elements-once generators table line terms others arity other a b =
     let same : terms ≡ others = terms-once generators table terms others (all_positive generators terms arity a.arity_is) (all_positive generators others other b.arity_is) (sym a.spelled ∙ b.spelled) in
-    (same, arity_once generators others arity other (subst (HaveArity generators arity) same a.arity_is) b.arity_is)
+    (same, arity_once generators others arity other (subst (WrittenHaveArity generators arity) same a.arity_is) b.arity_is)

@@ -8,7 +8,7 @@ use Rattle.presentation_text.specs.declared.kinds.PartFail.TheVariants.{At, NoMe
 use Rattle.presentation_text.specs.declared.lexing.Token.{Token}
 use Rattle.presentation_text.specs.declared.trees.TreeRead.{TreeRead}
 use Rattle.presentation_text.specs.Readings.{Fault, Reading, misfit, misplaced_in, StopsAs, GivesBehind}
-use Rattle.presentation_text.specs.TreeForms.{GivesTree}
+use Rattle.presentation_text.specs.TreeReadings.{GivesTree}
 
 -- a fault at a place, told by the tokens from there on
 pub stops-at : {X : Type 0} (tokens : List Token) (at : ℕ) (kind : DocKind) (reading : Result X Fault) (fail : PartFail) → at ≤ length tokens

@@ -21,7 +21,7 @@ use Rattle.presentation_text.specs.declared.lexing.Token.TheVariants.{Word, Numb
 use Rattle.presentation_text.specs.declared.trees.Demands.{Demands}
 use Rattle.presentation_text.specs.declared.trees.TreeRead.{TreeRead}
 use Rattle.presentation_text.specs.Readings.{Fault, Reading, ◌>>=◌, is_mark, misplaced, misfit, mark_in, first_row, refused, StopsAs}
-use Rattle.presentation_text.specs.TreeForms.{Inside, next_index, index_of, begins_with, before_in, close_in, input_in, row_in, leaf_in, node_in, begun_in, tree_in, against, whole_tree_in, IsTreeRead}
+use Rattle.presentation_text.specs.TreeReadings.{Inside, next_index, index_of, begins_with, before_in, close_in, input_in, row_in, leaf_in, node_in, begun_in, tree_in, against, whole_tree_in, IsTreeRead}
 use Rattle.std.proofs.lemmas.Bool.Decides.{nat_tests}
 use Rattle.presentation_text.proofs.TreeTokens.{arity_in}
 use Rattle.presentation_text.proofs.TreeFormsPlaces.{stops-on}

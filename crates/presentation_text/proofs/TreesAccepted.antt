@@ -13,7 +13,7 @@ use Rattle.presentation_text.specs.declared.kinds.DocKind.TheVariants.{Labels, A
 use Rattle.presentation_text.specs.declared.lexing.Token.{Token}
 use Rattle.presentation_text.specs.declared.trees.Demands.{Demands}
 use Rattle.presentation_text.specs.Readings.{first_row, refused}
-use Rattle.presentation_text.specs.TreeForms.{tree_in, has_each, differs, whole_tree_in}
+use Rattle.presentation_text.specs.TreeReadings.{tree_in, has_each, differs, whole_tree_in}
 use Rattle.presentation_text.specs.TreeText.{tree_tokens}
 use Rattle.presentation_text.proofs.TreeFormsLeaves.{has-each, numbered-had}
 use Rattle.presentation_text.proofs.TreeFormsSteps.{judged, whole-accepted}

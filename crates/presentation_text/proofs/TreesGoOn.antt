@@ -12,7 +12,7 @@ use Rattle.presentation_text.specs.declared.kinds.DocKind.TheVariants.{InputCoun
 use Rattle.presentation_text.specs.declared.lexing.Token.{Token}
 use Rattle.presentation_text.specs.declared.lexing.Token.TheVariants.{Word, Number, Long, Byte, Bad}
 use Rattle.presentation_text.specs.Readings.{Fault, Reading, ◌>>=◌, is_mark, misplaced, first_row, refused}
-use Rattle.presentation_text.specs.TreeForms.{Inside, index_of, before_in, close_in, input_in, row_in, node_in, begun_in, tree_or_end_in, tree_in}
+use Rattle.presentation_text.specs.TreeReadings.{Inside, index_of, before_in, close_in, input_in, row_in, node_in, begun_in, tree_or_end_in, tree_in}
 use Rattle.presentation_text.specs.TreeText.{tree_tokens}
 use Rattle.presentation_text.proofs.TreeTokens.{arity_in}
 use Rattle.presentation_text.proofs.TreeFormsSteps as steps

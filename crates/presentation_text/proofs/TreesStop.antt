@@ -12,7 +12,7 @@ use Rattle.presentation_text.specs.declared.kinds.DocKind.TheVariants.{Syntax, N
 use Rattle.presentation_text.specs.declared.lexing.Token.{Token}
 use Rattle.presentation_text.specs.declared.trees.Demands.{Demands}
 use Rattle.presentation_text.specs.Readings.{Fault, Reading, ◌>>=◌, first_row, refused}
-use Rattle.presentation_text.specs.TreeForms.{has_each, differs, against, tree_in, whole_tree_in}
+use Rattle.presentation_text.specs.TreeReadings.{has_each, differs, against, tree_in, whole_tree_in}
 use Rattle.presentation_text.specs.TreeText.{nested, tree_tokens}
 use Rattle.presentation_text.proofs.TreeTokens.{read_once}
 use Rattle.presentation_text.proofs.TreeFormsSteps.{judged}

@@ -5,7 +5,7 @@ use Rattle.presentation_text.specs.declared.kinds.DocKind.{DocKind}
 use Rattle.presentation_text.specs.declared.kinds.DocKind.TheVariants.{InputCount, Syntax}
 use Rattle.presentation_text.specs.declared.lexing.Token.{Token}
 use Rattle.presentation_text.specs.Readings.{Fault, Reading, ◌>>=◌, is_mark, misplaced, first_row, refused}
-use Rattle.presentation_text.specs.TreeForms.{before_in, close_in}
+use Rattle.presentation_text.specs.TreeReadings.{before_in, close_in}
 use Rattle.presentation_text.proofs.TreesAcceptedTrees.{ok_left, ok_right}
 
 -- what was read of the tokens, whatever stands behind them
@@ -106,8 +106,8 @@ given (Ok x) rest = Ok (x, rest)
 given (Err kind) rest = Err (suc (length rest), kind)
 
 pub record IsGiven {X : Type 0} (read : List Token → Reading X) (token : Token) : Type 0 where
-  pub told : Result X DocKind
-  pub is : (rest : List Token) → read (token ∷ rest) ≡ given told rest
+  pub contents : Result X DocKind
+  pub is : (rest : List Token) → read (token ∷ rest) ≡ given contents rest
 
 pub record IsGoneInto {X : Type 0} (read : List Token → Reading X) (token : Token) : Type 0 where
   pub inner : List Token → Reading X
@@ -119,15 +119,15 @@ pub record IsByToken {X : Type 0} (read : List Token → Reading X) : Type 0 whe
   pub ends : read [] ≡ Err (0, kind)
   pub starts : (token : Token) → IsGiven read token ⊎ IsGoneInto read token
 
-given_ok : {X : Type 0} (told : Result X DocKind) (x : X) (others rest : List Token) → given told others ≡ Ok (x, rest) → (others ≡ rest) × (told ≡ Ok x)
+given_ok : {X : Type 0} (contents : Result X DocKind) (x : X) (others rest : List Token) → given contents others ≡ Ok (x, rest) → (others ≡ rest) × (contents ≡ Ok x)
 given_ok (Ok y) x others rest e = (ok_right y x others rest e, ap Ok (ok_left y x others rest e))
 given_ok (Err kind) x others rest e = absurd cc
 
-given_bounded : {X : Type 0} (told : Result X DocKind) (others : List Token) (fault : Fault) → given told others ≡ Err fault → fault.0 ≡ suc (length others)
+given_bounded : {X : Type 0} (contents : Result X DocKind) (others : List Token) (fault : Fault) → given contents others ≡ Err fault → fault.0 ≡ suc (length others)
 given_bounded (Ok y) others fault e = absurd cc
 given_bounded (Err kind) others fault e = let same : (suc (length others), kind) ≡ fault = cc in ap (λ (f : Fault). f.0) (sym same)
 
-given_again : {X : Type 0} (told : Result X DocKind) (others beyond : List Token) (kind : DocKind) → given told others ≡ Err (suc (length others), kind) → given told beyond ≡ Err (suc (length beyond), kind)
+given_again : {X : Type 0} (contents : Result X DocKind) (others beyond : List Token) (kind : DocKind) → given contents others ≡ Err (suc (length others), kind) → given contents beyond ≡ Err (suc (length beyond), kind)
 given_again (Ok y) others beyond kind e = absurd cc
 given_again (Err other) others beyond kind e =
     let same : ◌≡◌ {A = Fault} (suc (length others), other) (suc (length others), kind) = cc in
@@ -138,7 +138,7 @@ module _ {X : Type 0} (read : List Token → Reading X) (wise : IsByToken read) 
   end_fault fault e = let same : ◌≡◌ {A = Reading X} (Err fault) (Err (0, wise.kind)) = sym e ∙ wise.ends in let first : fault ≡ (0, wise.kind) = cc in ap (λ (f : Fault). f.0) first
 
   first_bounded : (token : Token) (rest : List Token) → IsGiven read token ⊎ IsGoneInto read token → (fault : Fault) → read (token ∷ rest) ≡ Err fault → fault.0 ≤ suc (length rest)
-  first_bounded token rest (inl g) fault e = let is = given_bounded g.told rest fault (sym (g.is rest) ∙ e) in omega (arith, is)
+  first_bounded token rest (inl g) fault e = let is = given_bounded g.contents rest fault (sym (g.is rest) ∙ e) in omega (arith, is)
   first_bounded token rest (inr g) fault e = let l = g.local.bounded rest fault (sym (g.is rest) ∙ e) in omega (arith, l)
 
   token_bounded : (ts : List Token) (fault : Fault) → read ts ≡ Err fault → fault.0 ≤ length ts
@@ -147,8 +147,8 @@ module _ {X : Type 0} (read : List Token → Reading X) (wise : IsByToken read) 
 
   first_goes : (token : Token) (others : List Token) → IsGiven read token ⊎ IsGoneInto read token → (x : X) (rest : List Token) → read (token ∷ others) ≡ Ok (x, rest) → IsReadFrom read (token ∷ others) x rest
   first_goes token others (inl g) x rest e =
-      let both = given_ok g.told x others rest (sym (g.is others) ∙ e) in
-      record { used = token ∷ []; parted = ap (λ ts. token ∷ ts) both.0; again = λ beyond. g.is beyond ∙ ap (λ (told : Result X DocKind). given told beyond) both.1 }
+      let both = given_ok g.contents x others rest (sym (g.is others) ∙ e) in
+      record { used = token ∷ []; parted = ap (λ ts. token ∷ ts) both.0; again = λ beyond. g.is beyond ∙ ap (λ (contents : Result X DocKind). given contents beyond) both.1 }
   first_goes token others (inr g) x rest e =
       let gone = g.local.goes others x rest (sym (g.is others) ∙ e) in
       record { used = token ∷ gone.used; parted = ap (λ ts. token ∷ ts) gone.parted; again = λ beyond. g.is (gone.used ++ beyond) ∙ gone.again beyond }
@@ -159,13 +159,13 @@ module _ {X : Type 0} (read : List Token → Reading X) (wise : IsByToken read) 
 
   first_stops : (token : Token) (back beyond : List Token) (kind : DocKind) → IsGiven read token ⊎ IsGoneInto read token → read (token ∷ back) ≡ Err (suc (length back), kind)
       → read (token ∷ beyond) ≡ Err (suc (length beyond), kind)
-  first_stops token back beyond kind (inl g) e = g.is beyond ∙ given_again g.told back beyond kind (sym (g.is back) ∙ e)
+  first_stops token back beyond kind (inl g) e = g.is beyond ∙ given_again g.contents back beyond kind (sym (g.is back) ∙ e)
   first_stops token back beyond kind (inr g) e = let l = g.local.bounded back (suc (length back), kind) (sym (g.is back) ∙ e) in absurd (omega (arith, l))
 
   later_stops : (first : Token) (front : List Token) (token : Token) (back beyond : List Token) (kind : DocKind) → IsGiven read first ⊎ IsGoneInto read first
       → read (first ∷ (front ++ token ∷ back)) ≡ Err (suc (length back), kind) → read (first ∷ (front ++ token ∷ beyond)) ≡ Err (suc (length beyond), kind)
   later_stops first front token back beyond kind (inl g) e =
-      let is = given_bounded g.told (front ++ token ∷ back) (suc (length back), kind) (sym (g.is (front ++ token ∷ back)) ∙ e) in
+      let is = given_bounded g.contents (front ++ token ∷ back) (suc (length back), kind) (sym (g.is (front ++ token ∷ back)) ∙ e) in
       absurd (omega (arith, is, length-append front (token ∷ back)))
   later_stops first front token back beyond kind (inr g) e = g.is (front ++ token ∷ beyond) ∙ g.local.stops front token back beyond kind (sym (g.is (front ++ token ∷ back)) ∙ e)
 
@@ -201,17 +201,17 @@ pub before_by_token : (first : Bool) → IsByToken (λ ts. before_in first ts >>
 before_by_token true = record {
   kind = Syntax;
   ends = refl;
-  starts = λ token. inl (record { told = two_told true false (is_mark 40 token) InputCount (misplaced token); is = λ rest. one_given true (is_mark 40 token) InputCount (misplaced token) rest });
+  starts = λ token. inl (record { contents = two_told true false (is_mark 40 token) InputCount (misplaced token); is = λ rest. one_given true (is_mark 40 token) InputCount (misplaced token) rest });
 }
 before_by_token false = record {
   kind = Syntax;
   ends = refl;
-  starts = λ token. inl (record { told = two_told true (is_mark 41 token) (is_mark 44 token) InputCount (misplaced token); is = λ rest. two_given true (is_mark 41 token) (is_mark 44 token) InputCount (misplaced token) rest });
+  starts = λ token. inl (record { contents = two_told true (is_mark 41 token) (is_mark 44 token) InputCount (misplaced token); is = λ rest. two_given true (is_mark 41 token) (is_mark 44 token) InputCount (misplaced token) rest });
 }
 
 pub close_by_token : {X : Type 0} (x : X) → IsByToken (λ ts. close_in ts >>= (λ (rest : List Token). Ok (x, rest)))
 close_by_token x = record {
   kind = Syntax;
   ends = refl;
-  starts = λ token. inl (record { told = two_told x (is_mark 44 token) (is_mark 41 token) InputCount (misplaced token); is = λ rest. two_given x (is_mark 44 token) (is_mark 41 token) InputCount (misplaced token) rest });
+  starts = λ token. inl (record { contents = two_told x (is_mark 44 token) (is_mark 41 token) InputCount (misplaced token); is = λ rest. two_given x (is_mark 44 token) (is_mark 41 token) InputCount (misplaced token) rest });
 }

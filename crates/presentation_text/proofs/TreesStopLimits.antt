@@ -13,7 +13,7 @@ use Rattle.presentation_text.specs.declared.kinds.DocKind.TheVariants.{TooDeep, 
 use Rattle.presentation_text.specs.declared.lexing.Token.{Token}
 use Rattle.presentation_text.specs.declared.lexing.Token.TheVariants.{Byte}
 use Rattle.presentation_text.specs.Readings.{Reading, ◌>>=◌, first_row, refused}
-use Rattle.presentation_text.specs.TreeForms.{input_in, row_in, tree_in}
+use Rattle.presentation_text.specs.TreeReadings.{input_in, row_in, tree_in}
 use Rattle.presentation_text.specs.TreeText.{name_of, tree_tokens, nested, nested_row}
 use Rattle.presentation_text.proofs.TreeTokens.{arity_in}
 use Rattle.presentation_text.proofs.TreeFormsSteps as steps

@@ -13,8 +13,8 @@ use Rattle.presentation_text.specs.declared.lexing.Token.{Token}
 use Rattle.presentation_text.specs.declared.lexing.Token.TheVariants.{Byte}
 use Rattle.presentation_text.specs.declared.trees.Demands.{Demands}
 use Rattle.presentation_text.specs.Elements.{Written, element_tokens, IsElementTree}
-use Rattle.presentation_text.specs.ElementForms.{element_in}
-use Rattle.presentation_text.specs.TreeForms.{begins_with, demands_of, whole_tree_in}
+use Rattle.presentation_text.specs.ElementReadings.{element_in}
+use Rattle.presentation_text.specs.TreeReadings.{begins_with, demands_of, whole_tree_in}
 use Rattle.presentation_text.specs.TreeText.{nested, tree_tokens}
 
 -- ---- trees
@@ -105,19 +105,19 @@ ElementsAreAccepted = (generators : List Generator) → IsTable generators → (
     ↔ ((ts ≡ element_tokens generators terms ++ rest) × AreDemanded generators least arity terms × EndsBefore terms rest)
 
 -- Tokens are alike behind a refused one: where a whole tree is refused, which may be a number, '*' stands first in both or in neither.
-abbrev pub AreAlike : DocKind → List Token → List Token → Type 0
-AreAlike Syntax others back = Unit {0}
-AreAlike NumberLong others back = Unit {0}
-AreAlike NameUnknown others back = Unit {0}
-AreAlike InputCount others back = Unit {0}
-AreAlike TooDeep others back = Unit {0}
-AreAlike TooWide others back = Unit {0}
-AreAlike kind others back = begins_with 42 others ≡ begins_with 42 back
+abbrev pub GoOnAlike : DocKind → List Token → List Token → Type 0
+GoOnAlike Syntax others back = Unit {0}
+GoOnAlike NumberLong others back = Unit {0}
+GoOnAlike NameUnknown others back = Unit {0}
+GoOnAlike InputCount others back = Unit {0}
+GoOnAlike TooDeep others back = Unit {0}
+GoOnAlike TooWide others back = Unit {0}
+GoOnAlike kind others back = begins_with 42 others ≡ begins_with 42 back
 
 -- the tokens go on from those in front as the ones behind do, as far as the refusal looks
 abbrev pub GoOnLike : DocKind → List Token → List Token → List Token → Type 0
 GoOnLike kind front [] ts = ts ≡ front
-GoOnLike kind front (token ∷ back) ts = (others : List Token) × (ts ≡ front ++ token ∷ others) × AreAlike kind others back
+GoOnLike kind front (token ∷ back) ts = (others : List Token) × (ts ≡ front ++ token ∷ others) × GoOnAlike kind others back
 
 -- The elements that a refusal rules out: for a token that can't stand there any element over the table, for a limit those within it,
 -- and else those whose trees have one arity as demanded.

@@ -8,8 +8,8 @@ use Rattle.presentation_text.specs.declared.kinds.ReadDocFail.TheVariants.{At, N
 use Rattle.presentation_text.specs.declared.presentations.Behind as program
 use Rattle.presentation_text.specs.declared.presentations.Behind.TheVariants.{GoesOn, TailBegins}
 use Rattle.presentation_text.specs.declared.presentations.ReadPresentation.{ReadPresentation}
-use Rattle.presentation_text.specs.DocumentForms.{LineFault, Behind, Whole, goes_on, tail_begins}
-use Rattle.presentation_text.specs.DraftForms.{IsSound, told_of}
+use Rattle.presentation_text.specs.DocumentReadings.{LineFault, Behind, Whole, goes_on, tail_begins}
+use Rattle.presentation_text.specs.DraftReadings.{IsSoundDraft, contents_of}
 use Rattle.presentation_text.specs.Lines.{EndsWith, lines}
 
 -- The function stops at the line, and for the reason, for which reading stops.
@@ -24,8 +24,8 @@ pub record HasBoth (draft : Draft) : Type 0 where
 
 -- behind a line the draft says what the lines say; a tail begins only where a field and an order stand, and adds nothing
 abbrev pub IsBehind : Draft → Result Behind LineFault → program.Behind → Type 0
-IsBehind before reading (GoesOn draft) = (reading ≡ Ok (goes_on (told_of draft))) × IsSound draft
-IsBehind before reading (TailBegins draft) = (reading ≡ Ok tail_begins) × (told_of draft ≡ told_of before) × IsSound draft × HasBoth draft
+IsBehind before reading (GoesOn draft) = (reading ≡ Ok (goes_on (contents_of draft))) × IsSoundDraft draft
+IsBehind before reading (TailBegins draft) = (reading ≡ Ok tail_begins) × (contents_of draft ≡ contents_of before) × IsSoundDraft draft × HasBoth draft
 
 -- The lines of a text from this number on, where `first` is that of its first line, are those of the rest.
 pub record IsRestFrom (text : List ℕ) (first number : ℕ) (rest : List ℕ) : Type 0 where
@@ -50,6 +50,6 @@ pub record IsPresentationRead (text : List ℕ) (first : ℕ) (reading : Result 
   pub rest : List ℕ
   pub left_is : read.left ≡ length rest
   pub stands : IsRestFrom text first read.number rest
-  pub reading_is : reading ≡ Ok (record { told = told_of read.draft; tail = tail_number read.left read.number })
-  pub sound : IsSound read.draft
+  pub reading_is : reading ≡ Ok (record { contents = contents_of read.draft; tail = tail_number read.left read.number })
+  pub sound : IsSoundDraft read.draft
   pub both : HasBoth read.draft

@@ -49,14 +49,14 @@ pub record IsElementTree (generators : List Generator) (n : ℕ) (t : Tree ℕ) 
   pub shallow : nested t ≤ 8
 
 -- the arity of all written trees, also of those with a coefficient 0; none where there are no terms
-abbrev pub HaveArity : List Generator → Option ℕ → List Written → Type 0
-HaveArity generators None terms = terms ≡ []
-HaveArity generators (Some n) terms = (0 < length terms) × All (λ term. IsElementTree generators n term.tree) terms
+abbrev pub WrittenHaveArity : List Generator → Option ℕ → List Written → Type 0
+WrittenHaveArity generators None terms = terms ≡ []
+WrittenHaveArity generators (Some n) terms = (0 < length terms) × All (λ term. IsElementTree generators n term.tree) terms
 
 -- The tokens are those of an element with these terms, whose trees have this arity.
-pub record IsElement (generators : List Generator) (tokens : List Token) (terms : List Written) (arity : Option ℕ) : Type 0 where
+pub record AreElementTokens (generators : List Generator) (tokens : List Token) (terms : List Written) (arity : Option ℕ) : Type 0 where
   pub spelled : tokens ≡ element_tokens generators terms
-  pub arity_is : HaveArity generators arity terms
+  pub arity_is : WrittenHaveArity generators arity terms
 
 -- ---- what it says
 
@@ -69,6 +69,6 @@ abbrev pub residue : ℕ → Written → ℕ
 residue p term = if term.negative then (p - number_of term.coefficient % p) % p else number_of term.coefficient % p
 
 -- The sum that is written: each tree beside its residue, in the order of the terms, without those of residue 0.
-abbrev pub said : ℕ → List Written → List (ℕ × Tree ℕ)
-said p [] = []
-said p (term ∷ terms) = if residue p term == 0 then said p terms else (residue p term, term.tree) ∷ said p terms
+abbrev pub written_sum : ℕ → List Written → List (ℕ × Tree ℕ)
+written_sum p [] = []
+written_sum p (term ∷ terms) = if residue p term == 0 then written_sum p terms else (residue p term, term.tree) ∷ written_sum p terms

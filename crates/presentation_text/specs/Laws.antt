@@ -12,14 +12,14 @@ use Rattle.presentation_text.specs.declared.document.Document.{Document}
 use Rattle.presentation_text.specs.declared.kinds.DocFail.{DocFail}
 use Rattle.presentation_text.specs.declared.kinds.ReadDocFail.TheVariants.{At}
 use Rattle.presentation_text.specs.declared.lexing.Token.{Token}
-use Rattle.presentation_text.specs.DocumentForms.{Whole, read_text}
-use Rattle.presentation_text.specs.DraftForms.{asked}
-use Rattle.presentation_text.specs.Presentations.{IsReadAs, IsRefused}
+use Rattle.presentation_text.specs.DocumentReadings.{Whole, read_text}
+use Rattle.presentation_text.specs.DraftReadings.{asked}
+use Rattle.presentation_text.specs.Presentations.{IsReadAs, IsTextRefused}
 use Rattle.presentation_text.specs.Lines.{AreLines, lines}
 use Rattle.presentation_text.specs.declared.lexing.Token.TheVariants.{Word}
 use Rattle.presentation_text.specs.Tokens.{AreTokens, IsWord, tokens}
 use Rattle.presentation_text.specs.TreeText.{HasWords, tree_tokens, tree_text}
-use Rattle.presentation_text.specs.Elements.{Written, IsElement, element_tokens, said}
+use Rattle.presentation_text.specs.Elements.{Written, AreElementTokens, element_tokens, written_sum}
 use Rattle.presentation_text.specs.SumText.{IsPrintable, sum_text}
 
 -- Each text has exactly one list of lines, the one that `lines` gives.
@@ -46,18 +46,18 @@ WordsAreWords = (line name : List ℕ) → Mem (Word name) (tokens line) → IsW
 -- Tokens are those of at most one element: they have one list of terms, and so one arity.
 abbrev pub ElementsAreReadOnce : Type 0
 ElementsAreReadOnce = (generators : List Generator) → IsTable generators → (line : List Token) (terms others : List Written) (arity other : Option ℕ)
-    → IsElement generators line terms arity → IsElement generators line others other → (terms ≡ others) × (arity ≡ other)
+    → AreElementTokens generators line terms arity → AreElementTokens generators line others other → (terms ≡ others) × (arity ≡ other)
 
 -- what reading the text of a sum gives: the tokens of an element that says the sum, with the same trees
-pub record IsReadBack (p : ℕ) (generators : List Generator) (e : List (ℕ × Tree ℕ)) : Type 0 where
+pub record IsSumReadBack (p : ℕ) (generators : List Generator) (e : List (ℕ × Tree ℕ)) : Type 0 where
   pub terms : List Written
   pub read : tokens (sum_text p generators e) ≡ element_tokens generators terms
-  pub same : said p terms ≡ e
+  pub same : written_sum p terms ≡ e
   pub trees : map (λ term. term.tree) terms ≡ map (λ x. x.1) e
 
 -- The text of a sum over a table whose names are words is read back to the sum, and two sums with one text are equal.
 pub record PrintedSumsLaw (p : ℕ) (generators : List Generator) : Type 0 where
-  pub read_back : (e : List (ℕ × Tree ℕ)) → IsPrintable p generators e → IsReadBack p generators e
+  pub read_back : (e : List (ℕ × Tree ℕ)) → IsPrintable p generators e → IsSumReadBack p generators e
   pub apart : (e f : List (ℕ × Tree ℕ)) → IsPrintable p generators e → IsPrintable p generators f → sum_text p generators e ≡ sum_text p generators f → e ≡ f
 
 abbrev pub PrintedSumsAreReadBack : Type 0
@@ -76,10 +76,10 @@ pub record SayTheSame (document other : Document) : Type 0 where
 
 -- A text is accepted, and then all documents as which it may be read say the same; or it is refused, for one line and one kind; and never both.
 pub record DocumentsLaw (bytes : List ℕ) : Type 0 where
-  pub either : ((whole : Whole) × (read_text bytes ≡ Ok whole)) ⊎ ((fail : DocFail) × IsRefused bytes (At fail))
+  pub either : ((whole : Whole) × (read_text bytes ≡ Ok whole)) ⊎ ((fail : DocFail) × IsTextRefused bytes (At fail))
   pub one_document : (document other : Document) → IsReadAs bytes document → IsReadAs bytes other → SayTheSame document other
-  pub one_fault : (fail other : DocFail) → IsRefused bytes (At fail) → IsRefused bytes (At other) → fail ≡ other
-  pub never_both : (document : Document) (fail : DocFail) → IsReadAs bytes document → IsRefused bytes (At fail) → ⊥
+  pub one_fault : (fail other : DocFail) → IsTextRefused bytes (At fail) → IsTextRefused bytes (At other) → fail ≡ other
+  pub never_both : (document : Document) (fail : DocFail) → IsReadAs bytes document → IsTextRefused bytes (At fail) → ⊥
 
 abbrev pub DocumentsAreDetermined : Type 0
 DocumentsAreDetermined = (bytes : List ℕ) → DocumentsLaw bytes

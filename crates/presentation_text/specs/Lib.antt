@@ -4,12 +4,12 @@ pub mod TreeText
 pub mod Elements
 pub mod SumText
 pub mod Readings
-pub mod TreeForms
-pub mod ElementForms
+pub mod TreeReadings
+pub mod ElementReadings
 pub mod Accepted
-pub mod LineForms
-pub mod DraftForms
-pub mod DocumentForms
+pub mod LineReadings
+pub mod DraftReadings
+pub mod DocumentReadings
 pub mod Presentations
 pub mod Grammar
 pub mod DocumentText

@@ -7,10 +7,10 @@ use Rattle.prime_field.specs.Primes.{IsFieldPrime}
 use Rattle.symmetric_trees.specs.Generators.{IsTable}
 use Rattle.symmetric_trees.specs.declared.generators.Generator.{Generator}
 use Rattle.presentation_text.specs.Accepted.{AreDemanded}
-use Rattle.presentation_text.specs.DocumentForms.{Whole, read_text}
-use Rattle.presentation_text.specs.ElementForms.{arity_of_first}
-use Rattle.presentation_text.specs.Elements.{Written, said}
-use Rattle.presentation_text.specs.LineForms.{Asked, Told, prime_of, query, same}
+use Rattle.presentation_text.specs.DocumentReadings.{Whole, read_text}
+use Rattle.presentation_text.specs.ElementReadings.{arity_of_first}
+use Rattle.presentation_text.specs.Elements.{Written, written_sum}
+use Rattle.presentation_text.specs.LineReadings.{Asked, Contents, prime_of, query, same}
 use Rattle.presentation_text.specs.Tokens.{IsWord}
 use Rattle.presentation_text.specs.declared.document.OrderName.TheVariants.{WeightPath}
 
@@ -36,23 +36,23 @@ pub record AreWeights (version : ℕ) (generators : List Generator) (weights : L
 -- ---- relations and questions
 
 -- Written terms say the sum modulo p, and their trees may be read and have one arity.
-pub record IsSaid (p : ℕ) (generators : List Generator) (least : ℕ) (arity : Option ℕ) (sum : List (ℕ × Tree ℕ)) : Type 0 where
+pub record IsWrittenAs (p : ℕ) (generators : List Generator) (least : ℕ) (arity : Option ℕ) (sum : List (ℕ × Tree ℕ)) : Type 0 where
   pub terms : List Written
-  pub sum_is : sum ≡ said p terms
+  pub sum_is : sum ≡ written_sum p terms
   pub demanded : AreDemanded generators least arity terms
 
 -- at most 1,000 relations, whose trees have at least two leaves
 pub record AreRelations (p : ℕ) (generators : List Generator) (relations : List (List (ℕ × Tree ℕ))) : Type 0 where
   pub few : length relations ≤ 1000
-  pub said_so : All (IsSaid p generators 2 None) relations
+  pub written_so : All (IsWrittenAs p generators 2 None) relations
 
 -- The two sides of a question: the trees of the second have the arity that those of the first have.
 pub record AreSides (p : ℕ) (generators : List Generator) (left right : List (ℕ × Tree ℕ)) : Type 0 where
-  pub first : IsSaid p generators 1 None left
-  pub second : IsSaid p generators 1 (arity_of_first first.terms) right
+  pub first : IsWrittenAs p generators 1 None left
+  pub second : IsWrittenAs p generators 1 (arity_of_first first.terms) right
 
 abbrev pub IsAsked : ℕ → List Generator → Asked → Type 0
-IsAsked p generators (query sum) = IsSaid p generators 1 None sum
+IsAsked p generators (query sum) = IsWrittenAs p generators 1 None sum
 IsAsked p generators (same left right) = AreSides p generators left right
 
 -- the questions, with rising numbers of lines
@@ -63,31 +63,31 @@ pub record AreAsks (p : ℕ) (generators : List Generator) (asks : List (ℕ × 
 -- ---- the whole
 
 -- What stands in a section stands in no earlier one.
-pub record AreInOrder (told : Told) : Type 0 where
-  pub last : told.section ≤ 6
-  pub no_field : told.section < 2 → told.field ≡ None
-  pub no_order : told.section < 3 → told.order ≡ None
-  pub no_generators : told.section < 4 → told.generators ≡ []
-  pub no_relations : told.section < 5 → told.relations ≡ []
-  pub no_asks : told.section < 6 → told.asks ≡ []
+pub record SectionsAreInOrder (contents : Contents) : Type 0 where
+  pub last : contents.section ≤ 6
+  pub no_field : contents.section < 2 → contents.field ≡ None
+  pub no_order : contents.section < 3 → contents.order ≡ None
+  pub no_generators : contents.section < 4 → contents.generators ≡ []
+  pub no_relations : contents.section < 5 → contents.relations ≡ []
+  pub no_asks : contents.section < 6 → contents.asks ≡ []
 
 -- A presentation that may be read: the version is 1 or 2, and the field, the order and all that follows are as they must be.
-pub record IsWellFormed (told : Told) : Type 0 where
-  pub version_is : (told.version ≡ 1) ⊎ (told.version ≡ 2)
-  pub field_is : (p : ℕ) → told.field ≡ Some p → IsFieldPrime p
-  pub order_is : told.order ≡ Some WeightPath → told.version ≡ 2
-  pub generators : AreGenerators told.version told.generators
-  pub weights : AreWeights told.version told.generators told.weights
-  pub relations : AreRelations (prime_of told.field) told.generators told.relations
-  pub asks : AreAsks (prime_of told.field) told.generators told.asks
-  pub sections : AreInOrder told
+pub record AreWellFormed (contents : Contents) : Type 0 where
+  pub version_is : (contents.version ≡ 1) ⊎ (contents.version ≡ 2)
+  pub field_is : (p : ℕ) → contents.field ≡ Some p → IsFieldPrime p
+  pub order_is : contents.order ≡ Some WeightPath → contents.version ≡ 2
+  pub generators : AreGenerators contents.version contents.generators
+  pub weights : AreWeights contents.version contents.generators contents.weights
+  pub relations : AreRelations (prime_of contents.field) contents.generators contents.relations
+  pub asks : AreAsks (prime_of contents.field) contents.generators contents.asks
+  pub sections : SectionsAreInOrder contents
 
 -- The same for a whole presentation, in which a field and an order stand.
-pub record IsWholeWellFormed (told : Told) : Type 0 where
-  pub well : IsWellFormed told
-  pub field : IsTrue (is_some told.field)
-  pub order : IsTrue (is_some told.order)
+pub record IsWholeWellFormed (contents : Contents) : Type 0 where
+  pub well : AreWellFormed contents
+  pub field : IsTrue (is_some contents.field)
+  pub order : IsTrue (is_some contents.order)
 
 -- What a text that is accepted says may be read.
-abbrev pub DocumentsAreWellFormed : Type 0
-DocumentsAreWellFormed = (bytes : List ℕ) (whole : Whole) → read_text bytes ≡ Ok whole → IsWholeWellFormed whole.told
+abbrev pub AcceptedTextsAreWellFormed : Type 0
+AcceptedTextsAreWellFormed = (bytes : List ℕ) (whole : Whole) → read_text bytes ≡ Ok whole → IsWholeWellFormed whole.contents

@@ -2,7 +2,7 @@ ghost use Rattle.std.specs.Prelude.{◌≡◌, ◌≤◌, ◌++◌, IfOk, OnOk, 
 ghost use Rattle.std.specs.List.{All, flat_map};
 ghost use Rattle.symmetric_sums.specs.Terms.{FitsOver, terms_of};
 ghost use Rattle.presentation_text.specs.DocumentText as text;
-ghost use Rattle.presentation_text.specs.DraftForms.{AskFits};
+ghost use Rattle.presentation_text.specs.DraftReadings.{AskFits};
 ghost use Rattle.presentation_text.specs.ReadBack.{PrintedDocumentsAreReadBack, ReadDocumentsAreWritable};
 
 use crate::document::{Ask, AskKind, Document, OrderName};

@@ -23,13 +23,13 @@ pub struct Draft {
 
 impl Draft {
     ghost use Rattle.std.specs.Prelude.{◌≡◌};
-    ghost use Rattle.presentation_text.specs.DraftForms.{IsSound, told_of};
-    ghost use Rattle.presentation_text.specs.LineForms.{told_by_header};
+    ghost use Rattle.presentation_text.specs.DraftReadings.{IsSoundDraft, contents_of};
+    ghost use Rattle.presentation_text.specs.LineReadings.{contents_by_header};
 
     // What a header of this version says.
     pub fn new(alloc: Global, version: u8) -> Draft
-        ensures told { told_of result ≡ told_by_header version }
-        ensures sound { IsSound result }
+        ensures contents { contents_of result ≡ contents_by_header version }
+        ensures sound { IsSoundDraft result }
     {
         Draft {
             version,

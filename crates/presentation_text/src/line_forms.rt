@@ -1,7 +1,7 @@
 ghost use Rattle.std.specs.Prelude.{◌≡◌, ◌≤◌, ◌<◌, ◌+◌, ℕ, IfOk, IsTrue, Some, drop, length, MatchResult, Ok, Err, None};
 ghost use Rattle.std.specs.Option.{is_some};
-ghost use Rattle.presentation_text.specs.DraftForms.{AskFits, GivesAsk, GivesDraft, IsSound, asked_kind, told_of};
-ghost use Rattle.presentation_text.specs.LineForms as spec;
+ghost use Rattle.presentation_text.specs.DraftReadings.{AskFits, GivesAsk, GivesDraft, IsSoundDraft, asked_kind, contents_of};
+ghost use Rattle.presentation_text.specs.LineReadings as spec;
 ghost use Rattle.presentation_text.specs.Readings.{StopsAs};
 ghost use Rattle.symmetric_trees.specs.Generators.{IsTable};
 ghost use Rattle.presentation_text.specs.declared.kinds.PartFail.TheVariants.{NoMemory};
@@ -30,9 +30,9 @@ const GREATEST_WEIGHT: u64 = 1_000_000;
 // The rest of a line `field P`.
 pub(crate) fn field_line(draft: Draft, tokens: &[Token<'_>]) -> Result<Draft, PartFail>
     requires word { 1 ≤ length tokens.now }
-    requires sound { IsSound draft }
+    requires sound { IsSoundDraft draft }
     requires first { draft.field ≡ None }
-    ensures { GivesDraft tokens.now (spec.field_line (told_of draft) (drop 1 tokens.now)) result }
+    ensures { GivesDraft tokens.now (spec.field_line (contents_of draft) (drop 1 tokens.now)) result }
 {
     let number = number_at(tokens, 1)?;
     let Some(field) = Field::of(number) else {
@@ -60,8 +60,8 @@ fn order_named(version: u8, name: &str) -> Option<OrderName>
 // The rest of a line `order NAME`.
 pub(crate) fn order_line(draft: Draft, tokens: &[Token<'_>]) -> Result<Draft, PartFail>
     requires word { 1 ≤ length tokens.now }
-    requires sound { IsSound draft }
-    ensures { GivesDraft tokens.now (spec.order_line (told_of draft) (drop 1 tokens.now)) result }
+    requires sound { IsSoundDraft draft }
+    ensures { GivesDraft tokens.now (spec.order_line (contents_of draft) (drop 1 tokens.now)) result }
 {
     let name = word_at(tokens, 1)?;
     let Some(order) = order_named(draft.version, name) else {
@@ -264,8 +264,8 @@ fn out_of_memory(fail: GenFail) -> PartFail
 // The rest of a line `gen NAME ARITY SYMMETRY`, or in version 2 `gen NAME ARITY PART` with any number of further parts.
 pub(crate) fn gen_line(alloc: Global, draft: Draft, tokens: &[Token<'_>]) -> Result<Draft, PartFail>
     requires word { 1 ≤ length tokens.now }
-    requires sound { IsSound draft }
-    ensures { GivesDraft tokens.now (spec.gen_line (told_of draft) (drop 1 tokens.now)) result }
+    requires sound { IsSoundDraft draft }
+    ensures { GivesDraft tokens.now (spec.gen_line (contents_of draft) (drop 1 tokens.now)) result }
 {
     let generator = generator_at(alloc, draft.version, &draft.gens, tokens)?;
     let mut draft = draft;
@@ -281,8 +281,8 @@ pub(crate) fn gen_line(alloc: Global, draft: Draft, tokens: &[Token<'_>]) -> Res
 // The rest of a line `weight NAME W`.
 pub(crate) fn weight_line(draft: Draft, tokens: &[Token<'_>]) -> Result<Draft, PartFail>
     requires word { 1 ≤ length tokens.now }
-    requires sound { IsSound draft }
-    ensures { GivesDraft tokens.now (spec.weight_line (told_of draft) (drop 1 tokens.now)) result }
+    requires sound { IsSoundDraft draft }
+    ensures { GivesDraft tokens.now (spec.weight_line (contents_of draft) (drop 1 tokens.now)) result }
 {
     let name = word_at(tokens, 1)?;
     let Some(generator) = draft.gens.find(name) else {
@@ -308,9 +308,9 @@ pub(crate) fn weight_line(draft: Draft, tokens: &[Token<'_>]) -> Result<Draft, P
 // The rest of a line `rel ELEMENT`.
 pub(crate) fn rel_line(alloc: Global, draft: Draft, tokens: &[Token<'_>]) -> Result<Draft, PartFail>
     requires word { 1 ≤ length tokens.now }
-    requires sound { IsSound draft }
+    requires sound { IsSoundDraft draft }
     requires field { IsTrue (is_some draft.field) }
-    ensures { GivesDraft tokens.now (spec.rel_line (told_of draft) (drop 1 tokens.now)) result }
+    ensures { GivesDraft tokens.now (spec.rel_line (contents_of draft) (drop 1 tokens.now)) result }
 {
     if draft.rels.len() >= MOST_RELATIONS {
         return fail(0, DocKind::TooManyRelations);
@@ -360,10 +360,10 @@ fn same_at(
 
 // A question joins the others.
 fn with_ask(draft: Draft, number: u32, kind: AskKind) -> Result<Draft, PartFail>
-    requires sound { IsSound draft }
+    requires sound { IsSoundDraft draft }
     requires field { IsTrue (is_some draft.field) }
     requires fits { AskFits (spec.prime_of draft.field) draft.gens kind }
-    ensures { MatchResult result (λ new. (told_of new ≡ spec.with_ask (told_of draft) number (asked_kind kind)) × IsSound new)
+    ensures { MatchResult result (λ new. (contents_of new ≡ spec.with_ask (contents_of draft) number (asked_kind kind)) × IsSoundDraft new)
         (λ fail. fail ≡ NoMemory) }
 {
     let mut draft = draft;
@@ -380,9 +380,9 @@ pub(crate) fn query_line(
     tokens: &[Token<'_>],
 ) -> Result<Draft, PartFail>
     requires word { 1 ≤ length tokens.now }
-    requires sound { IsSound draft }
+    requires sound { IsSoundDraft draft }
     requires field { IsTrue (is_some draft.field) }
-    ensures { GivesDraft tokens.now (spec.query_line (told_of draft) number (drop 1 tokens.now)) result }
+    ensures { GivesDraft tokens.now (spec.query_line (contents_of draft) number (drop 1 tokens.now)) result }
 {
     let Some(field) = draft.field else {
         unreachable!();
@@ -399,9 +399,9 @@ pub(crate) fn same_line(
     tokens: &[Token<'_>],
 ) -> Result<Draft, PartFail>
     requires word { 1 ≤ length tokens.now }
-    requires sound { IsSound draft }
+    requires sound { IsSoundDraft draft }
     requires field { IsTrue (is_some draft.field) }
-    ensures { GivesDraft tokens.now (spec.same_line (told_of draft) number (drop 1 tokens.now)) result }
+    ensures { GivesDraft tokens.now (spec.same_line (contents_of draft) number (drop 1 tokens.now)) result }
 {
     let Some(field) = draft.field else {
         unreachable!();

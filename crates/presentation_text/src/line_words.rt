@@ -1,6 +1,6 @@
 ghost use Rattle.std.specs.Prelude.{◌≡◌};
-ghost use Rattle.presentation_text.specs.DraftForms.{told_of};
-ghost use Rattle.presentation_text.specs.LineForms as spec;
+ghost use Rattle.presentation_text.specs.DraftReadings.{contents_of};
+ghost use Rattle.presentation_text.specs.LineReadings as spec;
 
 use crate::draft::Draft;
 use crate::kinds::DocKind;
@@ -53,7 +53,7 @@ pub fn is_unknown(version: u8, word: &str) -> bool
 }
 
 fn is_missing(draft: &Draft, word: &str) -> bool
-    ensures { result ≡ spec.is_missing (told_of draft.now) word.now }
+    ensures { result ≡ spec.is_missing (contents_of draft.now) word.now }
 {
     if draft.field.is_none() {
         return word != "field";
@@ -62,7 +62,7 @@ fn is_missing(draft: &Draft, word: &str) -> bool
 }
 
 fn is_out_of_order(draft: &Draft, word: &str) -> bool
-    ensures { result ≡ spec.is_out_of_order (told_of draft.now) word.now }
+    ensures { result ≡ spec.is_out_of_order (contents_of draft.now) word.now }
 {
     let section = section_of(draft.version, word);
     if section > 0 && section < draft.section {
@@ -74,7 +74,7 @@ fn is_out_of_order(draft: &Draft, word: &str) -> bool
 // What stands against the word of a line.
 #[tactic(auto, unfolding(crate::specs::LineForms::word_fault))]
 pub(crate) fn word_fault(draft: &Draft, word: &str) -> Option<DocKind>
-    ensures { result ≡ spec.word_fault (told_of draft.now) word.now }
+    ensures { result ≡ spec.word_fault (contents_of draft.now) word.now }
 {
     if is_unknown(draft.version, word) {
         return Some(DocKind::Directive);

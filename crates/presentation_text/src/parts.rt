@@ -1,5 +1,5 @@
 ghost use Rattle.std.specs.Prelude.{◌≡◌, ◌≤◌, ◌<◌, ◌+◌, ◌∷◌, [], ℕ, List, MatchOption, MatchResult, drop, length, Ok, Err};
-ghost use Rattle.presentation_text.specs.TreeForms.{begins_with};
+ghost use Rattle.presentation_text.specs.TreeReadings.{begins_with};
 ghost use Rattle.presentation_text.specs.Readings as spec;
 ghost use Rattle.presentation_text.specs.declared.lexing.Token.{Token};
 

@@ -4,16 +4,16 @@ ghost use Rattle.std.specs.Option.{is_some};
 ghost use Rattle.symmetric_trees.specs.Generators.{IsTable};
 ghost use Rattle.symmetric_sums.specs.Terms.{FitsOver};
 ghost use Rattle.presentation_text.specs.DocumentDrafts.{HasBoth, IsBehind, IsPresentationRead, IsRestFrom, StopsAtLine, tail_of};
-ghost use Rattle.presentation_text.specs.DocumentForms as spec;
-ghost use Rattle.presentation_text.specs.DraftForms.{AskFits, GivesDraft, IsSound, told_of};
+ghost use Rattle.presentation_text.specs.DocumentReadings as spec;
+ghost use Rattle.presentation_text.specs.DraftReadings.{AskFits, GivesDraft, IsSoundDraft, contents_of};
 ghost use Rattle.presentation_text.specs.Grammar.{DocumentsAreAccepted};
 ghost use Rattle.presentation_text.specs.Laws.{DocumentsAreDetermined};
-ghost use Rattle.presentation_text.specs.LineForms.{rest_of_line, told_by_header, word_fault};
+ghost use Rattle.presentation_text.specs.LineReadings.{rest_of_line, contents_by_header, word_fault};
 ghost use Rattle.presentation_text.specs.Lines.{lines as lines_of};
-ghost use Rattle.presentation_text.specs.Presentations.{IsReadAs, IsRefused, Says, weight_or_none};
+ghost use Rattle.presentation_text.specs.Presentations.{IsReadAs, IsTextRefused, HasContents, weight_or_none};
 ghost use Rattle.presentation_text.specs.ReadBack.{IsWritable};
 ghost use Rattle.presentation_text.specs.Tokens.{tokens as tokens_of};
-ghost use Rattle.presentation_text.specs.WellFormed.{DocumentsAreWellFormed};
+ghost use Rattle.presentation_text.specs.WellFormed.{AcceptedTextsAreWellFormed};
 
 use crate::document::{Document, Tail};
 use crate::draft::Draft;
@@ -85,9 +85,9 @@ fn rest_of_line(
     tokens: &[Token<'_>],
 ) -> Result<Draft, PartFail>
     requires word { 1 ≤ length tokens.now }
-    requires sound { IsSound draft }
-    requires free { word_fault (told_of draft) word.now ≡ None }
-    ensures { GivesDraft tokens.now (rest_of_line (told_of draft) number word.now (drop 1 tokens.now)) result }
+    requires sound { IsSoundDraft draft }
+    requires free { word_fault (contents_of draft) word.now ≡ None }
+    ensures { GivesDraft tokens.now (rest_of_line (contents_of draft) number word.now (drop 1 tokens.now)) result }
 {
     match word {
         "field" => field_line(draft, tokens),
@@ -107,9 +107,9 @@ fn counted_line(
     number: u32,
     line: &[u8],
 ) -> Result<Behind, ReadDocFail>
-    requires sound { IsSound draft }
-    ensures { MatchResult result (IsBehind draft (spec.counted_line (told_of draft) number (tokens_of line.now)))
-        (StopsAtLine (spec.counted_line (told_of draft) number (tokens_of line.now))) }
+    requires sound { IsSoundDraft draft }
+    ensures { MatchResult result (IsBehind draft (spec.counted_line (contents_of draft) number (tokens_of line.now)))
+        (StopsAtLine (spec.counted_line (contents_of draft) number (tokens_of line.now))) }
 {
     let found = match tokens(alloc, line) {
         Ok(found) => found,
@@ -212,8 +212,8 @@ fn read_presentation(
 fn document_of(alloc: Global, bytes: usize, read: ReadPresentation) -> Result<Document, AllocError>
     requires both { HasBoth read.draft }
     requires left { read.left ≤ bytes }
-    requires sound { IsSound read.draft }
-    ensures says { IfOk result (Says (told_of read.draft)) }
+    requires sound { IsSoundDraft read.draft }
+    ensures says { IfOk result (HasContents (contents_of read.draft)) }
     ensures tail { IfOk result (λ document. document.tail ≡ tail_of bytes read.left read.number) }
     ensures fit { IfOk result (λ document. All (FitsOver document.field document.gens) document.rels) }
     ensures asks { IfOk result (λ document. All (λ ask. AskFits document.field document.gens ask.kind) document.asks) }
@@ -297,7 +297,7 @@ fn all_weights(alloc: Global, weights: &Items<Option<u32>>) -> Result<Items<u32>
 /// `NoMemory` comes for want of memory alone.
 pub fn read_document(alloc: Global, bytes: &[u8]) -> Result<Document, ReadDocFail>
     requires short { length bytes.now ≤ 16777216 }
-    ensures document { MatchResult result (IsReadAs bytes.now) (IsRefused bytes.now) }
+    ensures document { MatchResult result (IsReadAs bytes.now) (IsTextRefused bytes.now) }
     ensures fit { IfOk result (λ document. All (FitsOver document.field document.gens) document.rels) }
     ensures asks { IfOk result (λ document. All (λ ask. AskFits document.field document.gens ask.kind) document.asks) }
     ensures formed { IfOk result IsWritable }
@@ -320,7 +320,7 @@ pub fn texts_are_read_or_refused()
 /// relations; relations and questions are what written terms say whose trees may be read; the questions' lines rise; and a field
 /// and an order stand.
 pub fn accepted_texts_are_well_formed()
-    ensures law { DocumentsAreWellFormed }
+    ensures law { AcceptedTextsAreWellFormed }
 {}
 
 /// Law: reading accepts exactly the texts whose lines that count are those of a document, and gives what these say.

@@ -4,10 +4,10 @@ ghost use Rattle.symmetric_trees.specs.Trees.{IsLabelled};
 ghost use Rattle.symmetric_sums.specs.Terms.{FitsOver, terms_of};
 ghost use Rattle.presentation_text.specs.Accepted.{ElementsAreAccepted, ElementsAreRefusedRightly, RefusedElementsBegin};
 ghost use Rattle.presentation_text.specs.Elements as elements;
-ghost use Rattle.presentation_text.specs.ElementForms as spec;
+ghost use Rattle.presentation_text.specs.ElementReadings as spec;
 ghost use Rattle.presentation_text.specs.Laws.{ElementsAreReadOnce};
 ghost use Rattle.presentation_text.specs.PrintedElements.{PrintedElementsAreRead};
-ghost use Rattle.presentation_text.specs.TreeForms.{begins_with, demands_of};
+ghost use Rattle.presentation_text.specs.TreeReadings.{begins_with, demands_of};
 
 use crate::kinds::PartFail;
 use crate::lexing::Token;
@@ -139,7 +139,7 @@ fn add(
 ) -> Result<(), AllocError>
     requires labelled { IsLabelled table.now term.tree.leaves (tree_of term.tree.tree) }
     requires over { spec.IsSumOver field table.now term.tree.leaves sum.old }
-    ensures says { OnOk result (terms_of sum.new ≡ terms_of sum.old ++ elements.said field (spec.written term ∷ [])) }
+    ensures says { OnOk result (terms_of sum.new ≡ terms_of sum.old ++ elements.written_sum field (spec.written term ∷ [])) }
     ensures over { OnOk result (spec.IsSumOver field table.now term.tree.leaves sum.new) }
 {
     let coef = residue(field, &term);

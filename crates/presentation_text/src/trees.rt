@@ -6,7 +6,7 @@ ghost use Rattle.symmetric_trees.specs.declared.generators.Generator.{Generator}
 ghost use Rattle.presentation_text.specs.Accepted.{RefusedTreesBegin, TreesAreAccepted, TreesAreRefusedRightly};
 ghost use Rattle.presentation_text.specs.Laws.{TreesAreReadOnce};
 ghost use Rattle.presentation_text.specs.Readings.{first_row, GivesBehind};
-ghost use Rattle.presentation_text.specs.TreeForms as spec;
+ghost use Rattle.presentation_text.specs.TreeReadings as spec;
 ghost use Rattle.presentation_text.specs.declared.lexing.Token.{Token};
 
 use crate::kinds::{DocKind, PartFail};

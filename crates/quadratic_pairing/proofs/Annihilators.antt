@@ -4,7 +4,7 @@ use Rattle.std.specs.List.{sum_by}
 use Rattle.std.proofs.Math.Nat.{mod-mod, zero-mod}
 use mathlib.Core.Path.{ap₂}
 use mathlib.Core.List.{◌++◌}
-use Rattle.modular_sums.specs.Residues.{Alike}
+use Rattle.modular_sums.specs.Residues.{IsCongruent}
 use Rattle.modular_sums.specs.Sums.{coef, scale, Same, AllTerms}
 use Rattle.modular_sums.proofs.Residues.{alike_add, alike_mul, alike_of_gone}
 use Rattle.modular_sums.proofs.Sums.{AllTerms-append, AllTerms-scale}
@@ -18,7 +18,7 @@ use Rattle.operad_ideals.specs.Ideals.{InIdeal}
 use Rattle.shuffle_transfer.specs.Orderings.{IsOrdering}
 use Rattle.shuffle_transfer.specs.Transfer.{relabelled, shuffled}
 use Rattle.shuffle_transfer.proofs.TransferLaw.{labelled-relabelled, kernel}
-use Rattle.quadratic_pairing.specs.Duals.{dual, IsBinary, IsElement}
+use Rattle.quadratic_pairing.specs.Duals.{dual, IsBinary, IsTernaryElement}
 use Rattle.quadratic_pairing.specs.Pairings.{pairing, Annihilates}
 use Rattle.quadratic_pairing.specs.Laws.{AnnihilatorLaw, AnnihilatorsAreIdeals}
 use Rattle.quadratic_pairing.proofs.LinearSums.{sum_by_same, sum_by-add, sum_by-mul, sum_by-none}
@@ -31,7 +31,7 @@ use Rattle.quadratic_pairing.proofs.RelabelledBack.{relabelled_back}
 
 -- elements whose difference is a sum of instances of symmetry rules have shuffle forms with alike coefficients
 pub forms_alike : (c : Presentation) (n : ℕ) (d e : List (ℕ × Tree ℕ)) → AllTerms d (IsLabelled (arity_of c) n) → AllTerms e (IsLabelled (arity_of c) n)
-    → InIdeal (without_relations c) n (d ++ scale c.q e) → (x : Tree ℕ) → Alike c.q (coef tree_discrete (shuffled c d) x) (coef tree_discrete (shuffled c e) x)
+    → InIdeal (without_relations c) n (d ++ scale c.q e) → (x : Tree ℕ) → IsCongruent c.q (coef tree_discrete (shuffled c d) x) (coef tree_discrete (shuffled c e) x)
 forms_alike c n d e h k i x =
     let s = (kernel c n (d ++ scale c.q e) (AllTerms-append d (scale c.q e) (IsLabelled (arity_of c) n) h (AllTerms-scale c.q e (IsLabelled (arity_of c) n) k))).0 i x in
     alike_of_gone c.q (coef tree_discrete (shuffled c d) x) (coef tree_discrete (shuffled c e) x)
@@ -40,14 +40,14 @@ forms_alike c n d e h k i x =
 
 module _ (p : Presentation) where
   -- a pairing is a residue
-  pub pairing_zero : (e f : List (ℕ × Tree ℕ)) → Alike p.q (pairing p e f) 0 → pairing p e f ≡ 0
+  pub pairing_zero : (e f : List (ℕ × Tree ℕ)) → IsCongruent p.q (pairing p e f) 0 → pairing p e f ≡ 0
   pairing_zero e f h = sym (mod-mod (sum_by (λ x. weight p x * (given p e x * opposite p f x)) (listing p)) (suc p.q)) ∙ h ∙ zero-mod (suc p.q)
 
   pub pairing_none : (e : List (ℕ × Tree ℕ)) → pairing p e [] ≡ 0
   pairing_none e = pairing_zero e [] (alike_rest p.q (sum_by (λ x. weight p x * (given p e x * opposite p [] x)) (listing p))
       ∙ ap (λ n. n % suc p.q) (sum_by-none (listing p) (λ x. weight p x * (given p e x * opposite p [] x)) (λ x m. ap (λ n. weight p x * (given p e x * n)) (coef_nothing tree_discrete x) ∙ omega arith)))
 
-  pub pairing_added : (e f g : List (ℕ × Tree ℕ)) → Alike p.q (pairing p e (f ++ g)) (pairing p e f + pairing p e g)
+  pub pairing_added : (e f g : List (ℕ × Tree ℕ)) → IsCongruent p.q (pairing p e (f ++ g)) (pairing p e f + pairing p e g)
   pairing_added e f g =
       let term = λ (k : List (ℕ × Tree ℕ)) (x : Tree ℕ). weight p x * (given p e x * opposite p k x) in
       alike_rest p.q (sum_by (term (f ++ g)) (listing p))
@@ -56,7 +56,7 @@ module _ (p : Presentation) where
       ∙ sum_by-add (listing p) (term f) (term g))
       ∙ sym (alike_add p.q (pairing p e f) (sum_by (term f) (listing p)) (pairing p e g) (sum_by (term g) (listing p)) (alike_rest p.q (sum_by (term f) (listing p))) (alike_rest p.q (sum_by (term g) (listing p))))
 
-  pub pairing_scaled : (e : List (ℕ × Tree ℕ)) (c : ℕ) (f : List (ℕ × Tree ℕ)) → Alike p.q (pairing p e (scale c f)) (c * pairing p e f)
+  pub pairing_scaled : (e : List (ℕ × Tree ℕ)) (c : ℕ) (f : List (ℕ × Tree ℕ)) → IsCongruent p.q (pairing p e (scale c f)) (c * pairing p e f)
   pairing_scaled e c f =
       let term = λ (k : List (ℕ × Tree ℕ)) (x : Tree ℕ). weight p x * (given p e x * opposite p k x) in
       alike_rest p.q (sum_by (term (scale c f)) (listing p))
@@ -69,16 +69,16 @@ module _ (p : Presentation) where
   pairing_same e f g s = pairing_alike p e e f g (λ x. refl) (Same-shuffled (dual p []) f g s)
 
   module _ (b : IsBinary p) (sound : IsSound p) where
-    annihilator_relabelled : (w : List ℕ) → IsOrdering 3 w → (f : List (ℕ × Tree ℕ)) → IsElement (dual p []) f → Annihilates p f → Annihilates p (relabelled w f)
+    annihilator_relabelled : (w : List ℕ) → IsOrdering 3 w → (f : List (ℕ × Tree ℕ)) → IsTernaryElement (dual p []) f → Annihilates p f → Annihilates p (relabelled w f)
     annihilator_relabelled w o f k h e l i =
         let inv : Inverse w = inverse w (among_orderings w o) in
         let c : ℕ = residue_of p.q (order_sign w) in
         let ov : IsOrdering 3 inv.by = is_ordering inv.by inv.among in
         let back : List (ℕ × Tree ℕ) = relabelled inv.by e in
-        let lb : IsElement p back = labelled-relabelled (arity_of p) 3 inv.by ov e l in
+        let lb : IsTernaryElement p back = labelled-relabelled (arity_of p) 3 inv.by ov e l in
         let zero : pairing p back f ≡ 0 = h back lb (ideal_is_relabelled p 3 inv.by ov e i) in
         let none : c * 0 ≡ 0 = omega arith in
-        pairing_zero e (relabelled w f) (subst (λ x. Alike p.q (pairing p x (relabelled w f)) 0) (relabelled_back (arity_of p) w inv.by inv.redoes e l)
+        pairing_zero e (relabelled w f) (subst (λ x. IsCongruent p.q (pairing p x (relabelled w f)) 0) (relabelled_back (arity_of p) w inv.by inv.redoes e l)
         (pairing_relabelled_law p b w o back f lb k ∙ ap (λ n. n % suc p.q) (ap (λ n. c * n) zero ∙ none)))
 
     annihilator_law : AnnihilatorLaw p

@@ -1,6 +1,6 @@
 ghost use Rattle.std.specs.Prelude.{IsTrue};
-ghost use Rattle.certificate_check.specs.Blocks.{AreReady};
-ghost use Rattle.certificate_text.specs.Tails.{IsReadyStep};
+ghost use Rattle.certificate_check.specs.Blocks.{AreCheckable};
+ghost use Rattle.certificate_text.specs.Tails.{IsCheckableStep};
 
 use crate::checks::all_fit;
 use crate::elements::{copy, instance_of};
@@ -14,7 +14,7 @@ use std::alloc::Global;
 
 // Whether the element of a step fits, and the coefficients of its uses are residues.
 fn is_ready(document: &Document, step: &Step) -> bool
-    ensures { IsTrue result → IsReadyStep document.now.field document.now.gens step.now }
+    ensures { IsTrue result → IsCheckableStep document.now.field document.now.gens step.now }
 {
     for item in step.uses.as_slice() {
         if item.coef >= document.field.prime() {
@@ -25,7 +25,7 @@ fn is_ready(document: &Document, step: &Step) -> bool
 }
 
 fn are_ready(document: &Document, steps: &[Step]) -> bool
-    ensures { IsTrue result → AreReady document.now.field document.now.gens steps.now }
+    ensures { IsTrue result → AreCheckable document.now.field document.now.gens steps.now }
 {
     for step in steps {
         if !is_ready(document, step) {

@@ -1,7 +1,7 @@
 ghost use Rattle.std.specs.Prelude.{map};
 ghost use Rattle.std.specs.List.{All};
 ghost use Rattle.certificate_text.specs.Plain.{plain_block};
-ghost use Rattle.certificate_text.specs.Writable.{IsWritable};
+ghost use Rattle.certificate_text.specs.Writable.{IsWritableBlock};
 
 use crate::fail::RowFail;
 use crate::lines::{end_line, end_number};
@@ -58,7 +58,7 @@ fn write_blocks(
     blocks: &Items<Block>,
     out: &mut Vec<u8>,
 ) -> Result<(), RowFail>
-    requires writable { All (IsWritable document.now.field document.now.gens) (map plain_block blocks.now) }
+    requires writable { All (IsWritableBlock document.now.field document.now.gens) (map plain_block blocks.now) }
 {
     for block in blocks.as_slice() {
         out.extend_from_slice(print_block(alloc, document, block)?.as_slice())?;

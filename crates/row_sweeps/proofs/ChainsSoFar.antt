@@ -6,15 +6,15 @@ use Rattle.std.proofs.Math.ListN.{set}
 use Rattle.std.proofs.Math.Nat.{zero-mod, mod-mod, mod-lt}
 use Rattle.std.proofs.lemmas.List.{length-set, get_or-set_other}
 use Rattle.std.proofs.Common.{append_assoc, length-append}
-use Rattle.modular_sums.specs.Residues.{Alike}
+use Rattle.modular_sums.specs.Residues.{IsCongruent}
 use Rattle.modular_sums.specs.Sums.{coef, AllTerms, Same}
 use Rattle.modular_sums.proofs.Sums.{AllTerms-append}
 use Rattle.modular_sums.specs.RuleTables.{Table, IsRuled, IsUnruled}
-use Rattle.modular_sums.specs.PositionChains.{StandsIn, IsStep, IsChain}
+use Rattle.modular_sums.specs.PositionChains.{HasPosition, IsPositionStep, IsPositionChain}
 use Rattle.modular_sums.specs.PositionRows.{dense}
 use Rattle.modular_sums.proofs.PositionChains.{last_same, joined}
 use Rattle.row_sweeps.specs.Counts.{Count}
-use Rattle.row_sweeps.specs.Gathering.{IsRestFrom, IsGathered}
+use Rattle.row_sweeps.specs.Gathering.{IsSumFrom, IsGathered}
 use Rattle.row_sweeps.specs.Visits.{State, kept, IsNothing, IsLeft, IsCancelled, IsHalted, IsVisit}
 use Rattle.row_sweeps.specs.Sweeps.{HasSwept, IsSpentAt}
 use Rattle.row_sweeps.proofs.Falls.{falling_no_zeros}
@@ -32,11 +32,11 @@ kept-append false k l = refl
 -- Where a sweep is before position `at - 1`: from `at` on the row is 0, and what has no rule is in the rest.
 pub record IsSweeping (q : ℕ) (table : Table) (first : List ℕ) (keep : Bool) (log : Sum) (count at : ℕ) (s : State) : Type 0 where
   pub made : Sum
-  pub chain : IsChain q table (dense first) made (s.rest ++ dense s.row)
+  pub chain : IsPositionChain q table (dense first) made (s.rest ++ dense s.row)
   pub counted : s.steps.count ≡ count + length made
   pub logged : s.log ≡ log ++ kept keep made
   pub zeros : (t : ℕ) → at ≤ t → get_or s.row t 0 ≡ 0
-  pub rest : IsRestFrom q at (length table) s.rest
+  pub rest : IsSumFrom q at (length table) s.rest
   pub unruled : AllTerms s.rest (IsUnruled table)
   pub sized : length s.row ≡ length table
   pub inside : at ≤ length table
@@ -78,8 +78,8 @@ module _ (q : ℕ) (table : Table) (first : List ℕ) (keep : Bool) (log : Sum) 
   later : k ≤ length table
   later = let i = g.inside in omega (arith, i, next)
 
-  from : IsRestFrom q (suc k) (length table) s.rest
-  from = subst (λ n. IsRestFrom q n (length table) s.rest) next g.rest
+  from : IsSumFrom q (suc k) (length table) s.rest
+  from = subst (λ n. IsSumFrom q n (length table) s.rest) next g.rest
 
   zeros_from : (t : ℕ) → suc k ≤ t → get_or s.row t 0 ≡ 0
   zeros_from = subst (λ n. (t : ℕ) → n ≤ t → get_or s.row t 0 ≡ 0) next g.zeros
@@ -130,10 +130,10 @@ module _ (q : ℕ) (table : Table) (first : List ℕ) (keep : Bool) (log : Sum) 
 
   -- ---- a step
 
-  stands : c ≢ 0 → StandsIn q (s.rest ++ dense s.row) k
+  stands : c ≢ 0 → HasPosition q (s.rest ++ dense s.row) k
   stands n z = let e : c ≡ 0 = ap (λ m. m % suc q) (sym whole_here) ∙ z ∙ zero-mod (suc q) in n e
 
-  none_above : (t : ℕ) → StandsIn q (s.rest ++ dense s.row) t → IsRuled table t → t ≤ k
+  none_above : (t : ℕ) → HasPosition q (s.rest ++ dense s.row) t → IsRuled table t → t ≤ k
   none_above t st r = go (let o : (t ≤ k) ⊎ (suc k ≤ t) = grind arith in o)
     where
       above : suc k ≤ t → ⊥
@@ -143,7 +143,7 @@ module _ (q : ℕ) (table : Table) (first : List ℕ) (keep : Bool) (log : Sum) 
       go (inl le) = le
       go (inr le) = absurd (above le)
 
-  the_step : IsCancelled q table k keep s now → IsStep q table (s.rest ++ dense s.row) c k
+  the_step : IsCancelled q table k keep s now → IsPositionStep q table (s.rest ++ dense s.row) c k
   the_step v = record {
     there = stands v.nonzero;
     ruled = (v.tail, v.rule);
@@ -151,7 +151,7 @@ module _ (q : ℕ) (table : Table) (first : List ℕ) (keep : Bool) (log : Sum) 
     coefficient = mod-mod x (suc q) ∙ ap (λ m. m % suc q) (sym whole_here);
   }
 
-  one_chain : IsCancelled q table k keep s now → IsChain q table (s.rest ++ dense s.row) ((c, k) ∷ []) (now.rest ++ dense now.row)
+  one_chain : IsCancelled q table k keep s now → IsPositionChain q table (s.rest ++ dense s.row) ((c, k) ∷ []) (now.rest ++ dense now.row)
   one_chain v = (
     the_step v,
     rw v.rest (same_stepped q table v.tail s.rest s.row now.row k c v.rule lt (let l = residue_small in omega (arith, l)) (mod-mod x (suc q)) (tail_below q k v.tail v.lower k (omega arith)) v.row),
@@ -195,7 +195,7 @@ module _ (q : ℕ) (table : Table) (first : List ℕ) (keep : Bool) (log : Sum) 
 
   -- ---- the steps are spent
 
-  pub halted_rest : IsHalted q table k s now → IsRestFrom q (suc k) (length table) now.rest
+  pub halted_rest : IsHalted q table k s now → IsSumFrom q (suc k) (length table) now.rest
   halted_rest v = rw v.rest from
 
   pub halted_zeros : IsHalted q table k s now → (t : ℕ) → suc k ≤ t → get_or now.row t 0 ≡ 0
@@ -223,7 +223,7 @@ module _ (q : ℕ) (table : Table) (first : List ℕ) (keep : Bool) (log : Sum) 
       whole : Same ℕ_discrete q (s.rest ++ dense (set s.row k c)) (now.rest ++ dense now.row)
       whole = rw (v.rest, v.row) (λ t. refl)
 
-      residue_here : Alike q x (coef ℕ_discrete all k)
+      residue_here : IsCongruent q x (coef ℕ_discrete all k)
       residue_here = ap (λ m. m % suc q) (sym whole_here) ∙ same_residue q s.rest s.row k lt k ∙ whole k ∙ h.same k
 
 -- at the end

@@ -7,13 +7,13 @@ use Rattle.std.specs.Ordering.{nat_cmp}
 use Rattle.std.specs.Cmp.{nat_cmp_is}
 use Rattle.std.proofs.lemmas.Cmp.{ranked}
 use Rattle.std.proofs.Math.Nat.{zero-mod, mod-eq_of_lt}
-use Rattle.modular_sums.specs.Residues.{Alike}
+use Rattle.modular_sums.specs.Residues.{IsCongruent}
 use Rattle.modular_sums.specs.Sums.{coef, AllTerms}
 use Rattle.modular_sums.proofs.Sums.{hit-yes, hit-no}
 use Rattle.modular_sums.proofs.Coefficients.{coef_absent}
 use Rattle.modular_sums.proofs.Images.{AllTerms-imp}
-use Rattle.modular_sums.specs.Falling.{IsAbove, Falls, HaveResidues, IsFalling}
-use Rattle.modular_sums.specs.PositionChains.{StandsIn, HasNoZeros}
+use Rattle.modular_sums.specs.Falling.{IsAbove, Falls, AreNonzeroResidues, IsFalling}
+use Rattle.modular_sums.specs.PositionChains.{HasPosition, HasNoZeroPositions}
 
 abbrev Sum : Type 0
 Sum = List (ℕ × ℕ)
@@ -32,7 +32,7 @@ falls_more : (c at : ℕ) (l : Sum) → Falls nat_cmp l → AllTerms l (λ t. at
 falls_more c at [] h a = (tt, tt)
 falls_more c at (x ∷ l) h a = (above_more x.1 c at l h.0 a.0, falls_more c at l h.1 a.1)
 
-residues_more : (p c at : ℕ) (l : Sum) → HaveResidues p l → 0 < c → c < p → HaveResidues p (l ++ ((c, at) ∷ []))
+residues_more : (p c at : ℕ) (l : Sum) → AreNonzeroResidues p l → 0 < c → c < p → AreNonzeroResidues p (l ++ ((c, at) ∷ []))
 residues_more p c at [] h pos lt = (pos, lt, tt)
 residues_more p c at (x ∷ l) h pos lt = (h.0, h.1, residues_more p c at l h.2 pos lt)
 
@@ -53,7 +53,7 @@ both P Q (x ∷ l) h k = ((h.0, k.0), both P Q l h.1 k.1)
 
 module _ (q : ℕ) where
   -- a residue other than 0 isn't alike 0
-  pub not_zero : (c : ℕ) → 0 < c → c < suc q → Alike q c 0 → ⊥
+  pub not_zero : (c : ℕ) → 0 < c → c < suc q → IsCongruent q c 0 → ⊥
   not_zero c pos lt e =
       let k : c ≡ 0 = sym (mod-eq_of_lt lt) ∙ e ∙ zero-mod (suc q) in
       let n : c ≢ 0 = omega arith in
@@ -70,15 +70,15 @@ module _ (q : ℕ) where
   other_coef x l t h = let n : x.1 ≢ t = omega arith in rw (hit-no (ℕ_discrete x.1 t) x.0 n) (omega arith)
 
   -- no term of a falling sum is 0
-  no_zeros : (l : Sum) → HaveResidues (suc q) l → Falls nat_cmp l → HasNoZeros q l
+  no_zeros : (l : Sum) → AreNonzeroResidues (suc q) l → Falls nat_cmp l → HasNoZeroPositions q l
   no_zeros [] r f = tt
   no_zeros (x ∷ l) r f =
       let b : AllTerms l (λ t. t < x.1) = below_first x l f in (
         λ z. not_zero x.0 r.0 r.1 (rw (first_coef x l b) at z),
-        AllTerms-imp (λ t. (t < x.1) × StandsIn q l t) (StandsIn q (x ∷ l)) l
+        AllTerms-imp (λ t. (t < x.1) × HasPosition q l t) (HasPosition q (x ∷ l)) l
             (λ t h z. h.1 (rw (other_coef x l t h.0) at z))
-            (both (λ t. t < x.1) (StandsIn q l) l b (no_zeros l r.2 f.1)),
+            (both (λ t. t < x.1) (HasPosition q l) l b (no_zeros l r.2 f.1)),
       )
 
-  pub falling_no_zeros : (l : Sum) → IsFalling nat_cmp (suc q) l → HasNoZeros q l
+  pub falling_no_zeros : (l : Sum) → IsFalling nat_cmp (suc q) l → HasNoZeroPositions q l
   falling_no_zeros l f = no_zeros l f.residues f.falls

@@ -7,7 +7,7 @@ use Rattle.std.proofs.Math.Nat.{mod-lt}
 use Rattle.modular_sums.specs.Sums.{Same}
 use Rattle.modular_sums.specs.PositionRows.{dense}
 use Rattle.row_sweeps.specs.Terms.{pairs}
-use Rattle.row_sweeps.specs.Gathering.{IsRestFrom, IsGathered}
+use Rattle.row_sweeps.specs.Gathering.{IsSumFrom, IsGathered}
 use Rattle.row_sweeps.specs.declared.row.Term.{Term}
 use Rattle.row_sweeps.proofs.Rests.{Sum, rest_more, rest_same, zeros_more, same_zero, same_left, coef-whole}
 
@@ -18,11 +18,11 @@ pairs_push (y ∷ l) x = ap (λ k. (y.coef, y.position) ∷ k) (pairs_push l x)
 -- The rest with a row so far: from `at` on the row went behind the rest.
 pub record IsGathering (q : ℕ) (first : List ℕ) (rest : Sum) (at : ℕ) (row : List ℕ) (all : Sum) : Type 0 where
   pub same : Same ℕ_discrete q (rest ++ dense first) (all ++ dense row)
-  pub falls : IsRestFrom q at (length first) all
+  pub falls : IsSumFrom q at (length first) all
   pub zeros : (t : ℕ) → at ≤ t → get_or row t 0 ≡ 0
   pub inside : at ≤ length first
 
-pub gather_first : (q : ℕ) (first : List ℕ) (rest : Sum) (at : ℕ) → IsRestFrom q at (length first) rest → ((t : ℕ) → at ≤ t → get_or first t 0 ≡ 0) → at ≤ length first → IsGathering q first rest at first rest
+pub gather_first : (q : ℕ) (first : List ℕ) (rest : Sum) (at : ℕ) → IsSumFrom q at (length first) rest → ((t : ℕ) → at ≤ t → get_or first t 0 ≡ 0) → at ≤ length first → IsGathering q first rest at first rest
 gather_first q first rest at r z le = record { same = λ t. refl; falls = r; zeros = z; inside = le }
 
 module _ (q : ℕ) (first : List ℕ) (rest : Sum) (at k : ℕ) (row : List ℕ) (all : Sum) (g : IsGathering q first rest at row all) (next : at ≡ suc k) (sized : length row ≡ length first) where
@@ -32,8 +32,8 @@ module _ (q : ℕ) (first : List ℕ) (rest : Sum) (at k : ℕ) (row : List ℕ)
   zeros : (t : ℕ) → k ≤ t → get_or (set row k 0) t 0 ≡ 0
   zeros = zeros_more row k lt (subst (λ n. (t : ℕ) → n ≤ t → get_or row t 0 ≡ 0) next g.zeros)
 
-  from : IsRestFrom q (suc k) (length first) all
-  from = subst (λ n. IsRestFrom q n (length first) all) next g.falls
+  from : IsSumFrom q (suc k) (length first) all
+  from = subst (λ n. IsSumFrom q n (length first) all) next g.falls
 
   inside : k ≤ length first
   inside = let i = g.inside in omega (arith, i, next)

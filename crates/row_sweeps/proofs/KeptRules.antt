@@ -8,9 +8,9 @@ use Rattle.std.specs.Option.{option_map}
 use Rattle.std.proofs.Math.ListN.{set}
 use Rattle.std.proofs.lemmas.List.{length-set, take-append-le, drop-append-le, take_all}
 use Rattle.std.proofs.lemmas.Option.{slice_get-map}
-use Rattle.modular_sums.specs.RuleTables.{Table, HasRule, IsTail, AreTails}
+use Rattle.modular_sums.specs.RuleTables.{Table, HasRule, IsRuleTail, AreTails}
 use Rattle.row_sweeps.specs.Rules.{unruled}
-use Rattle.row_sweeps.specs.Stored.{tail_in, tails_of, LiesIn, IsKept, nothing_stored}
+use Rattle.row_sweeps.specs.Stored.{tail_in, tails_of, LiesIn, IsKeptTable, nothing_stored}
 use Rattle.row_sweeps.specs.Terms.{pairs}
 use Rattle.row_sweeps.specs.declared.row.Term.{Term}
 use Rattle.row_sweeps.specs.declared.table.Stored.{Stored}
@@ -52,7 +52,7 @@ lies_grown coefs tails cs ts r h = record {
   at = let a = h.at in omega (arith, a, length-append tails ts);
 }
 
-pub kept_grown : (p : ℕ) (rules : List (Option Stored)) (tails coefs cs ts : List ℕ) → IsKept p rules tails coefs → IsKept p rules (tails ++ ts) (coefs ++ cs)
+pub kept_grown : (p : ℕ) (rules : List (Option Stored)) (tails coefs cs ts : List ℕ) → IsKeptTable p rules tails coefs → IsKeptTable p rules (tails ++ ts) (coefs ++ cs)
 kept_grown p rules tails coefs cs ts k = record {
   positive = k.positive;
   small = k.small;
@@ -66,10 +66,10 @@ append_none [] = refl
 append_none (x ∷ l) = ap (λ k. x ∷ k) (append_none l)
 
 -- coefficients are put in
-pub kept_coefs : (p : ℕ) (rules : List (Option Stored)) (tails coefs cs : List ℕ) → IsKept p rules tails coefs → IsKept p rules tails (coefs ++ cs)
+pub kept_coefs : (p : ℕ) (rules : List (Option Stored)) (tails coefs cs : List ℕ) → IsKeptTable p rules tails coefs → IsKeptTable p rules tails (coefs ++ cs)
 kept_coefs p rules tails coefs cs k = rw append_none at (kept_grown p rules tails coefs cs [] k)
 
-pub coefs_grown : (p : ℕ) (rules : List (Option Stored)) (tails coefs cs : List ℕ) → IsKept p rules tails coefs → tails_of (coefs ++ cs) tails rules ≡ tails_of coefs tails rules
+pub coefs_grown : (p : ℕ) (rules : List (Option Stored)) (tails coefs cs : List ℕ) → IsKeptTable p rules tails coefs → tails_of (coefs ++ cs) tails rules ≡ tails_of coefs tails rules
 coefs_grown p rules tails coefs cs k = rw append_none at (tails_grown coefs tails cs [] rules k.lies)
 
 -- ---- a write
@@ -97,19 +97,19 @@ map_length f [] = refl
 map_length f (x ∷ l) = ap suc (map_length f l)
 
 -- a rule with a tail for its position may be put in
-tails_set : (q at : ℕ) (table : Table) (tail : List (ℕ × ℕ)) → at < length table → AreTails q table → IsTail q at tail → AreTails q (set table at (Some tail))
+tails_set : (q at : ℕ) (table : Table) (tail : List (ℕ × ℕ)) → at < length table → AreTails q table → IsRuleTail q at tail → AreTails q (set table at (Some tail))
 tails_set q at table tail lt h t j other e = go (ℕ_discrete j at)
   where
     some_one : {X : Type 0} (x y : X) → Some (Some x) ≡ Some (Some y) → x ≡ y
     some_one x y k = cc
 
-    go : Dec (j ≡ at) → IsTail q j other
+    go : Dec (j ≡ at) → IsRuleTail q j other
     go (yes p) =
         let k : Some (Some tail) ≡ Some (Some other) = sym (slice_get-set_same table at (Some tail) lt) ∙ subst (λ i. HasRule (set table at (Some tail)) i other) p e in
-        subst (λ i. IsTail q i other) (sym p) (subst (IsTail q at) (some_one tail other k) t)
+        subst (λ i. IsRuleTail q i other) (sym p) (subst (IsRuleTail q at) (some_one tail other k) t)
     go (no n) = h j other (sym (slice_get-set_other table at j (Some tail) n) ∙ e)
 
-module _ (p : ℕ) (rules : List (Option Stored)) (tails coefs : List ℕ) (k : IsKept p rules tails coefs) (position from : ℕ) (tail : List ℕ) (lt : position < length rules) (room : from + length tail ≤ length coefs) where
+module _ (p : ℕ) (rules : List (Option Stored)) (tails coefs : List ℕ) (k : IsKeptTable p rules tails coefs) (position from : ℕ) (tail : List ℕ) (lt : position < length rules) (room : from + length tail ≤ length coefs) where
   abbrev stored : Stored
   stored = record { at = length tails; from = from; len = length tail }
 
@@ -138,7 +138,7 @@ module _ (p : ℕ) (rules : List (Option Stored)) (tails coefs : List ℕ) (k : 
           subst (LiesIn coefs (tails ++ tail)) (one r h) (record { from = room; at = omega (arith, length-append tails tail) })
       go (no n) = rw append_none at (lies_grown coefs tails [] tail r (k.lies at r (sym (slice_get-set_other rules position at (Some stored) n) ∙ e)))
 
-  pub kept_set : IsTail (p - 1) position new_tail → IsKept p (set rules position (Some stored)) (tails ++ tail) coefs
+  pub kept_set : IsRuleTail (p - 1) position new_tail → IsKeptTable p (set rules position (Some stored)) (tails ++ tail) coefs
   kept_set t = record {
     positive = k.positive;
     small = k.small;
@@ -148,11 +148,11 @@ module _ (p : ℕ) (rules : List (Option Stored)) (tails coefs : List ℕ) (k : 
   }
 
   -- and the tail alone does no harm
-  pub kept_tail : IsKept p rules (tails ++ tail) coefs
+  pub kept_tail : IsKeptTable p rules (tails ++ tail) coefs
   kept_tail = rw append_none at (kept_grown p rules tails coefs [] tail k)
 
 -- the rule of a stored tail
-pub tail_kept : (p : ℕ) (rules : List (Option Stored)) (tails coefs : List ℕ) → IsKept p rules tails coefs → (at : ℕ) (r : Stored) → slice_get rules at ≡ Some (Some r) → IsTail (p - 1) at (tail_in coefs tails r)
+pub tail_kept : (p : ℕ) (rules : List (Option Stored)) (tails coefs : List ℕ) → IsKeptTable p rules tails coefs → (at : ℕ) (r : Stored) → slice_get rules at ≡ Some (Some r) → IsRuleTail (p - 1) at (tail_in coefs tails r)
 tail_kept p rules tails coefs k at r e = k.valid at (tail_in coefs tails r) (slice_get-map (option_map (tail_in coefs tails)) rules at ∙ ap (option_map (option_map (tail_in coefs tails))) e)
 
 -- ---- nothing
@@ -175,7 +175,7 @@ none_ruled zero at t e = cc
 none_ruled (suc n) zero t e = cc
 none_ruled (suc n) (suc at) t e = none_ruled n at t e
 
-pub kept_nothing : (p n : ℕ) → 0 < p → p ≤ 65537 → n ≤ 1073741824 → IsKept p (nothing_stored n) [] []
+pub kept_nothing : (p n : ℕ) → 0 < p → p ≤ 65537 → n ≤ 1073741824 → IsKeptTable p (nothing_stored n) [] []
 kept_nothing p n pos small few = record {
   positive = pos;
   small = small;

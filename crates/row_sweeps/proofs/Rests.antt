@@ -6,7 +6,7 @@ use Rattle.std.specs.List.{slice_get}
 use Rattle.std.proofs.Math.ListN.{set}
 use Rattle.std.proofs.Math.Nat.{zero-mod, mod-mod}
 use Rattle.std.proofs.lemmas.List.{get_or-set_same, get_or-set_other}
-use Rattle.modular_sums.specs.Residues.{Alike}
+use Rattle.modular_sums.specs.Residues.{IsCongruent}
 use Rattle.modular_sums.specs.Sums.{hit, coef, scale, AllTerms, Same}
 use Rattle.modular_sums.proofs.Residues.{alike_add, alike_drop, alike_gone, alike_cancel}
 use Rattle.modular_sums.proofs.Sums.{coef-append, coef-scale, hit-yes, hit-no, AllTerms-append}
@@ -15,7 +15,7 @@ use Rattle.modular_sums.proofs.Images.{AllTerms-imp}
 use Rattle.modular_sums.specs.RuleTables.{Table, HasRule, IsRuled, IsUnruled, tail_of, rule_at}
 use Rattle.modular_sums.specs.PositionRows.{dense}
 use Rattle.modular_sums.proofs.PositionRows.{coef-dense}
-use Rattle.row_sweeps.specs.Gathering.{IsRestFrom}
+use Rattle.row_sweeps.specs.Gathering.{IsSumFrom}
 use Rattle.row_sweeps.proofs.Falls.{falling_more}
 
 abbrev pub Sum : Type 0
@@ -43,14 +43,14 @@ pub absent_ruled : (table : Table) (rest : Sum) (t : ℕ) → AllTerms rest (IsU
 absent_ruled table rest t h r = coef_absent ℕ_discrete rest t (AllTerms-imp (IsUnruled table) (λ u. u ≡ t → ⊥) rest (λ u un e. not_both table u t un r e) h)
 
 -- a residue goes behind the rest
-pub rest_more : (q c at size : ℕ) (rest : Sum) → IsRestFrom q (suc at) size rest → 0 < c → c < suc q → at < size → IsRestFrom q at size (rest ++ ((c, at) ∷ []))
+pub rest_more : (q c at size : ℕ) (rest : Sum) → IsSumFrom q (suc at) size rest → 0 < c → c < suc q → at < size → IsSumFrom q at size (rest ++ ((c, at) ∷ []))
 rest_more q c at size rest r pos lt inside = record {
   falls = falling_more (suc q) c at rest r.falls (AllTerms-imp (λ t. suc at ≤ t) (λ t. at < t) rest (λ t h. omega arith) r.above) pos lt;
   above = AllTerms-append rest ((c, at) ∷ []) (λ t. at ≤ t) (AllTerms-imp (λ t. suc at ≤ t) (λ t. at ≤ t) rest (λ t h. omega arith) r.above) (omega arith, tt);
   within = AllTerms-append rest ((c, at) ∷ []) (λ t. t < size) r.within (inside, tt);
 }
 
-pub rest_same : (q at size : ℕ) (rest : Sum) → IsRestFrom q (suc at) size rest → IsRestFrom q at size rest
+pub rest_same : (q at size : ℕ) (rest : Sum) → IsSumFrom q (suc at) size rest → IsSumFrom q at size rest
 rest_same q at size rest r = record {
   falls = r.falls;
   above = AllTerms-imp (λ t. suc at ≤ t) (λ t. at ≤ t) rest (λ t h. omega arith) r.above;
@@ -75,21 +75,21 @@ set_zero_small row at t lt = go (ℕ_discrete t at)
 
 module _ (q : ℕ) where
   -- sums alike position by position
-  pub same_wholes : (rest more : Sum) (row next : List ℕ) → ((t : ℕ) → Alike q (coef ℕ_discrete rest t + get_or row t 0) (coef ℕ_discrete more t + get_or next t 0))
+  pub same_wholes : (rest more : Sum) (row next : List ℕ) → ((t : ℕ) → IsCongruent q (coef ℕ_discrete rest t + get_or row t 0) (coef ℕ_discrete more t + get_or next t 0))
       → Same ℕ_discrete q (rest ++ dense row) (more ++ dense next)
   same_wholes rest more row next h t = rw (coef-whole rest row t, coef-whole more next t) (h t)
 
   -- one number of the row, and what stands there in the rest, is replaced
   pub same_replaced : (rest more : Sum) (row : List ℕ) (at v : ℕ) → at < length row → ((t : ℕ) → t ≢ at → coef ℕ_discrete more t ≡ coef ℕ_discrete rest t)
-      → Alike q (coef ℕ_discrete rest at + get_or row at 0) (coef ℕ_discrete more at + v) → Same ℕ_discrete q (rest ++ dense row) (more ++ dense (set row at v))
+      → IsCongruent q (coef ℕ_discrete rest at + get_or row at 0) (coef ℕ_discrete more at + v) → Same ℕ_discrete q (rest ++ dense row) (more ++ dense (set row at v))
   same_replaced rest more row at v lt others here = same_wholes rest more row (set row at v) (λ t. go t (ℕ_discrete t at))
     where
-      go : (t : ℕ) → Dec (t ≡ at) → Alike q (coef ℕ_discrete rest t + get_or row t 0) (coef ℕ_discrete more t + get_or (set row at v) t 0)
-      go t (yes p) = subst (λ u. Alike q (coef ℕ_discrete rest u + get_or row u 0) (coef ℕ_discrete more u + get_or (set row at v) u 0)) (sym p)
+      go : (t : ℕ) → Dec (t ≡ at) → IsCongruent q (coef ℕ_discrete rest t + get_or row t 0) (coef ℕ_discrete more t + get_or (set row at v) t 0)
+      go t (yes p) = subst (λ u. IsCongruent q (coef ℕ_discrete rest u + get_or row u 0) (coef ℕ_discrete more u + get_or (set row at v) u 0)) (sym p)
           (rw (get_or-set_same row at v 0 lt) here)
       go t (no n) = rw (others t n, get_or-set_other row at t v 0 n) refl
 
-  residue_alike : (r x : ℕ) → Alike q (r + x) (r + x % suc q)
+  residue_alike : (r x : ℕ) → IsCongruent q (r + x) (r + x % suc q)
   residue_alike r x = alike_add q r r x (x % suc q) refl (sym (mod-mod x (suc q)))
 
   -- 0 is taken away
@@ -112,7 +112,7 @@ module _ (q : ℕ) where
       others : (t : ℕ) → t ≢ at → coef ℕ_discrete (rest ++ ((c, at) ∷ [])) t ≡ coef ℕ_discrete rest t
       others t n = rw (coef-last rest c at t, hit-no (ℕ_discrete at t) c (λ e. n (sym e))) (omega arith)
 
-      here : Alike q (coef ℕ_discrete rest at + get_or row at 0) (coef ℕ_discrete (rest ++ ((c, at) ∷ [])) at + 0)
+      here : IsCongruent q (coef ℕ_discrete rest at + get_or row at 0) (coef ℕ_discrete (rest ++ ((c, at) ∷ [])) at + 0)
       here =
           let e : coef ℕ_discrete rest at + c + 0 ≡ coef ℕ_discrete rest at + c = omega arith in
           rw (coef-last rest c at at, hit-yes (ℕ_discrete at at) c refl, e) (residue_alike (coef ℕ_discrete rest at) (get_or row at 0))
@@ -120,20 +120,20 @@ module _ (q : ℕ) where
   -- ---- a step
 
   -- x less c is 0, where c is the residue of x
-  gone : (r x c : ℕ) → Alike q c x → Alike q (r + x + q * c * (1 + 0)) (r + (0 + 0))
+  gone : (r x c : ℕ) → IsCongruent q c x → IsCongruent q (r + x + q * c * (1 + 0)) (r + (0 + 0))
   gone r x c h =
-      let a : Alike q (r + x + q * c * (1 + 0)) (r + c + q * c * (1 + 0)) = alike_add q (r + x) (r + c) (q * c * (1 + 0)) (q * c * (1 + 0)) (alike_add q r r x c refl (sym h)) refl in
+      let a : IsCongruent q (r + x + q * c * (1 + 0)) (r + c + q * c * (1 + 0)) = alike_add q (r + x) (r + c) (q * c * (1 + 0)) (q * c * (1 + 0)) (alike_add q r r x c refl (sym h)) refl in
       let e : r + c + q * c * (1 + 0) ≡ r + (0 + 0) + (c + q * c) = omega arith in
       a ∙ ap (λ n. n % suc q) e ∙ alike_drop q (r + (0 + 0)) c
 
   -- q times c is alike suc q less c
-  turned : (c k : ℕ) → c ≤ suc q → Alike q (q * c * (0 + k)) ((suc q - c) * k)
+  turned : (c k : ℕ) → c ≤ suc q → IsCongruent q (q * c * (0 + k)) ((suc q - c) * k)
   turned c k le = alike_cancel q (q * c * (0 + k)) ((suc q - c) * k) (c * k) (left ∙ sym right)
     where
-      left : Alike q (q * c * (0 + k) + c * k) 0
+      left : IsCongruent q (q * c * (0 + k) + c * k) 0
       left = let e : q * c * (0 + k) + c * k ≡ c * k + q * (c * k) = omega arith in ap (λ n. n % suc q) e ∙ alike_gone q (c * k)
 
-      right : Alike q ((suc q - c) * k + c * k) 0
+      right : IsCongruent q ((suc q - c) * k + c * k) 0
       right =
           let m : suc q - c + c ≡ suc q = omega arith in
           let e : (suc q - c) * k + c * k ≡ (suc q - c + c) * k = omega arith in
@@ -145,7 +145,7 @@ module _ (q : ℕ) where
   coef-rule at t tail = refl
 
   -- the multiple of the rule is subtracted
-  pub same_stepped : (table : Table) (tail rest : Sum) (row next : List ℕ) (at c : ℕ) → HasRule table at tail → at < length row → c ≤ suc q → Alike q c (get_or row at 0) → coef ℕ_discrete tail at ≡ 0
+  pub same_stepped : (table : Table) (tail rest : Sum) (row next : List ℕ) (at c : ℕ) → HasRule table at tail → at < length row → c ≤ suc q → IsCongruent q c (get_or row at 0) → coef ℕ_discrete tail at ≡ 0
       → ((t : ℕ) → get_or next t 0 ≡ get_or (set row at 0) t 0 + (suc q - c) * coef ℕ_discrete tail t)
       → Same ℕ_discrete q ((rest ++ dense row) ++ scale (q * c) (rule_at table at)) (rest ++ dense next)
   same_stepped table tail rest row next at c rule lt le h none added t =
@@ -161,8 +161,8 @@ module _ (q : ℕ) where
       )
       (go (ℕ_discrete at t))
     where
-      go : (d : Dec (at ≡ t)) → Alike q (coef ℕ_discrete rest t + get_or row t 0 + q * c * (hit d 1 + coef ℕ_discrete tail t)) (coef ℕ_discrete rest t + (get_or (set row at 0) t 0 + (suc q - c) * coef ℕ_discrete tail t))
-      go (yes p) = subst (λ u. Alike q (coef ℕ_discrete rest u + get_or row u 0 + q * c * (1 + coef ℕ_discrete tail u)) (coef ℕ_discrete rest u + (get_or (set row at 0) u 0 + (suc q - c) * coef ℕ_discrete tail u))) p
+      go : (d : Dec (at ≡ t)) → IsCongruent q (coef ℕ_discrete rest t + get_or row t 0 + q * c * (hit d 1 + coef ℕ_discrete tail t)) (coef ℕ_discrete rest t + (get_or (set row at 0) t 0 + (suc q - c) * coef ℕ_discrete tail t))
+      go (yes p) = subst (λ u. IsCongruent q (coef ℕ_discrete rest u + get_or row u 0 + q * c * (1 + coef ℕ_discrete tail u)) (coef ℕ_discrete rest u + (get_or (set row at 0) u 0 + (suc q - c) * coef ℕ_discrete tail u))) p
           (let z : (suc q - c) * 0 ≡ 0 = omega arith in rw (none, get_or-set_same row at 0 0 lt, z) (gone (coef ℕ_discrete rest at) (get_or row at 0) c h))
       go (no n) =
           let r = coef ℕ_discrete rest t in

@@ -7,7 +7,7 @@ use Rattle.modular_sums.specs.Sums.{hit, coef}
 use Rattle.modular_sums.proofs.Sums.{hit-no}
 use Rattle.modular_sums.proofs.Coefficients.{coef_absent}
 use Rattle.modular_sums.proofs.Images.{AllTerms-imp}
-use Rattle.modular_sums.specs.RuleTables.{positions, AreResidues, IsTail}
+use Rattle.modular_sums.specs.RuleTables.{positions, AreResidues, IsRuleTail}
 
 abbrev Sum : Type 0
 Sum = List (ℕ × ℕ)
@@ -30,7 +30,7 @@ coef_residue q (x ∷ l) t d r = go (ℕ_discrete x.1 t) (coef_residue q l t d.1
     go (yes e) ih = let z = here e in let le : x.0 ≤ q = r.1 in omega (arith, z, le)
     go (no n) ih = omega arith
 
-module _ (q at : ℕ) (tail : Sum) (h : IsTail q at tail) where
+module _ (q at : ℕ) (tail : Sum) (h : IsRuleTail q at tail) where
   pub tail_residue : (t : ℕ) → coef ℕ_discrete tail t ≤ q
   tail_residue t = coef_residue q tail t h.once h.residues
 

@@ -9,8 +9,8 @@ use Rattle.modular_sums.specs.Lists.{Mem, Distinct}
 use Rattle.modular_sums.specs.Sums.{AllTerms}
 use Rattle.modular_sums.proofs.Sums.{AllTerms-append}
 use Rattle.modular_sums.proofs.Images.{AllTerms-imp}
-use Rattle.modular_sums.specs.Falling.{Falls, HaveResidues, IsFalling}
-use Rattle.modular_sums.specs.RuleTables.{positions, AreResidues, IsTail}
+use Rattle.modular_sums.specs.Falling.{Falls, AreNonzeroResidues, IsFalling}
+use Rattle.modular_sums.specs.RuleTables.{positions, AreResidues, IsRuleTail}
 use Rattle.row_sweeps.proofs.Falls.{below_first}
 use Rattle.row_sweeps.proofs.Multiples.{zip_at, zip_long, take_all}
 
@@ -41,7 +41,7 @@ residues_last q c p (x ∷ l) r pos le = (r.0, r.1, residues_last q c p l r.2 po
 
 -- The first i terms are a tail, on positions from the last one on.
 pub record IsTailSoFar (q at last : ℕ) (l : Sum) : Type 0 where
-  pub tail : IsTail q at l
+  pub tail : IsRuleTail q at l
   pub above : AllTerms l (λ t. last ≤ t)
   pub within : last ≤ at
 
@@ -69,12 +69,12 @@ tail_next q at last i cs ps same lt s less pos le = rw (add-one i, take-suc (zip
 all_of : (cs ps : List ℕ) (i : ℕ) → length ps ≡ length cs → length ps ≤ i → length (zip cs ps) ≤ i
 all_of cs ps i same le = rw (length-zip cs ps) (omega arith)
 
-pub tail_whole : (q at last i : ℕ) (cs ps : List ℕ) → length ps ≡ length cs → length ps ≤ i → IsTailSoFar q at last (take i (zip cs ps)) → IsTail q at (zip cs ps)
-tail_whole q at last i cs ps same le s = subst (IsTail q at) (take_all (zip cs ps) i (all_of cs ps i same le)) s.tail
+pub tail_whole : (q at last i : ℕ) (cs ps : List ℕ) → length ps ≡ length cs → length ps ≤ i → IsTailSoFar q at last (take i (zip cs ps)) → IsRuleTail q at (zip cs ps)
+tail_whole q at last i cs ps same le s = subst (IsRuleTail q at) (take_all (zip cs ps) i (all_of cs ps i same le)) s.tail
 
 -- ---- falling sums are tails
 
-residues_of : (q : ℕ) (l : Sum) → HaveResidues (suc q) l → AreResidues q l
+residues_of : (q : ℕ) (l : Sum) → AreNonzeroResidues (suc q) l → AreResidues q l
 residues_of q [] h = tt
 residues_of q (x ∷ l) h = let lt : x.0 < suc q = h.1 in (h.0, omega arith, residues_of q l h.2)
 
@@ -88,9 +88,9 @@ once_of [] f = tt
 once_of (x ∷ l) f = (not_below x.1 l (below_first x l f), once_of l f.1)
 
 -- a falling sum on positions below one is a tail for it
-pub falling_tail : (q at : ℕ) (l : Sum) → IsFalling nat_cmp (suc q) l → AllTerms l (λ t. t < at) → IsTail q at l
+pub falling_tail : (q at : ℕ) (l : Sum) → IsFalling nat_cmp (suc q) l → AllTerms l (λ t. t < at) → IsRuleTail q at l
 falling_tail q at l f h = record { below = h; once = once_of l f.falls; residues = residues_of q l f.residues }
 
 -- what follows the first term of a falling sum is a tail for its position
-pub falling_rest : (q : ℕ) (x : ℕ × ℕ) (l : Sum) → IsFalling nat_cmp (suc q) (x ∷ l) → IsTail q x.1 l
+pub falling_rest : (q : ℕ) (x : ℕ × ℕ) (l : Sum) → IsFalling nat_cmp (suc q) (x ∷ l) → IsRuleTail q x.1 l
 falling_rest q x l f = falling_tail q x.1 l (record { residues = f.residues.2; falls = f.falls.1 }) (below_first x l f.falls)

@@ -8,7 +8,7 @@ use Rattle.modular_sums.specs.Falling.{IsFalling}
 use Rattle.modular_sums.specs.PositionRows.{dense}
 
 -- A falling sum modulo suc q on the positions from `end` to below `size`.
-pub record IsRestFrom (q end size : ℕ) (rest : List (ℕ × ℕ)) : Type 0 where
+pub record IsSumFrom (q end size : ℕ) (rest : List (ℕ × ℕ)) : Type 0 where
   pub falls : IsFalling nat_cmp (suc q) rest
   pub above : AllTerms rest (λ t. end ≤ t)
   pub within : AllTerms rest (λ t. t < size)

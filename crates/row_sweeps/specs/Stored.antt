@@ -22,7 +22,7 @@ pub record LiesIn (coefs tails : List ℕ) (r : Stored) : Type 0 where
   pub at : r.at + r.len ≤ length tails
 
 -- the modulus and the number of positions are as small as sums of 64 bits need, and each rule has its tail in the two lists
-pub record IsKept (p : ℕ) (rules : List (Option Stored)) (tails coefs : List ℕ) : Type 0 where
+pub record IsKeptTable (p : ℕ) (rules : List (Option Stored)) (tails coefs : List ℕ) : Type 0 where
   pub positive : 0 < p
   pub small : p ≤ 65537
   pub few : length rules ≤ 2 ^ 30
@@ -33,7 +33,7 @@ abbrev pub shown : Inside → Rules
 shown t = record { q = t.prime - 1; coefs = t.coefs.items; rules = tails_of t.coefs.items t.tails.items t.rules.items }
 
 abbrev pub IsStored : Inside → Type 0
-IsStored t = IsKept t.prime t.rules.items t.tails.items t.coefs.items
+IsStored t = IsKeptTable t.prime t.rules.items t.tails.items t.coefs.items
 
 -- so many positions without a rule
 abbrev pub nothing_stored : ℕ → List (Option Stored)

@@ -3,7 +3,7 @@ use Rattle.std.specs.Prelude.{ℕ, ◌≡◌, ◌≢◌, ◌+◌, ◌-◌, ◌*�
 use Rattle.std.proofs.Common.{suc}
 use native.Mathlib.Decide.{ℕ_discrete}
 use Rattle.modular_sums.specs.Sums.{coef}
-use Rattle.modular_sums.specs.RuleTables.{Table, HasRule, IsRuled, IsTail, IsUnruled}
+use Rattle.modular_sums.specs.RuleTables.{Table, HasRule, IsRuled, IsRuleTail, IsUnruled}
 use Rattle.row_sweeps.specs.Counts.{Count}
 use Rattle.row_sweeps.specs.Terms.{pairs}
 use Rattle.row_sweeps.specs.declared.row.Term.{Term}
@@ -45,7 +45,7 @@ pub record IsCancelled (q : ℕ) (table : Table) (at : ℕ) (keep : Bool) (befor
   pub nonzero : slice_index before.row at % suc q ≢ 0
   pub tail : List (ℕ × ℕ)
   pub rule : HasRule table at tail
-  pub lower : IsTail q at tail
+  pub lower : IsRuleTail q at tail
   pub row : (t : ℕ) → slice_index after.row t ≡ slice_index (slice_set before.row at 0) t + (suc q - slice_index before.row at % suc q) * coef ℕ_discrete tail t
   pub rest : after.rest ≡ before.rest
   pub log : after.log ≡ before.log ++ kept keep ((slice_index before.row at % suc q, at) ∷ [])

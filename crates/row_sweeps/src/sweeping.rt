@@ -1,7 +1,7 @@
 ghost use Rattle.std.specs.Prelude.{◌≡◌, ◌<◌, ◌≤◌, ◌^◌, ℕ, length, slice_index, IfOk, IfErr, OnOk, Err};
 ghost use Rattle.modular_sums.specs.PositionRows.{dense};
 ghost use Rattle.row_sweeps.specs.Terms.{pairs};
-ghost use Rattle.row_sweeps.specs.Sweeps.{HasSwept, IsRefusal, IsCleared};
+ghost use Rattle.row_sweeps.specs.Sweeps.{HasSwept, IsSweepRefusal, IsSweepCleared};
 
 use crate::gathering::gather;
 use crate::visiting::visit;
@@ -47,8 +47,8 @@ pub fn sweep(
     requires zeros { (t : ℕ) → end ≤ t → slice_index row.old t ≡ 0 }
     requires small { (t : ℕ) → slice_index row.old t < 2 ^ 63 }
     ensures swept { IfOk result (λ rest. HasSwept table.now.q table.now.rules (dense row.old) (pairs rest.items) steps.old steps.new keep (pairs log.old.items) (pairs log.new.items)) }
-    ensures refused { IfErr result (IsRefusal table.now.q table.now.rules (dense row.old) steps.old steps.new keep (pairs log.old.items) (pairs log.new.items)) }
-    ensures cleared { IsCleared result row.new }
+    ensures refused { IfErr result (IsSweepRefusal table.now.q table.now.rules (dense row.old) steps.old steps.new keep (pairs log.old.items) (pairs log.new.items)) }
+    ensures cleared { IsSweepCleared result row.new }
     ensures bound { steps.new.bound ≡ steps.old.bound }
 {
     let prime = table.prime();

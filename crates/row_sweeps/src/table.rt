@@ -1,7 +1,7 @@
 ghost use Rattle.std.specs.Prelude.{◌≡◌, ◌<◌, ◌≤◌, ◌+◌, ◌++◌, ◌^◌, ◌-◌, ℕ, List, [], Some, None, length, slice_get, slice_set, slice_range, IfOk, IsTrue, OnOk, OnErr, MatchOption, map};
 ghost use Rattle.std.specs.List.{zip};
 ghost use Rattle.std.proofs.Common.{suc};
-ghost use Rattle.modular_sums.specs.RuleTables.{HasRule, IsTail, IsUnruled};
+ghost use Rattle.modular_sums.specs.RuleTables.{HasRule, IsRuleTail, IsUnruled};
 ghost use Rattle.row_sweeps.specs.Terms.{pairs};
 ghost use Rattle.row_sweeps.specs.Rules.{unruled};
 ghost use Rattle.row_sweeps.specs.Stored.{nothing_stored};
@@ -122,7 +122,7 @@ impl RuleTable {
     pub(crate) fn takes_rule(&self, position: usize, from: usize, tail: &[u32]) -> bool
         ensures position { IsTrue result → position < length self.now.rules }
         ensures from { IsTrue result → from + length tail.now ≤ length self.now.coefs }
-        ensures tail { IsTrue result → IsTail self.now.q position (zip (slice_range self.now.coefs from (from + length tail.now)) tail.now) }
+        ensures tail { IsTrue result → IsRuleTail self.now.q position (zip (slice_range self.now.coefs from (from + length tail.now)) tail.now) }
     {
         let len = self.coefs.len();
         if position >= self.rules.len() || tail.len() > len || from > len - tail.len() {
@@ -142,7 +142,7 @@ impl RuleTable {
     pub fn add_rule(&mut self, position: usize, from: usize, tail: &[u32]) -> Result<(), AllocError>
         requires position { position < length self.old.rules }
         requires from { from + length tail.now ≤ length self.old.coefs }
-        requires tail { IsTail self.old.q position (zip (slice_range self.old.coefs from (from + length tail.now)) tail.now) }
+        requires tail { IsRuleTail self.old.q position (zip (slice_range self.old.coefs from (from + length tail.now)) tail.now) }
         ensures added { OnOk result (self.new ≡ record self.old { rules = slice_set self.old.rules position (Some (zip (slice_range self.old.coefs from (from + length tail.now)) tail.now)) }) }
         ensures unchanged { OnErr result (self.new ≡ self.old) }
     {
@@ -166,7 +166,7 @@ impl RuleTable {
         tail: &[Term],
     ) -> Result<(), AllocError>
         requires position { position < length self.old.rules }
-        requires tail { IsTail self.old.q position (pairs tail.now) }
+        requires tail { IsRuleTail self.old.q position (pairs tail.now) }
         ensures added { OnOk result (self.new.rules ≡ slice_set self.old.rules position (Some (pairs tail.now))) }
         ensures unchanged { OnErr result (self.new.rules ≡ self.old.rules) }
         ensures prime { self.new.q ≡ self.old.q }
@@ -183,7 +183,7 @@ impl RuleTable {
         requires position { position < length self.now.rules }
         ensures tail { MatchOption result (IsUnruled self.now.rules position) (λ t. HasRule self.now.rules position (zip t.coefs.now t.positions.now)) }
         ensures lengths { MatchOption result (IsUnruled self.now.rules position) (λ t. length t.positions.now ≡ length t.coefs.now) }
-        ensures lower { MatchOption result (IsUnruled self.now.rules position) (λ t. IsTail self.now.q position (zip t.coefs.now t.positions.now)) }
+        ensures lower { MatchOption result (IsUnruled self.now.rules position) (λ t. IsRuleTail self.now.q position (zip t.coefs.now t.positions.now)) }
     {
         match self.rules[position] {
             None => None,

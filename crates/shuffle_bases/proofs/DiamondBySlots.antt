@@ -17,7 +17,7 @@ use Rattle.modular_sums.specs.Sums.{hit, coef, Same, scale, expand, moved, AllTe
 use Rattle.modular_sums.proofs.Sums.{hit-yes, hit-no, Same-cancelled}
 use Rattle.modular_sums.proofs.Images.{moved_eq}
 use Rattle.modular_sums.proofs.Diamond.{diamond}
-use Rattle.modular_sums.specs.Diamond.{HaveHosts, HostsBelow, Led}
+use Rattle.modular_sums.specs.Diamond.{HaveLeadingTerms, LeadsBelow, Led}
 use Rattle.labelled_trees.proofs.Meetings.{Above, Apart, meeting}
 use Rattle.labelled_trees.proofs.Unions.{Within, within}
 use Rattle.labelled_trees.proofs.GraftLeaves.{graft_ext, agree_graft}
@@ -120,10 +120,10 @@ module _ (base : Setting) (basis : AreMonic base) (order : IsTreeOrder base.arit
         let z : hit (tree_discrete (fill_slot i.at x.1) t) x.0 ≡ 0 = hit_less (fill_slot i.at x.1) t x.0 (rank (host i)) (tree_discrete (fill_slot i.at x.1) t) lt le in
         rw (z, low_tail i l t h.1 f.1 le) (omega arith)
 
-    monic : HaveHosts {I = Placed base n} tree_discrete rank base.q value host
+    monic : HaveLeadingTerms {I = Placed base n} tree_discrete rank base.q value host
     unfolding coef
     monic = record {
-      at_host = λ i.
+      at_lead = λ i.
           let z : coef tree_discrete (moved (fill_slot i.at) i.of.tail) (host i) ≡ 0 = low_tail i i.of.tail (host i) (tail_valid base basis i.of i.member) (tail_fits base basis i.of i.member) (omega arith) in
           let o : hit (tree_discrete (host i) (host i)) 1 ≡ 1 = hit-yes (tree_discrete (host i) (host i)) 1 refl in
           let e : 1 + 0 ≡ 1 = omega arith in
@@ -136,7 +136,7 @@ module _ (base : Setting) (basis : AreMonic base) (order : IsTreeOrder base.arit
     }
 
     ranked : (w : Tree ℕ) → IsShuffle n w → (Fits base.arity) w → (l : List (ℕ × Placed base n)) → HostsLess base n w l
-        → HostsBelow rank host (rank w) l
+        → LeadsBelow rank host (rank w) l
     ranked w v f [] h = tt
     ranked w v f (x ∷ l) h = (rank_less (host x.1) w x.1.valid v x.1.fits f h.0, ranked w v f l h.1)
 

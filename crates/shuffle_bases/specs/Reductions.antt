@@ -1,6 +1,6 @@
 -- Sums of insertions, and the premise of the diamond lemma.
 use Rattle.std.specs.Prelude.{ℕ, ◌≤◌, List}
-use Rattle.modular_sums.specs.Residues.{Alike}
+use Rattle.modular_sums.specs.Residues.{IsCongruent}
 use Rattle.modular_sums.specs.Sums.{coef, AllTerms, Same, expand}
 use Rattle.labelled_trees.specs.Trees.{Tree}
 use Rattle.labelled_trees.specs.Equality.{tree_discrete}
@@ -24,5 +24,5 @@ SElementsReduce s N = (m : ℕ) → m ≤ N → (g h : Element) → InOrder g h 
 -- The greatest tree of the sum is the tree of an insertion: its coefficient isn't 0, and that of each greater tree is.
 pub record IsLed (s : Setting) (n : ℕ) (e : List (ℕ × Tree ℕ)) : Type 0 where
   pub by : Insertion s n
-  pub there : Alike s.q (coef tree_discrete e by.tree) 0 → ⊥
-  pub above : (t : Tree ℕ) → IsShuffleTree s.arity n t → IsLess s by.tree t → Alike s.q (coef tree_discrete e t) 0
+  pub there : IsCongruent s.q (coef tree_discrete e by.tree) 0 → ⊥
+  pub above : (t : Tree ℕ) → IsShuffleTree s.arity n t → IsLess s by.tree t → IsCongruent s.q (coef tree_discrete e t) 0

@@ -14,7 +14,7 @@ use Rattle.shuffle_reductions.proofs.Laws.{chains_end, elements_extend_themselve
 use Rattle.operad_ideals.specs.Presentations.{Presentation, parts, arity_of}
 use Rattle.shuffle_transfer.specs.Labels.{labels, inputs_of, symmetric_tree}
 use Rattle.shuffle_transfer.specs.Transfer.{shuffled}
-use Rattle.shuffle_transfer.specs.Certified.{setting}
+use Rattle.shuffle_transfer.specs.GroebnerBases.{setting}
 use Rattle.shuffle_transfer.specs.NormalTrees.{normal_list, IsNormalTree, HasLabelledTrees, IsIndependent, IsSpanning, IsNormalSum, IsNormalForm}
 use Rattle.operad_ideals.proofs.ReducedSums.{reduction}
 use Rattle.shuffle_transfer.proofs.NormalForms.{rest_same}

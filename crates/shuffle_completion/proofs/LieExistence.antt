@@ -2,7 +2,7 @@
 use Rattle.std.proofs.Common.{◌≡◌, ℕ, zero, suc, ◌*◌, ◌%◌, ◌<◌, ◌≤◌, List, [], refl, sym, arith, subst, inl, inr, ◌⊎◌}
 use Rattle.std.proofs.lemmas.Nat.{mod_below}
 use Rattle.std.specs.declared.cmp.Ordering.{Ordering}
-use Rattle.modular_sums.specs.Residues.{Alike}
+use Rattle.modular_sums.specs.Residues.{IsCongruent}
 use Rattle.modular_sums.proofs.Residues.{alike_mul}
 use Rattle.labelled_trees.specs.Trees.{Tree}
 use Rattle.shuffle_insertions.specs.Orders.{IsTreeOrder}
@@ -34,7 +34,7 @@ order = order_of modulo_three.generators by_path
 inverses : HasInverses 2
 inverses c nonzero = (c, go (c % 3) refl (mod_below c 3 (omega arith)))
   where
-    go : (r : ℕ) → c % 3 ≡ r → r < 3 → Alike 2 (c * c) 1
+    go : (r : ℕ) → c % 3 ≡ r → r < 3 → IsCongruent 2 (c * c) 1
     go zero e low = absurd (nonzero e)
     go (suc zero) e low = alike_mul 2 c 1 c 1 e e
     go (suc (suc zero)) e low = alike_mul 2 c 2 c 2 e e

@@ -5,7 +5,7 @@ use native.Mathlib.Decide.{ℕ_discrete}
 use Rattle.std.specs.Prelude.{flat_map}
 use Rattle.std.specs.declared.cmp.Ordering.{Ordering}
 use Rattle.modular_sums.specs.Lists.{Mem}
-use Rattle.modular_sums.specs.Residues.{Alike}
+use Rattle.modular_sums.specs.Residues.{IsCongruent}
 use Rattle.modular_sums.specs.Sums.{coef, AllTerms, Same}
 use Rattle.modular_sums.proofs.Coefficients.{coef_nothing}
 use Rattle.modular_sums.proofs.Images.{AllTerms-imp}
@@ -28,12 +28,12 @@ use Rattle.operad_ideals.specs.Presentations.{Relation, Presentation, arity_of}
 use Rattle.shuffle_transfer.specs.Labels.{labels, inputs_of}
 use Rattle.shuffle_transfer.specs.Orderings.{orderings}
 use Rattle.shuffle_transfer.specs.Transfer.{relabelled, shuffled}
-use Rattle.shuffle_transfer.specs.Certified.{setting}
+use Rattle.shuffle_transfer.specs.GroebnerBases.{setting}
 use Rattle.shuffle_transfer.proofs.Labels.{are_labels}
 use Rattle.shuffle_transfer.proofs.Orderings.{all_orderings}
 use Rattle.shuffle_transfer.proofs.Spanning.{all_shuffles}
 use Rattle.shuffle_transfer.proofs.TransferLaw.{labelled-relabelled}
-use Rattle.shuffle_completion.specs.Completion.{Task, relation, multiple, sum_of, IsTask, AreAll, IsUnderway}
+use Rattle.shuffle_completion.specs.Completion.{Task, relation, multiple, task_sum, IsTask, AreAll, IsUnderway}
 use Rattle.shuffle_completion.proofs.Laws.{task_ends_in_zero, task_ends_in_element}
 use Rattle.shuffle_completion.proofs.Reduced.{node_of_two}
 use Rattle.shuffle_completion.specs.Existence.{IsOverField}
@@ -128,22 +128,22 @@ module _ (p : Presentation) (good : IsOverField p) (compare : Tree ℕ → Tree 
     here : IsTask p so_far.now (suc N) x
     here = task_now so_far.now so_far.kept x task
 
-    valid_of : (y : Task) → IsTask p so_far.now (suc N) y → AllTerms (sum_of p y) (IsShuffleTree (inputs_of p.generators) (suc N))
+    valid_of : (y : Task) → IsTask p so_far.now (suc N) y → AllTerms (task_sum p y) (IsShuffleTree (inputs_of p.generators) (suc N))
     valid_of (relation r v) k = subst (λ m. AllTerms (shuffled p (relabelled v r.terms)) (IsShuffleTree (inputs_of p.generators) m)) k.1
         (all_shuffles p r.arity (relabelled v r.terms) (labelled-relabelled (arity_of p) r.arity v (((all_orderings r.arity).2 v).0 (subst (λ m. Mem v (orderings m)) (sym k.1) k.2)) r.terms (good.sound r k.0)))
     valid_of (multiple g h t first second) k = (s_elements_by_chains (setting p compare so_far.now) order so_far.underway.certified.monic (suc N) g h k.0 k.1 t first second k.2).valid
 
-    module _ (uses : List (ℕ × Insertion (setting p compare so_far.now) (suc N))) (f : Sum) (chain : IsChain (setting p compare so_far.now) (suc N) (sum_of p x) uses f)
+    module _ (uses : List (ℕ × Insertion (setting p compare so_far.now) (suc N))) (f : Sum) (chain : IsChain (setting p compare so_far.now) (suc N) (task_sum p x) uses f)
         (finished : IsFinished (setting p compare so_far.now) f) (no_zeros : HasNoZeros p.q f) where
       f_valid : AllTerms f (IsShuffleTree (inputs_of p.generators) (suc N))
       f_valid = AllTerms-imp (StandsIn p.q f) (IsShuffleTree (inputs_of p.generators) (suc N)) f
-          ((chains_fall (setting p compare so_far.now) order so_far.underway.certified.monic (suc N) (sum_of p x) uses f chain).valid (valid_of x here)) no_zeros
+          ((chains_fall (setting p compare so_far.now) order so_far.underway.certified.monic (suc N) (task_sum p x) uses f chain).valid (valid_of x here)) no_zeros
 
       solved_by_zero : ((u : Tree ℕ) → StandsIn p.q f u → Any u → ⊥) → Progress (x ∷ done)
       solved_by_zero nothing = record {
         now = so_far.now;
         underway = task_ends_in_zero p compare order so_far.now N done so_far.underway x here so_far.now extends uses
-            ((chains_join (setting p compare so_far.now) (suc N)).0 (sum_of p x) (sum_of p x) uses f [] (λ t. refl) all_zero chain);
+            ((chains_join (setting p compare so_far.now) (suc N)).0 (task_sum p x) (task_sum p x) uses f [] (λ t. refl) all_zero chain);
         kept = so_far.kept;
         old = so_far.old;
       }
@@ -161,7 +161,7 @@ module _ (p : Presentation) (good : IsOverField p) (compare : Tree ℕ → Tree 
         old = λ h m lt. old_one h (mem_either h so_far.now (new ∷ []) m) lt;
       }
         where
-          inverse : (d : ℕ) × Alike p.q (d * coef tree_discrete f g.tree) 1
+          inverse : (d : ℕ) × IsCongruent p.q (d * coef tree_discrete f g.tree) 1
           inverse = good.inverses (coef tree_discrete f g.tree) g.there
 
           new : Element
@@ -184,7 +184,7 @@ module _ (p : Presentation) (good : IsOverField p) (compare : Tree ℕ → Tree 
 
     pub one_more : Progress (x ∷ done)
     one_more =
-        let r = chains_end (labels p.generators) (setting p compare so_far.now) (are_labels p good.wide) order so_far.underway.certified.monic (suc N) (sum_of p x) (valid_of x here) in
+        let r = chains_end (labels p.generators) (setting p compare so_far.now) (are_labels p good.wide) order so_far.underway.certified.monic (suc N) (task_sum p x) (valid_of x here) in
         solved_by r.0 r.1 r.2 r.3 r.4
 
   -- ---- all tasks

@@ -11,7 +11,7 @@ use Rattle.std.specs.Cmp.Lexicographic.{slice_cmp}
 use Rattle.std.proofs.lemmas.Map.Lookups.{exact_unsigned}
 use Rattle.shuffle_insertions.specs.Keys.{Key, path}
 use Rattle.shuffle_insertions.proofs.Comparing.{slice_cmp-append}
-use Rattle.shuffle_insertions.specs.KeyBlocks.{mark, marked, digits, path_block, AreShort, AreAlike}
+use Rattle.shuffle_insertions.specs.KeyBlocks.{mark, marked, digits, path_block, AreShort, AreComparableKeys}
 use Rattle.shuffle_insertions.specs.BlockLaws.{BlocksCompare}
 
 then-assoc : (a b c : Ordering) → ordering_then (ordering_then a b) c ≡ ordering_then a (ordering_then b c)
@@ -115,7 +115,7 @@ weights m n =
 
 -- ---- the four orders
 
-by_path : (a b : Key) → AreAlike a b → slice_cmp nat_cmp (path_block a) (path_block b) ≡ path a b
+by_path : (a b : Key) → AreComparableKeys a b → slice_cmp nat_cmp (path_block a) (path_block b) ≡ path a b
 by_path a b h = marked_first false a.words b.words a.row b.row h.words h.short h.other_short
 
 pub blocks_compare : BlocksCompare

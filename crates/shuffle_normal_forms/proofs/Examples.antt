@@ -14,7 +14,7 @@ use Rattle.shuffle_places.proofs.Examples.{top_two}
 use Rattle.shuffle_bases.specs.Elements.{Insertion, value_of}
 use Rattle.shuffle_bases.proofs.Examples.{jacobi, setting, reduces, monic}
 use Rattle.shuffle_normal_forms.specs.FreeTrees.{IsFree, IsFreeTree, free_trees}
-use Rattle.shuffle_normal_forms.specs.NormalForms.{InSpan, IsNormalForm, LeadsNone, IsAtMost}
+use Rattle.shuffle_normal_forms.specs.NormalForms.{InSpan, IsShuffleNormalForm, LeadsNone, IsAtMost}
 use Rattle.shuffle_normal_forms.proofs.Laws.{all_listed, independent, spanning, lead_none, one_form}
 
 -- ---- the free trees
@@ -39,7 +39,7 @@ pub independent_of_jacobi : (n : ℕ) → n ≤ 4 → (e : List (ℕ × Tree ℕ
 independent_of_jacobi n le = independent 1 setting one_label by_path monic 4 n reduces le
 
 pub spanning_of_jacobi : (n : ℕ) (t : Tree ℕ) → IsShuffleTree one_binary n t
-    → (f : List (ℕ × Tree ℕ)) × IsNormalForm setting n ((1, t) ∷ []) f × AllTerms f (λ u. IsAtMost setting u t)
+    → (f : List (ℕ × Tree ℕ)) × IsShuffleNormalForm setting n ((1, t) ∷ []) f × AllTerms f (λ u. IsAtMost setting u t)
 spanning_of_jacobi n = (spanning 1 setting one_label by_path monic n).0
 
 pub free_of_jacobi : (n : ℕ) → n ≤ 4 → (t : Tree ℕ) → IsShuffleTree one_binary n t → (IsFree setting t → LeadsNone setting n t) × (LeadsNone setting n t → IsFree setting t)
@@ -49,7 +49,7 @@ free_of_jacobi n le t h = (
 )
 
 pub one_form_of_jacobi : (n : ℕ) → n ≤ 4 → (e : List (ℕ × Tree ℕ)) → AllTerms e (IsShuffleTree one_binary n)
-    → (f : List (ℕ × Tree ℕ)) × IsNormalForm setting n e f × ((g : List (ℕ × Tree ℕ)) → IsNormalForm setting n e g → Same tree_discrete 100 f g)
+    → (f : List (ℕ × Tree ℕ)) × IsShuffleNormalForm setting n e f × ((g : List (ℕ × Tree ℕ)) → IsShuffleNormalForm setting n e g → Same tree_discrete 100 f g)
 one_form_of_jacobi n le = (one_form 1 setting one_label by_path monic 4 n reduces le).0
 
 -- ---- a normal form: that of t1 is t2 + t3
@@ -64,7 +64,7 @@ whole = record { of = jacobi; member = inl refl; tree = t1; set = top_two; valid
 pub free_at : (t : Tree ℕ) → Mem t (t2 ∷ (t3 ∷ [])) → IsFreeTree setting 3 t
 free_at t m = (listed_of_jacobi 3 t).0 (subst (Mem t) (sym two_free) m)
 
-form_of_t1 : IsNormalForm setting 3 ((1, t1) ∷ []) sum_of_two
+form_of_t1 : IsShuffleNormalForm setting 3 ((1, t1) ∷ []) sum_of_two
 unfolding whole ℕ_discrete tree_discrete tree_discrete_by row_discrete_by same_leaf same_node same_more coef scale expand
 form_of_t1 = record {
   on_free = (free_at t2 (inl refl), (free_at t3 (inr (inl refl)), tt));

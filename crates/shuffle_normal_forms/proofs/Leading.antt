@@ -4,7 +4,7 @@ use Rattle.std.proofs.Math.Nat.{mod-eq_of_lt}
 use Rattle.std.specs.declared.cmp.Ordering.{Ordering}
 use Rattle.std.specs.declared.cmp.Ordering.TheVariants.{Less, Equal, Greater}
 use Rattle.std.specs.Ordering.{ordering_reverse}
-use Rattle.modular_sums.specs.Residues.{Alike}
+use Rattle.modular_sums.specs.Residues.{IsCongruent}
 use Rattle.modular_sums.specs.Sums.{coef, Same, expand, AllTerms}
 use Rattle.modular_sums.proofs.Images.{AllTerms-imp}
 use Rattle.labelled_trees.specs.Trees.{Tree}
@@ -21,7 +21,7 @@ use Rattle.modular_sums.proofs.Coefficients.{coef_absent, coef_first, coef_nothi
 use Rattle.shuffle_normal_forms.proofs.Listing.{inserted_or_free, not_free}
 use Rattle.shuffle_normal_forms.proofs.Insertions.{span, rest_of, value_is, IsLower, rest_lower, value_valid}
 
-pub one_not_zero : (q : ℕ) → 0 < q → Alike q 1 0 → ⊥
+pub one_not_zero : (q : ℕ) → 0 < q → IsCongruent q 1 0 → ⊥
 one_not_zero q h e =
     let a : 1 % suc q ≡ 1 = mod-eq_of_lt (omega (arith, h)) in
     let z : 0 % suc q ≡ 0 = mod-eq_of_lt (omega arith) in

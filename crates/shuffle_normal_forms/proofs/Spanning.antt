@@ -12,7 +12,7 @@ use Rattle.shuffle_insertions.specs.Orders.{IsTreeOrder}
 use Rattle.shuffle_bases.specs.Elements.{Setting, IsLess, AreMonic, Insertion}
 use Rattle.shuffle_bases.proofs.Ranking.{rank, rank_less}
 use Rattle.shuffle_normal_forms.specs.FreeTrees.{IsFree, IsFreeTree}
-use Rattle.shuffle_normal_forms.specs.NormalForms.{InSpan, IsNormalForm, IsAtMost}
+use Rattle.shuffle_normal_forms.specs.NormalForms.{InSpan, IsShuffleNormalForm, IsAtMost}
 use Rattle.modular_sums.proofs.Differences.{same_negated, same_added, same_gone}
 use Rattle.shuffle_normal_forms.proofs.Listing.{inserted_or_free}
 use Rattle.shuffle_normal_forms.proofs.Insertions.{span, rest_of, value_is, IsLower, rest_lower}
@@ -24,7 +24,7 @@ module _ (labels : ℕ) (s : Setting) (are : AreLabels labels s.arity) (order : 
   -- a normal form within each bound of the sum's trees
   pub record Form (e : Sum) : Type 0 where
     pub by : Sum
-    pub normal : IsNormalForm s n e by
+    pub normal : IsShuffleNormalForm s n e by
     pub within : (t : Tree ℕ) → AllTerms e (λ u. IsAtMost s u t) → AllTerms by (λ u. IsAtMost s u t)
 
   at_most_trans : (x y z : Tree ℕ) → IsAtMost s x y → IsAtMost s y z → IsAtMost s x z

@@ -10,7 +10,7 @@ use Rattle.shuffle_insertions.specs.Orders.{IsTreeOrder}
 use Rattle.shuffle_bases.specs.Elements.{Setting, AreMonic}
 use Rattle.shuffle_bases.specs.Reductions.{SElementsReduce}
 use Rattle.shuffle_normal_forms.specs.FreeTrees.{IsFree, IsFreeTree, free_trees}
-use Rattle.shuffle_normal_forms.specs.NormalForms.{InSpan, IsNormalForm, LeadsNone, IsAtMost}
+use Rattle.shuffle_normal_forms.specs.NormalForms.{InSpan, IsShuffleNormalForm, LeadsNone, IsAtMost}
 
 -- The list of the free trees of arity n has each of them once, and nothing else.
 abbrev pub FreeTreesListed : Type 0
@@ -28,8 +28,8 @@ FreeTreesIndependent = (labels : ℕ) (s : Setting) → AreLabels labels s.arity
 -- and so has each sum on shuffle trees, whose normal form stays within each bound of its trees.
 abbrev pub FreeTreesSpan : Type 0
 FreeTreesSpan = (labels : ℕ) (s : Setting) → AreLabels labels s.arity → IsTreeOrder s.arity s.compare → AreMonic s → (n : ℕ)
-    → ((t : Tree ℕ) → IsShuffleTree s.arity n t → (f : List (ℕ × Tree ℕ)) × IsNormalForm s n ((1, t) ∷ []) f × AllTerms f (λ u. IsAtMost s u t))
-    × ((e : List (ℕ × Tree ℕ)) → AllTerms e (IsShuffleTree s.arity n) → (f : List (ℕ × Tree ℕ)) × IsNormalForm s n e f
+    → ((t : Tree ℕ) → IsShuffleTree s.arity n t → (f : List (ℕ × Tree ℕ)) × IsShuffleNormalForm s n ((1, t) ∷ []) f × AllTerms f (λ u. IsAtMost s u t))
+    × ((e : List (ℕ × Tree ℕ)) → AllTerms e (IsShuffleTree s.arity n) → (f : List (ℕ × Tree ℕ)) × IsShuffleNormalForm s n e f
     × ((t : Tree ℕ) → AllTerms e (λ u. IsAtMost s u t) → AllTerms f (λ u. IsAtMost s u t)))
 
 -- A free tree leads no sum in the span, where S-elements reduce; and a shuffle tree that leads none is free, where 1 isn't 0.
@@ -44,5 +44,5 @@ abbrev pub OneNormalForm : Type 0
 OneNormalForm = (labels : ℕ) (s : Setting) → AreLabels labels s.arity → IsTreeOrder s.arity s.compare → AreMonic s
     → (N n : ℕ) → SElementsReduce s N → n ≤ N
     → ((e : List (ℕ × Tree ℕ)) → AllTerms e (IsShuffleTree s.arity n)
-    → (f : List (ℕ × Tree ℕ)) × IsNormalForm s n e f × ((g : List (ℕ × Tree ℕ)) → IsNormalForm s n e g → Same tree_discrete s.q f g))
-    × ((d e f g : List (ℕ × Tree ℕ)) → IsNormalForm s n d f → IsNormalForm s n e g → InSpan s n (d ++ scale s.q e) ↔ Same tree_discrete s.q f g)
+    → (f : List (ℕ × Tree ℕ)) × IsShuffleNormalForm s n e f × ((g : List (ℕ × Tree ℕ)) → IsShuffleNormalForm s n e g → Same tree_discrete s.q f g))
+    × ((d e f g : List (ℕ × Tree ℕ)) → IsShuffleNormalForm s n d f → IsShuffleNormalForm s n e g → InSpan s n (d ++ scale s.q e) ↔ Same tree_discrete s.q f g)

@@ -18,7 +18,7 @@ use Rattle.operad_ideals.proofs.Spellings.{least_leaves-spelled_row}
 use Rattle.shuffle_insertions.specs.ShuffleTrees.{least}
 use Rattle.shuffle_transfer.specs.ShuffleForms.{ranks, form_row}
 use Rattle.shuffle_transfer.specs.Labels.{label, shuffle_form}
-use Rattle.shuffle_transfer.proofs.Back.{form_row-row}
+use Rattle.shuffle_transfer.proofs.TreesOfShuffleTrees.{form_row-row}
 use Rattle.shuffle_transfer.proofs.Forms.{forms_apart}
 use Rattle.shuffle_transfer.proofs.Signs.{keys-form}
 use Rattle.symmetric_trees.specs.Generators.{parts_at, generators_of}

@@ -28,7 +28,7 @@ as_many s a f (w ∷ ws) (suc n) e h = ap₂ (λ x xs. x ∷ xs) (sym h) (as_man
 
 -- the arities, kind by kind, are those of the letters
 kinds_letters : (s : ℕ) (f : ℕ → ℕ) (gens : List Generator) → ((i : ℕ) (g : Generator) → Rattle.std.proofs.Common.slice_get gens i ≡ Some g → f (s + i) ≡ g.arity)
-    → kinds.labels_of (map kind_in gens) ≡ map (λ (x : Letter). f x.gen) (letters s (generators_of gens))
+    → kinds.labels_of_kinds (map kind_in gens) ≡ map (λ (x : Letter). f x.gen) (letters s (generators_of gens))
 kinds_letters s f [] h = refl
 kinds_letters s f (g ∷ gs) h =
     let z : s + 0 ≡ s = omega arith in
@@ -37,11 +37,11 @@ kinds_letters s f (g ∷ gs) h =
     (kinds_letters (suc s) f gs (λ i x e. let n : suc s + i ≡ s + suc i = omega arith in ap f n ∙ h (suc i) x e))
     ∙ sym (map-append (λ (x : Letter). f x.gen) (map (lettered s) (words_of (map part_of g.parts))) (letters (suc s) (generators_of gs)))
 
-pub table_letters : (gens : List Generator) → IsTable gens → kinds.labels_of (map kind_in gens) ≡ map (λ (x : Letter). arity (parts_at gens) x.gen) (letters 0 (generators_of gens))
+pub table_letters : (gens : List Generator) → IsTable gens → kinds.labels_of_kinds (map kind_in gens) ≡ map (λ (x : Letter). arity (parts_at gens) x.gen) (letters 0 (generators_of gens))
 table_letters gens table = kinds_letters 0 (arity (parts_at gens)) gens
     (λ i g e. let z : 0 + i ≡ i = omega arith in ap (arity (parts_at gens)) z ∙ arity-held gens i g table (slice_get_within gens i g e) e)
 
-pub are_labels : (gens : List Generator) → IsTable gens → AreLabelsOf gens (kinds.labels_of (map kind_in gens))
+pub are_labels : (gens : List Generator) → IsTable gens → AreLabelsOf gens (kinds.labels_of_kinds (map kind_in gens))
 are_labels gens table =
     let f : Letter → ℕ = λ x. arity (parts_at gens) x.gen in
     let none : Letter = lettered (length (generators_of gens)) [] in
@@ -54,12 +54,12 @@ are_labels gens table =
           ∙ get_or-map f (letters 0 (generators_of gens)) l none ∙ ap f (sym (at_is none l (letters 0 (generators_of gens))));
     }
 
-all_kinds : (gens : List Generator) → AllByRecursion (λ (g : Generator). IsArity g.arity) gens → All (λ a. (2 ≤ a) × (a ≤ 6)) (kinds.labels_of (map kind_in gens))
+all_kinds : (gens : List Generator) → AllByRecursion (λ (g : Generator). IsArity g.arity) gens → All (λ a. (2 ≤ a) × (a ≤ 6)) (kinds.labels_of_kinds (map kind_in gens))
 all_kinds [] h = All-nil (λ a. (2 ≤ a) × (a ≤ 6))
-all_kinds (g ∷ gs) h = All-append (λ a. (2 ≤ a) × (a ≤ 6)) (replicate (endings (bounds_in g) 0) g.arity) (kinds.labels_of (map kind_in gs))
+all_kinds (g ∷ gs) h = All-append (λ a. (2 ≤ a) × (a ≤ 6)) (replicate (endings (bounds_in g) 0) g.arity) (kinds.labels_of_kinds (map kind_in gs))
     (All-replicate (λ a. (2 ≤ a) × (a ≤ 6)) (endings (bounds_in g) 0) g.arity h.0) (all_kinds gs h.1)
 
-pub few_labels : (gens : List Generator) → IsTable gens → AreFew (kinds.labels_of (map kind_in gens))
+pub few_labels : (gens : List Generator) → IsTable gens → AreFew (kinds.labels_of_kinds (map kind_in gens))
 few_labels gens table =
     let n = length-generators gens in
     let count = (are_labels gens table).count in

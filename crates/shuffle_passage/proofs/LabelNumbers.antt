@@ -27,7 +27,7 @@ use Rattle.shuffle_transfer.proofs.Orderings.{ordering_permutes}
 use Rattle.shuffle_transfer.proofs.Permutes.{Permutes, done, begin, Picked, now, later, pick_mem, rest_rises}
 use Rattle.shuffle_transfer.proofs.Ranks.{every_mem, below_cons, below_mono, below_less_mem, ranks_ordering, ordering_apart, items_all}
 use Rattle.shuffle_transfer.proofs.Words.{parts_same, sorted_rises, sorted_ordering}
-use Rattle.shuffle_passage.specs.Words.{bounds_of, first_place, sum_from, endings, word_number, digits, Place, find_place, digits_of, without, chosen, first_label}
+use Rattle.shuffle_passage.specs.Words.{bounds_of, first_place, sum_from, endings, word_number, digits, FoundPlace, find_place, digits_of, without, chosen, first_label}
 use Rattle.shuffle_passage.proofs.WordLists.{AreDigits, word_number-below, word_at}
 use Rattle.shuffle_passage.proofs.WordBounds.{keeps, parts_keep, length-bounds, words_are, count_words}
 
@@ -202,7 +202,7 @@ label_of_keys generators g ks l e apart =
 
 -- ---- the word with a number
 
-pub record Finds (f : ℕ → ℕ) (a n m : ℕ) (s : Place) : Type 0 where
+pub record Finds (f : ℕ → ℕ) (a n m : ℕ) (s : FoundPlace) : Type 0 where
   pub low : a ≤ s.at
   pub high : s.at < a + m
   pub sum : sum_from f a (s.at - a) + s.over ≡ n
@@ -212,7 +212,7 @@ finds_here : (f : ℕ → ℕ) (a n m : ℕ) → n < f a → 0 < m → Finds f a
 finds_here f a n m h l = let z : a - a ≡ 0 = omega arith in
     record { low = omega arith; high = omega (arith, l); sum = ap (λ k. sum_from f a k + n) z ∙ omega arith; rest = h }
 
-finds_later : (f : ℕ → ℕ) (a n m : ℕ) (s : Place) → f a ≤ n → Finds f (suc a) (n - f a) m s → Finds f a n (suc m) s
+finds_later : (f : ℕ → ℕ) (a n m : ℕ) (s : FoundPlace) → f a ≤ n → Finds f (suc a) (n - f a) m s → Finds f a n (suc m) s
 finds_later f a n m s h k =
     let z : s.at - a ≡ suc (s.at - suc a) = let l = k.low in omega (arith, l) in
     record {

@@ -10,7 +10,7 @@ use Rattle.operad_ideals.proofs.Spellings.{one_spelling, is_sorted_spelled}
 use Rattle.shuffle_insertions.specs.ShuffleTrees.{IsShuffle, IsShuffleTree}
 use Rattle.shuffle_insertions.proofs.LabelSums.{once_of}
 use Rattle.shuffle_transfer.specs.Labels.{inputs_of, shuffle_form, symmetric_tree}
-use Rattle.shuffle_transfer.proofs.Forth as passage
+use Rattle.shuffle_transfer.proofs.ShuffleFormsFit as passage
 use Rattle.shuffle_transfer.proofs.Spelling.{back_of, occurs_of, spelled_is}
 use Rattle.shuffle_trees.specs.ValidTrees.{IsValid}
 use Rattle.symmetric_trees.specs.Generators.{parts_at, generators_of}

@@ -18,7 +18,7 @@ use Rattle.operad_ideals.proofs.Spellings.{sorted_spelling}
 use Rattle.shuffle_insertions.specs.Frames.{insert}
 use Rattle.shuffle_transfer.specs.Labels.{shuffle_form}
 use Rattle.shuffle_transfer.specs.Transfer.{relabelled, shuffled, RelationInsertion, inserted_relation}
-use Rattle.shuffle_transfer.proofs.Forth.{spelling}
+use Rattle.shuffle_transfer.proofs.ShuffleFormsFit.{spelling}
 use Rattle.shuffle_transfer.proofs.TransferLaw.{transfer_law, labelled-relabelled}
 use Rattle.operad_ideals.specs.Collected.{IsCollected}
 use Rattle.symmetric_sums.specs.Membership.{relation_of, presentation_of, IsElement}

@@ -17,7 +17,7 @@ use Rattle.labelled_trees.proofs.ProgramTrees.{tree_of-leaf, tree_of-node, fits-
 use Rattle.labelled_trees.proofs.Rows.{inputs-row}
 use Rattle.operad_ideals.specs.Laws.{arity}
 use Rattle.shuffle_transfer.specs.Labels.{gen, word, inputs_of, symmetric_tree}
-use Rattle.shuffle_transfer.proofs.Back.{to_symmetric_row-map}
+use Rattle.shuffle_transfer.proofs.TreesOfShuffleTrees.{to_symmetric_row-map}
 use Rattle.shuffle_insertions.specs.Listing.{upto}
 use Rattle.symmetric_trees.specs.Generators.{parts_at, generators_of}
 use Rattle.symmetric_trees.specs.declared.generators.Generator.{Generator}

@@ -26,7 +26,7 @@ pub record RenamedTo (generators : List Generator) (n : ℕ) (leaves : List (Tre
   pub labelled : IsLabelled generators n (tree_of last.tree)
 
 -- The sum is the collected form of the terms in which leaf i became the i-th number of the list.
-pub record IsRelabelling (p : ℕ) (generators : List Generator) (terms : List Term) (v : List ℕ) (sum : List Term) : Type 0 where
+pub record IsRelabelledSum (p : ℕ) (generators : List Generator) (terms : List Term) (v : List ℕ) (sum : List Term) : Type 0 where
   pub collected : IsCollected p (parts_at generators) (relabelled v (terms_of terms)) (terms_of sum)
   pub residues : HaveResidues p sum
   pub labelled : (n : ℕ) → HaveArity n terms → 0 < length terms → All (λ term. IsLabelled generators n (tree_of term.tree)) sum

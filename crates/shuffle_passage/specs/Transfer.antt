@@ -2,7 +2,7 @@
 use Rattle.std.specs.Prelude.{ℕ, ◌-◌, ◌↔◌, List}
 use Rattle.std.specs.List.{All}
 use Rattle.modular_sums.specs.Lists.{Mem}
-use Rattle.modular_sums.specs.Sums.{Member, moved, AllTerms}
+use Rattle.modular_sums.specs.Sums.{IsLinearCombination, moved, AllTerms}
 use Rattle.labelled_trees.specs.Trees.{Tree}
 use Rattle.labelled_trees.specs.Equality.{tree_discrete}
 use Rattle.shuffle_insertions.specs.Frames.{insert}
@@ -33,4 +33,4 @@ TransferOfAnswers = (q : ℕ) (generators : List Generator) (rels : List (List T
     → All (λ rel. IsElement generators (terms_of rel)) rels → AllTerms e (IsLabelled generators n) → IsCollected q (parts_at generators) e f
     → ((rel : List Term) → Mem rel rels → AreRelabellings q generators (relation_of rel) (answer (relation_of rel)))
     → InIdeal (presentation_of q generators rels) n e
-    ↔ Member tree_discrete (inserted_answer (presentation_of q generators rels) n answer) (q - 1) (shuffled (presentation_of q generators rels) f)
+    ↔ IsLinearCombination tree_discrete (inserted_answer (presentation_of q generators rels) n answer) (q - 1) (shuffled (presentation_of q generators rels) f)

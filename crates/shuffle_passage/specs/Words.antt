@@ -45,12 +45,12 @@ word_number (b ∷ bs) below [] = 0
 word_number (b ∷ bs) below (d ∷ ds) = sum_from (endings bs) (first_place b below) (d - first_place b below) + word_number bs d ds
 
 -- a place, and what is left of a number
-pub record Place : Type 0 where
+pub record FoundPlace : Type 0 where
   pub at : ℕ
   pub over : ℕ
 
 -- the first place from `a` on whose endings, with those of the places before it, are more than n
-abbrev pub find_place : (ℕ → ℕ) → ℕ → ℕ → ℕ → Place
+abbrev pub find_place : (ℕ → ℕ) → ℕ → ℕ → ℕ → FoundPlace
 find_place f a n zero = record { at = a; over = n }
 find_place f a n (suc k) = cond (nat_lt n (f a)) (record { at = a; over = n }) (find_place f (suc a) (n - f a) k)
 

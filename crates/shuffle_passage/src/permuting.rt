@@ -3,7 +3,7 @@ ghost use Rattle.std.specs.List.{All};
 ghost use Rattle.shuffle_insertions.specs.Listing.{upto};
 ghost use Rattle.shuffle_transfer.specs.Orderings.{orderings};
 ghost use Rattle.symmetric_sums.specs.Terms.{FitsOver, HaveArity};
-ghost use Rattle.shuffle_passage.specs.RelabelledSums.{IsRelabelling};
+ghost use Rattle.shuffle_passage.specs.RelabelledSums.{IsRelabelledSum};
 
 use crate::relabelling::relabelled;
 use itertools::Itertools;
@@ -42,7 +42,7 @@ pub fn relabellings(
     requires fits { FitsOver field table.now rel.now }
     ensures none { rel.now ≡ [] → IfOk result (λ found. found ≡ []) }
     ensures permutations { (n : ℕ) → 0 < length rel.now → HaveArity n rel.now → IfOk result (λ found. map (λ answer. answer.permutation) found ≡ orderings n) }
-    ensures sums { IfOk result (All (λ answer. IsRelabelling field table.now rel.now answer.permutation answer.sum)) }
+    ensures sums { IfOk result (All (λ answer. IsRelabelledSum field table.now rel.now answer.permutation answer.sum)) }
 {
     let mut found = Items::new(alloc);
     let Some(arity) = rel.arity() else {

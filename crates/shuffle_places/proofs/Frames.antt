@@ -18,7 +18,7 @@ use Rattle.modular_sums.specs.Lists.{Mem}
 use Rattle.shuffle_insertions.proofs.Counted.{times_mem, mem_times}
 use Rattle.shuffle_insertions.proofs.TreeOrders.{length_leaves, leaves_count}
 use Rattle.shuffle_insertions.proofs.Frames.{frame_of}
-use Rattle.shuffle_places.specs.Places.{divisor_of, of_rank, inputs_of, frame_at}
+use Rattle.shuffle_places.specs.Places.{divisor_of, of_rank, pattern_inputs, frame_at}
 use Rattle.shuffle_places.proofs.RankedParts.{Ranked, ranked}
 use Rattle.shuffle_places.proofs.Places.{of_pattern}
 use Rattle.shuffle_places.specs.Cuts.{numbers, numbers_row, start, IsCut}
@@ -95,7 +95,7 @@ module _ (m : ℕ) (f : Slot) (d : Tree ℕ) (hd : IsShuffle m d) (rise : PartsR
   of_leaves j h = hd.only j (let k = mem_times ℕ_discrete j (leaves d) h in let e = times-leaves j d in omega (arith, k, e))
 
   -- the inputs at the place of a slot
-  inputs_are : inputs_of (graft d (λ i. leaf (f.parts i))) ≡ listed f.parts 0 m
+  inputs_are : pattern_inputs (graft d (λ i. leaf (f.parts i))) ≡ listed f.parts 0 m
   inputs_are =
       ap (λ c. listed (of_rank (graft (graft d (λ i. leaf (f.parts i))) (λ v. leaf (least v))) (leaves (graft d (λ i. leaf (f.parts i))))) 0 c)
       (sum_leaves-graft d (λ i. leaf (f.parts i)) (λ v. 1) ∙ sym (length_leaves d) ∙ leaves_count m d hd)
@@ -111,7 +111,7 @@ module _ (m : ℕ) (f : Slot) (d : Tree ℕ) (hd : IsShuffle m d) (rise : PartsR
       let o = of_pattern f.context (graft d (λ i. leaf (f.parts i))) (still_node d f.parts n) in
       let host : fill_slot f d ≡ fill f.context (join (graft d (λ i. leaf (f.parts i)))) = ap (fill f.context) (sym (graft_assoc d (λ i. leaf (f.parts i)) (λ v. v))) in
       let set : numbers f.parts (start 1 f.context) d ≡ numbers (λ v. v) (start 1 f.context) (graft d (λ i. leaf (f.parts i))) = sym (numbers-graft d f.parts (λ v. v) (start 1 f.context)) in
-      ap₂ frame_at set host ∙ ap₂ (λ h l. record { hole = h; inputs = l }) o.1 (ap inputs_of o.0 ∙ inputs_are)
+      ap₂ frame_at set host ∙ ap₂ (λ h l. record { hole = h; inputs = l }) o.1 (ap pattern_inputs o.0 ∙ inputs_are)
 
 -- the frame at a place
 pub record SlotAt (host : Tree ℕ) (set : List ℕ) (divisor : Tree ℕ) : Type 0 where

@@ -11,7 +11,7 @@ use Rattle.labelled_trees.proofs.Insertions.{put-fill}
 use Rattle.labelled_trees.proofs.ContextLeaves.{zero_once}
 use Rattle.shuffle_insertions.specs.Frames.{insert}
 use Rattle.shuffle_places.specs.Cuts.{numbers, start, start_row, IsCut}
-use Rattle.shuffle_places.specs.Places.{divisor_of, inputs_of, frame_at, IsPlace}
+use Rattle.shuffle_places.specs.Places.{divisor_of, pattern_inputs, frame_at, IsPlace}
 use Rattle.shuffle_places.proofs.Places.{of_pattern, place_of_cut, cut_of_place}
 use Rattle.shuffle_places.proofs.Covers.{root_mem}
 use Rattle.shuffle_places.specs.RootPlaces.{IsInInput, count_before, shifted}
@@ -19,19 +19,19 @@ use Rattle.shuffle_places.proofs.Shifts.{numbers-shift, start-shift, among, fill
 
 -- the frame at a place that a context and a pattern make
 pub frame_of_cut : (c : Ctx ℕ) (p : Tree (Tree ℕ)) → IsNode p
-    → frame_at (numbers (λ v. v) (start 1 c) p) (fill c (join p)) ≡ record { hole = fill c (leaf 0); inputs = inputs_of p }
-frame_of_cut c p n = let o = of_pattern c p n in ap₂ (λ h q. record { hole = h; inputs = inputs_of q }) o.1 o.0
+    → frame_at (numbers (λ v. v) (start 1 c) p) (fill c (join p)) ≡ record { hole = fill c (leaf 0); inputs = pattern_inputs p }
+frame_of_cut c p n = let o = of_pattern c p n in ap₂ (λ h q. record { hole = h; inputs = pattern_inputs q }) o.1 o.0
 
 -- insertion at such a place
 pub insert_at_cut : (c : Ctx ℕ) (p : Tree (Tree ℕ)) → IsNode p → occurs 0 (fill c (join p)) ≡ 0 → (y : Tree ℕ)
-    → insert (frame_at (numbers (λ v. v) (start 1 c) p) (fill c (join p))) y ≡ fill c (graft y (item (inputs_of p)))
+    → insert (frame_at (numbers (λ v. v) (start 1 c) p) (fill c (join p))) y ≡ fill c (graft y (item (pattern_inputs p)))
 insert_at_cut c p n z y =
     ap (λ f. insert f y) (frame_of_cut c p n)
-    ∙ put-fill c (graft y (item (inputs_of p))) (let o = (zero_once c (join p) z).0 in omega (arith, o))
+    ∙ put-fill c (graft y (item (pattern_inputs p))) (let o = (zero_once c (join p) z).0 in omega (arith, o))
 
 -- a tree and a set of vertices that a context and a pattern make
 insert_at : (t : Tree ℕ) (set : List ℕ) (c : Ctx ℕ) (p : Tree (Tree ℕ)) → IsNode p → t ≡ fill c (join p) → set ≡ numbers (λ v. v) (start 1 c) p → occurs 0 t ≡ 0 → (y : Tree ℕ)
-    → insert (frame_at set t) y ≡ fill c (graft y (item (inputs_of p)))
+    → insert (frame_at set t) y ≡ fill c (graft y (item (pattern_inputs p)))
 insert_at t set c p n e f z y = ap (λ g. insert g y) (ap₂ frame_at f e) ∙ insert_at_cut c p n (ap (occurs 0) (sym e) ∙ z) y
 
 -- the numbers of an input's pattern are shifted ones
@@ -65,7 +65,7 @@ module _ (l : ℕ) (front : List (Tree ℕ)) (t : Tree ℕ) (back : List (Tree �
       insert_at (node l (row (front ++ (t ∷ back)))) (shifted (count_before front) set) (inside l (among front p.context back)) p.pattern_at p.is_node
       (ap (λ x. node l (row (front ++ (x ∷ back)))) p.host_is ∙ ap (node l) (sym (fill_row-among front p.context back (join p.pattern_at))))
       (ap (shifted (count_before front)) p.set_is ∙ sym (among_numbers front p.context back p.pattern_at)) z y
-      ∙ ap (node l) (fill_row-among front p.context back (graft y (item (inputs_of p.pattern_at))))
+      ∙ ap (node l) (fill_row-among front p.context back (graft y (item (pattern_inputs p.pattern_at))))
       ∙ ap (λ x. node l (row (front ++ (x ∷ back)))) (sym (insert_at t set p.context p.pattern_at p.is_node p.host_is p.set_is w y))
 
 -- ---- each place has the root or lies in an input

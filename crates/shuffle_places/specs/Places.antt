@@ -67,12 +67,12 @@ of_rank keys [] i = leaf 0
 of_rank keys (v ∷ l) i = choose (ℕ_discrete (suc (below (least v) keys)) i) v (of_rank keys l i)
 
 -- the trees at the leaves, by ascending least leaves
-abbrev pub inputs_of : Tree (Tree ℕ) → List (Tree ℕ)
-inputs_of q = listed (of_rank (graft q (λ v. leaf (least v))) (leaves q)) 0 (leaf_count q)
+abbrev pub pattern_inputs : Tree (Tree ℕ) → List (Tree ℕ)
+pattern_inputs q = listed (of_rank (graft q (λ v. leaf (least v))) (leaves q)) 0 (leaf_count q)
 
 -- The frame at a place: leaf 0 stands for the place, and the inputs are the trees that hang below it, by ascending least leaves.
 abbrev pub frame_at : List ℕ → Tree ℕ → Frame
-frame_at set t = record { hole = hole_at set 1 t; inputs = inputs_of (at_place set t) }
+frame_at set t = record { hole = hole_at set 1 t; inputs = pattern_inputs (at_place set t) }
 
 -- A place with divisor d in a tree: a connected set of vertices, numbered in preorder, whose divisor is d.
 pub record IsPlace (t : Tree ℕ) (set : List ℕ) (d : Tree ℕ) : Type 0 where

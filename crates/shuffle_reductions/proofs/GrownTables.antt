@@ -19,9 +19,9 @@ use Rattle.shuffle_bases.specs.Elements.{Element, terms, Setting, AreMonic, Inse
 use Rattle.shuffle_normal_forms.specs.FreeTrees.{IsFree}
 use Rattle.shuffle_reductions.proofs.Laws.{whole_insertions}
 use Rattle.modular_sums.specs.RuleTables.{Table, HasRule, IsUnruled}
-use Rattle.shuffle_reductions.specs.Swept.{tree_in, over, IsRuleOf, IsTableOver}
-use Rattle.shuffle_reductions.specs.Extensions.{over as with_elements}
-use Rattle.shuffle_reductions.specs.TableGrowth.{AreAlike, IsElementOf, IsChanged, AreValid, TablesChange, TablesGrow}
+use Rattle.shuffle_reductions.specs.Swept.{tree_in, on_trees, IsRuleOf, IsTableOver}
+use Rattle.shuffle_reductions.specs.Extensions.{with_elements as with_elements}
+use Rattle.shuffle_reductions.specs.TableGrowth.{AreOneInsertion, IsElementAtPosition, IsChanged, AreValid, TablesChange, TablesGrow}
 use Rattle.shuffle_reductions.proofs.SweptStanding.{one_position}
 
 module _ {X : Type 0} where
@@ -68,7 +68,7 @@ picked f (Some a) = f a
 
 module _ (s : Setting) (order : IsTreeOrder s.arity s.compare) (monic_before : AreMonic s) (n : ℕ) (trees : List (Tree ℕ)) (insertions : List (Option (Insertion s n))) (table : Table)
     (t : IsTableOver s n trees insertions table) (valid : AreValid s n trees) (l : List Element) (monic : AreMonic (with_elements s l)) (at : ℕ) (at_trees : at < length trees)
-    (g : Element) (there : Mem g l) (tail : List (ℕ × ℕ)) (el : IsElementOf s n trees at tail g)
+    (g : Element) (there : Mem g l) (tail : List (ℕ × ℕ)) (el : IsElementAtPosition s n trees at tail g)
     (old : (h : Element) → Mem h s.elements → Mem h l ⊎ ((h.arity ≡ n) × (h.lead ≡ tree_in trees at))) (new : (h : Element) → Mem h l → Mem h s.elements ⊎ (h ≡ g)) where
   abbrev s_now : Setting
   s_now = with_elements s l
@@ -99,7 +99,7 @@ module _ (s : Setting) (order : IsTreeOrder s.arity s.compare) (monic_before : A
   now_there = slice_get-set_same (map (picked pick) insertions) at (Some whole.0) (subst (λ m. at < m) (sym (map_length (picked pick) insertions ∙ t.aligned)) at_trees)
 
   abbrev Kept : ℕ → Insertion s n → Type 0
-  Kept k i = (j : Now) × (slice_get now k ≡ Some (Some j)) × AreAlike i j × (value_of j ≡ value_of i)
+  Kept k i = (j : Now) × (slice_get now k ≡ Some (Some j)) × AreOneInsertion i j × (value_of j ≡ value_of i)
 
   -- an insertion in another tree is kept
   kept_other : (k : ℕ) (i : Insertion s n) → k ≢ at → k < length trees → i.tree ≡ tree_in trees k → slice_get insertions k ≡ Some (Some i) → Kept k i
@@ -128,8 +128,8 @@ module _ (s : Setting) (order : IsTreeOrder s.arity s.compare) (monic_before : A
   rule_of_whole : IsRuleOf s_now n trees at tail whole.0
   rule_of_whole = record {
     tree = whole.2 ∙ el.lead;
-    value = subst (λ e. Same tree_discrete s.q e (over trees ((1, at) ∷ tail))) (sym whole.3)
-        (subst (λ u. Same tree_discrete s.q ((1, u) ∷ g.tail) (over trees ((1, at) ∷ tail))) (sym el.lead) (same_behind tree_discrete s.q (1, tree_in trees at) g.tail (over trees tail) el.tail_there));
+    value = subst (λ e. Same tree_discrete s.q e (on_trees trees ((1, at) ∷ tail))) (sym whole.3)
+        (subst (λ u. Same tree_discrete s.q ((1, u) ∷ g.tail) (on_trees trees ((1, at) ∷ tail))) (sym el.lead) (same_behind tree_discrete s.q (1, tree_in trees at) g.tail (on_trees trees tail) el.tail_there));
   }
 
   lower_now : (k : ℕ) (other : List (ℕ × ℕ)) → HasRule table_now k other → AllTerms other (λ j. j < k)
@@ -147,7 +147,7 @@ module _ (s : Setting) (order : IsTreeOrder s.arity s.compare) (monic_before : A
       let r = t.ruled k other h in
       let lt : k < length trees = subst (λ m. k < m) t.sized (slice_get_within table k (Some other) h) in
       let j = kept_other k r.0 ne lt r.2.tree r.1 in
-      (j.0, j.1, record { tree = sym j.2.tree ∙ r.2.tree; value = subst (λ e. Same tree_discrete s.q e (over trees ((1, k) ∷ other))) (sym j.3) r.2.value })
+      (j.0, j.1, record { tree = sym j.2.tree ∙ r.2.tree; value = subst (λ e. Same tree_discrete s.q e (on_trees trees ((1, k) ∷ other))) (sym j.3) r.2.value })
 
   ruled_now : (k : ℕ) (other : List (ℕ × ℕ)) → HasRule table_now k other → Goal k other
   ruled_now k other h = go (ℕ_discrete k at)

@@ -13,7 +13,7 @@ use Rattle.shuffle_places.proofs.Examples.{top_two}
 use Rattle.shuffle_bases.specs.Elements.{Element, IsMonic, AreMonic, Insertion, value_of}
 use Rattle.shuffle_bases.proofs.Examples.{jacobi, setting, monic}
 use Rattle.modular_sums.specs.Lists.{Mem}
-use Rattle.shuffle_reductions.specs.Extensions.{over as with_elements}
+use Rattle.shuffle_reductions.specs.Extensions.{with_elements as with_elements}
 use Rattle.shuffle_reductions.proofs.Laws.{lists_grow, elements_extend_themselves}
 use Rattle.shuffle_reductions.specs.TableGrowth.{IsChanged, AreValid}
 use Rattle.shuffle_reductions.proofs.GrownTables.{tables_change_lem, tables_grow_lem}
@@ -23,8 +23,8 @@ use Rattle.shuffle_normal_forms.proofs.Examples.{free_at}
 use Rattle.shuffle_reductions.specs.Chains.{IsChain, IsFinished}
 use Rattle.shuffle_reductions.proofs.Standing.{has_all}
 use Rattle.modular_sums.specs.RuleTables.{Table, HasRule, IsRuled, IsUnruled, rule_at}
-use Rattle.modular_sums.specs.PositionChains.{IsChain as IsChainThere, IsFinished as IsFinishedThere}
-use Rattle.shuffle_reductions.specs.Swept.{tree_in, over, RisesBy, IsRuleOf, IsTableOver, AreUses}
+use Rattle.modular_sums.specs.PositionChains.{IsPositionChain as IsChainThere, HasNoRuledPosition as IsFinishedThere}
+use Rattle.shuffle_reductions.specs.Swept.{tree_in, on_trees, RisesBy, IsRuleOf, IsTableOver, AreUses}
 use Rattle.shuffle_reductions.proofs.SweptThrough.{swept}
 
 abbrev sorted : List (Tree ℕ)
@@ -60,7 +60,7 @@ rising (suc (suc i)) (suc (suc (suc j))) h k = absurd (omega arith)
 
 the_rule : IsRuleOf setting 3 sorted 2 tail whole
 unfolding whole coef ℕ_discrete tree_discrete tree_discrete_by row_discrete_by same_leaf same_node same_more
-the_rule = record { tree = refl; value = same_if_agree tree_discrete 100 (value_of whole) (over sorted ((1, 2) ∷ tail)) refl }
+the_rule = record { tree = refl; value = same_if_agree tree_discrete 100 (value_of whole) (on_trees sorted ((1, 2) ∷ tail)) refl }
 
 one_tail : (other : List (ℕ × ℕ)) → Some (Some tail) ≡ Some (Some other) → tail ≡ other
 one_tail other h = cc
@@ -110,10 +110,10 @@ finished_there : IsFinishedThere 100 table last
 finished_there t m r = has_all ℕ_discrete 100 (λ u. IsRuled table u → ⊥) last ((λ k. cc (k.1)), ((λ k. cc (k.1)), tt)) t m r
 
 -- is one of the insertion
-through : (uses : List (ℕ × Insertion setting 3)) × AreUses insertions ((1, 2) ∷ []) uses × IsChain setting 3 (over sorted first) uses (over sorted last)
+through : (uses : List (ℕ × Insertion setting 3)) × AreUses insertions ((1, 2) ∷ []) uses × IsChain setting 3 (on_trees sorted first) uses (on_trees sorted last)
 through = (swept setting by_path 3 sorted insertions table the_table).chain first ((1, 2) ∷ []) last (omega arith, tt) there
 
-finished : IsFinished setting (over sorted last)
+finished : IsFinished setting (on_trees sorted last)
 finished = (swept setting by_path 3 sorted insertions table the_table).finished last (omega arith, (omega arith, tt)) finished_there
 
 -- ---- t2 alone is found as an element, and becomes the rule of position 1

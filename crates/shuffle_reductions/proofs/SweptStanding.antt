@@ -6,7 +6,7 @@ use Rattle.std.specs.declared.cmp.Ordering.TheVariants.{Less, Equal, Greater}
 use Rattle.std.specs.Ordering.{ordering_reverse}
 use Rattle.std.specs.List.{slice_get}
 use Rattle.std.proofs.lemmas.Option.{slice_get-get_or}
-use Rattle.modular_sums.specs.Residues.{Alike}
+use Rattle.modular_sums.specs.Residues.{IsCongruent}
 use Rattle.modular_sums.specs.Sums.{hit, coef, AllTerms}
 use Rattle.modular_sums.proofs.Sums.{AllTerms-moved, hit-yes, hit-no}
 use Rattle.modular_sums.proofs.Images.{AllTerms-imp}
@@ -16,7 +16,7 @@ use Rattle.shuffle_insertions.specs.Orders.{IsTreeOrder}
 use Rattle.shuffle_bases.specs.Elements.{Setting, IsLess}
 use Rattle.shuffle_reductions.proofs.Standing.{has_all}
 use Rattle.modular_sums.specs.RuleTables.{Table, IsRuled, IsUnruled}
-use Rattle.shuffle_reductions.specs.Swept.{tree_in, over, RisesBy, IsWithin}
+use Rattle.shuffle_reductions.specs.Swept.{tree_in, on_trees, RisesBy, IsOnPositions}
 
 -- a position of a table has a rule or has none
 pub ruled_or_not : (table : Table) (k : ℕ) → k < length table → IsRuled table k ⊎ IsUnruled table k
@@ -60,7 +60,7 @@ module _ (s : Setting) (order : IsTreeOrder s.arity s.compare) (trees : List (Tr
       go (no n) = hit-no (tree_discrete (tree_in trees j) (tree_in trees k)) c (λ e. n (one_position j k hj hk e))
 
   -- a tree has the coefficient of its position
-  pub coef-over : (e : List (ℕ × ℕ)) (k : ℕ) → IsWithin trees e → k < length trees → coef tree_discrete (over trees e) (tree_in trees k) ≡ coef ℕ_discrete e k
+  pub coef-over : (e : List (ℕ × ℕ)) (k : ℕ) → IsOnPositions trees e → k < length trees → coef tree_discrete (on_trees trees e) (tree_in trees k) ≡ coef ℕ_discrete e k
   unfolding coef
   coef-over [] k h hk = refl
   coef-over (x ∷ e) k h hk = rw (same_hit x.0 x.1 k h.0 hk, coef-over e k h.1 hk) refl
@@ -69,21 +69,21 @@ module _ (s : Setting) (order : IsTreeOrder s.arity s.compare) (trees : List (Tr
   abbrev IsIn : Tree ℕ → Type 0
   IsIn t = (k : ℕ) × (k < length trees) × (tree_in trees k ≡ t)
 
-  all_in : (e : List (ℕ × ℕ)) → IsWithin trees e → AllTerms (over trees e) IsIn
+  all_in : (e : List (ℕ × ℕ)) → IsOnPositions trees e → AllTerms (on_trees trees e) IsIn
   all_in e h = AllTerms-moved (tree_in trees) e IsIn (AllTerms-imp (λ t. t < length trees) (λ t. IsIn (tree_in trees t)) e (λ k lt. (k, lt, refl)) h)
 
   -- what stands in the sum of trees is the tree of a position that stands in the sum
-  pub position_of : (e : List (ℕ × ℕ)) → IsWithin trees e → (t : Tree ℕ) → (Alike s.q (coef tree_discrete (over trees e) t) 0 → ⊥)
-      → (k : ℕ) × (k < length trees) × (tree_in trees k ≡ t) × (Alike s.q (coef ℕ_discrete e k) 0 → ⊥)
+  pub position_of : (e : List (ℕ × ℕ)) → IsOnPositions trees e → (t : Tree ℕ) → (IsCongruent s.q (coef tree_discrete (on_trees trees e) t) 0 → ⊥)
+      → (k : ℕ) × (k < length trees) × (tree_in trees k ≡ t) × (IsCongruent s.q (coef ℕ_discrete e k) 0 → ⊥)
   position_of e h t st =
-      let r : IsIn t = has_all tree_discrete s.q IsIn (over trees e) (all_in e h) t st in (
+      let r : IsIn t = has_all tree_discrete s.q IsIn (on_trees trees e) (all_in e h) t st in (
         r.0,
         r.1,
         r.2,
-        λ z. st (subst (λ u. Alike s.q (coef tree_discrete (over trees e) u) 0) r.2 (rw (coef-over e r.0 h r.1) z)),
+        λ z. st (subst (λ u. IsCongruent s.q (coef tree_discrete (on_trees trees e) u) 0) r.2 (rw (coef-over e r.0 h r.1) z)),
       )
 
   -- and the tree of a position that stands in the sum stands there
-  pub stands_over : (e : List (ℕ × ℕ)) (k : ℕ) → IsWithin trees e → k < length trees → (Alike s.q (coef ℕ_discrete e k) 0 → ⊥)
-      → Alike s.q (coef tree_discrete (over trees e) (tree_in trees k)) 0 → ⊥
+  pub stands_over : (e : List (ℕ × ℕ)) (k : ℕ) → IsOnPositions trees e → k < length trees → (IsCongruent s.q (coef ℕ_discrete e k) 0 → ⊥)
+      → IsCongruent s.q (coef tree_discrete (on_trees trees e) (tree_in trees k)) 0 → ⊥
   stands_over e k h hk st z = st (rw (coef-over e k h hk) at z)

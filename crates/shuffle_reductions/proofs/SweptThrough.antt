@@ -18,8 +18,8 @@ use Rattle.shuffle_reductions.specs.Divided.{IsDivided}
 use Rattle.shuffle_reductions.specs.Chains.{StandsIn, HasNoZeros, IsStep, IsChain, IsFinished, IsStopped}
 use Rattle.shuffle_reductions.proofs.Chains.{first_same}
 use Rattle.modular_sums.specs.RuleTables.{Table, HasRule, IsRuled, IsUnruled, tail_of, rule_at}
-use Rattle.modular_sums.specs.PositionChains.{StandsIn as StandsInThere, HasNoZeros as HasNoZerosThere, IsStep as IsStepThere, IsChain as IsChainThere, IsFinished as IsFinishedThere, IsStopped as IsStoppedThere}
-use Rattle.shuffle_reductions.specs.Swept.{tree_in, over, IsWithin, IsTableOver, AreUses}
+use Rattle.modular_sums.specs.PositionChains.{HasPosition as StandsInThere, HasNoZeroPositions as HasNoZerosThere, IsPositionStep as IsStepThere, IsPositionChain as IsChainThere, HasNoRuledPosition as IsFinishedThere, HasRuledPosition as IsStoppedThere}
+use Rattle.shuffle_reductions.specs.Swept.{tree_in, on_trees, IsOnPositions, IsTableOver, AreUses}
 use Rattle.shuffle_reductions.specs.SweepLaws.{SweptChains}
 use Rattle.shuffle_reductions.proofs.SweptStanding.{ruled_or_not, coef-over, position_of, stands_over}
 
@@ -59,11 +59,11 @@ module _ (s : Setting) (order : IsTreeOrder s.arity s.compare) (n : ℕ) (trees 
       go (yes p) = inl (ap (tree_in trees) p)
       go (no ne) = inr (t.rises j k (omega arith) lt)
 
-  step_over : (e : Sum) (c at : ℕ) → IsWithin trees e → (step : IsStepThere s.q table e c at) → (i : Insertion s n) → i.tree ≡ tree_in trees at → IsStep s n (over trees e) c i
+  step_over : (e : Sum) (c at : ℕ) → IsOnPositions trees e → (step : IsStepThere s.q table e c at) → (i : Insertion s n) → i.tree ≡ tree_in trees at → IsStep s n (on_trees trees e) c i
   step_over e c at h step i p =
       let lt : at < length trees = inside at step.ruled in
       record {
-        there = subst (StandsIn s.q (over trees e)) (sym p) (stands_over s order trees t.rises e at h lt step.there);
+        there = subst (StandsIn s.q (on_trees trees e)) (sym p) (stands_over s order trees t.rises e at h lt step.there);
         greatest = λ u st d. greatest u d (position_of s order trees t.rises e h u st) lt;
         coefficient = rw (p, coef-over s order trees t.rises e at h lt) step.coefficient;
       }
@@ -73,38 +73,38 @@ module _ (s : Setting) (order : IsTreeOrder s.arity s.compare) (n : ℕ) (trees 
           let le : r.0 ≤ at = step.greatest r.0 r.3 (ruled_of_divided r.0 r.1 (subst (IsDivided s) (sym r.2) d)) in
           subst (IsAtMost s u) (sym p) (subst (λ v. IsAtMost s v (tree_in trees at)) r.2 (at_most r.0 at le lt))
 
-  rule_within : (at : ℕ) → IsRuled table at → IsWithin trees (rule_at table at)
+  rule_within : (at : ℕ) → IsRuled table at → IsOnPositions trees (rule_at table at)
   rule_within at r =
       let lt : at < length trees = inside at r in
-      subst (IsWithin trees) (sym (rule_is table at r.0 r.1)) (lt, AllTerms-imp (λ k. k < at) (λ k. k < length trees) r.0 (λ k h. omega arith) (t.lower at r.0 r.1))
+      subst (IsOnPositions trees) (sym (rule_is table at r.0 r.1)) (lt, AllTerms-imp (λ k. k < at) (λ k. k < length trees) r.0 (λ k h. omega arith) (t.lower at r.0 r.1))
 
   -- the sum after a step, over trees
-  over_after : (e : Sum) (c at : ℕ) (tail : Sum) → HasRule table at tail → (i : Insertion s n) → Same tree_discrete s.q (value_of i) (over trees ((1, at) ∷ tail))
-      → Same tree_discrete s.q (over trees e ++ scale c (value_of i)) (over trees (e ++ scale c (rule_at table at)))
+  over_after : (e : Sum) (c at : ℕ) (tail : Sum) → HasRule table at tail → (i : Insertion s n) → Same tree_discrete s.q (value_of i) (on_trees trees ((1, at) ∷ tail))
+      → Same tree_discrete s.q (on_trees trees e ++ scale c (value_of i)) (on_trees trees (e ++ scale c (rule_at table at)))
   over_after e c at tail r i v = rw (rule_is table at tail r, moved-append (tree_in trees) e (scale c ((1, at) ∷ tail)), moved-scale (tree_in trees) c ((1, at) ∷ tail))
-      (same_scaled tree_discrete s.q c (over trees e) (value_of i) (over trees ((1, at) ∷ tail)) v)
+      (same_scaled tree_discrete s.q c (on_trees trees e) (value_of i) (on_trees trees ((1, at) ∷ tail)) v)
 
   abbrev Chain : Sum → Sum → Sum → Type 0
-  Chain e steps f = (uses : List (ℕ × Insertion s n)) × AreUses insertions steps uses × IsChain s n (over trees e) uses (over trees f)
+  Chain e steps f = (uses : List (ℕ × Insertion s n)) × AreUses insertions steps uses × IsChain s n (on_trees trees e) uses (on_trees trees f)
 
-  pub chain_over : (steps e f : Sum) → IsWithin trees e → IsChainThere s.q table e steps f → Chain e steps f
+  pub chain_over : (steps e f : Sum) → IsOnPositions trees e → IsChainThere s.q table e steps f → Chain e steps f
   chain_over [] e f h c = ([], tt, Same-moved ℕ_discrete tree_discrete s.q (tree_in trees) e f c)
   chain_over (x ∷ l) e f h c =
       let r = t.ruled x.1 c.0.ruled.0 c.0.ruled.1 in
       let e2 : Sum = e ++ scale (s.q * x.0) (rule_at table x.1) in
-      let w : IsWithin trees e2
+      let w : IsOnPositions trees e2
       = AllTerms-append e (scale (s.q * x.0) (rule_at table x.1)) (λ k. k < length trees) h (AllTerms-scale (s.q * x.0) (rule_at table x.1) (λ k. k < length trees) (rule_within x.1 c.0.ruled)) in
       let ih : Chain e2 l f = chain_over l e2 f w c.1 in (
         (x.0, r.0) ∷ ih.0,
         (refl, r.1, ih.1),
         (
           step_over e x.0 x.1 h c.0 r.0 r.2.tree,
-          first_same s n ih.0 (over trees e ++ scale (s.q * x.0) (value_of r.0)) (over trees e2) (over trees f)
+          first_same s n ih.0 (on_trees trees e ++ scale (s.q * x.0) (value_of r.0)) (on_trees trees e2) (on_trees trees f)
               (over_after e (s.q * x.0) x.1 c.0.ruled.0 c.0.ruled.1 r.0 r.2.value) ih.2,
         ),
       )
 
-  pub finished_over : (f : Sum) → IsWithin trees f → IsFinishedThere s.q table f → IsFinished s (over trees f)
+  pub finished_over : (f : Sum) → IsOnPositions trees f → IsFinishedThere s.q table f → IsFinished s (on_trees trees f)
   finished_over f h done u st =
       let r = position_of s order trees t.rises f h u st in
       go r.0 r.1 r.2 (done r.0 r.3) (ruled_or_not table r.0 (subst (λ m. r.0 < m) (sym t.sized) r.1))
@@ -113,7 +113,7 @@ module _ (s : Setting) (order : IsTreeOrder s.arity s.compare) (n : ℕ) (trees 
       go k lt p not (inl r) = absurd (not r)
       go k lt p not (inr r) = subst (IsFree s) p (t.free k r)
 
-  pub stopped_over : (f : Sum) → IsWithin trees f → IsStoppedThere s.q table f → IsStopped s (over trees f)
+  pub stopped_over : (f : Sum) → IsOnPositions trees f → IsStoppedThere s.q table f → IsStopped s (on_trees trees f)
   stopped_over f h stop = record {
     at = tree_in trees stop.at;
     there = stands_over s order trees t.rises f stop.at h (inside stop.at stop.ruled) stop.there;
@@ -121,11 +121,11 @@ module _ (s : Setting) (order : IsTreeOrder s.arity s.compare) (n : ℕ) (trees 
   }
 
   -- of some terms of a sum, in which they stand
-  some_stand : (f l : Sum) → IsWithin trees f → IsWithin trees l → AllTerms l (StandsInThere s.q f) → AllTerms (over trees l) (StandsIn s.q (over trees f))
+  some_stand : (f l : Sum) → IsOnPositions trees f → IsOnPositions trees l → AllTerms l (StandsInThere s.q f) → AllTerms (on_trees trees l) (StandsIn s.q (on_trees trees f))
   some_stand f [] h w st = tt
   some_stand f (x ∷ l) h w st = (stands_over s order trees t.rises f x.1 h w.0 st.0, some_stand f l h w.1 st.1)
 
-  pub no_zeros_over : (f : Sum) → IsWithin trees f → HasNoZerosThere s.q f → HasNoZeros s.q (over trees f)
+  pub no_zeros_over : (f : Sum) → IsOnPositions trees f → HasNoZerosThere s.q f → HasNoZeros s.q (on_trees trees f)
   no_zeros_over f h st = some_stand f f h h st
 
 pub swept : SweptChains

@@ -12,21 +12,21 @@ abbrev pub tree_in : List (Tree ℕ) → ℕ → Tree ℕ
 tree_in trees at = slice_index_or trees at (leaf 0)
 
 -- the sum of trees that a sum over positions stands for
-abbrev pub over : List (Tree ℕ) → List (ℕ × ℕ) → List (ℕ × Tree ℕ)
-over trees e = moved (tree_in trees) e
+abbrev pub on_trees : List (Tree ℕ) → List (ℕ × ℕ) → List (ℕ × Tree ℕ)
+on_trees trees e = moved (tree_in trees) e
 
 -- each tree is less than those after it
 abbrev pub RisesBy : Setting → List (Tree ℕ) → Type 0
 RisesBy s trees = (j k : ℕ) → j < k → k < length trees → IsLess s (tree_in trees j) (tree_in trees k)
 
 -- the positions of the sum are those of trees
-abbrev pub IsWithin : List (Tree ℕ) → List (ℕ × ℕ) → Type 0
-IsWithin trees e = AllTerms e (λ t. t < length trees)
+abbrev pub IsOnPositions : List (Tree ℕ) → List (ℕ × ℕ) → Type 0
+IsOnPositions trees e = AllTerms e (λ t. t < length trees)
 
 -- The rule with this tail says of the position what the insertion is: the insertion is in the tree there, and is the same sum as this tree and the tail.
 pub record IsRuleOf (s : Setting) (n : ℕ) (trees : List (Tree ℕ)) (at : ℕ) (tail : List (ℕ × ℕ)) (i : Insertion s n) : Type 0 where
   pub tree : i.tree ≡ tree_in trees at
-  pub value : Same tree_discrete s.q (value_of i) (over trees ((1, at) ∷ tail))
+  pub value : Same tree_discrete s.q (value_of i) (on_trees trees ((1, at) ∷ tail))
 
 -- The table belongs to rising trees, with an insertion for each position that has a rule: the rule is that of the insertion,
 -- its tail is on lower positions, and the tree of a position without a rule is free.

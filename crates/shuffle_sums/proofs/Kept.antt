@@ -14,8 +14,8 @@ use Rattle.shuffle_trees.specs.LabelLists.{arity_in}
 use Rattle.tree_store.specs.Stores.{tree_at}
 use Rattle.tree_store.proofs.Trees.{tree_at-append}
 use Rattle.modular_sums.specs.Falling.{IsFalling}
-use Rattle.shuffle_sums.specs.Shelves.{Shelf, HasKey, IsShelf, IsShelved, IsWelcome, KeepsShelf}
-use Rattle.shuffle_sums.specs.Sums.{pairs, over, StandsIn, AreTrees, FallsBy, AreTerms, IsSumOf, OfOneArity}
+use Rattle.shuffle_sums.specs.Shelves.{Shelf, HasKey, IsShelf, IsShelved, FitsShelf, KeepsShelf}
+use Rattle.shuffle_sums.specs.Sums.{pairs, over, HaveKeys, AreTrees, FallsBy, AreTerms, IsSumOf, OfOneArity}
 use Rattle.shuffle_sums.specs.Merges.{Merged, unless_zero_term}
 use Rattle.shuffle_sums.specs.declared.sum.Term.{Term}
 use Rattle.shuffle_sums.proofs.Arities.{within_shelf}
@@ -26,15 +26,15 @@ module _ (old new : Shelf) (keeps : KeepsShelf old new) (shelf : IsShelf old) wh
   tree_kept id h = ap (λ ts. tree_at ts id) keeps.trees.1 ∙ tree_at-append old.trees keeps.trees.0 id (within_shelf old id shelf h)
 
   -- the sum of trees stays
-  pub over_kept : (sum : List (ℕ × ℕ)) → StandsIn old sum → over new sum ≡ over old sum
+  pub over_kept : (sum : List (ℕ × ℕ)) → HaveKeys old sum → over new sum ≡ over old sum
   over_kept [] h = refl
   over_kept (x ∷ sum) h = ap₂ (λ t l. (x.0, t) ∷ l) (tree_kept x.1 h.0) (over_kept sum h.1)
 
-  pub stands_kept : (sum : List (ℕ × ℕ)) → StandsIn old sum → StandsIn new sum
+  pub stands_kept : (sum : List (ℕ × ℕ)) → HaveKeys old sum → HaveKeys new sum
   stands_kept [] h = tt
   stands_kept (x ∷ sum) h = (keeps.keys x.1 h.0, stands_kept sum h.1)
 
-  pub trees_kept : (n : ℕ) (sum : List (ℕ × ℕ)) → StandsIn old sum → AreTrees old n sum → AreTrees new n sum
+  pub trees_kept : (n : ℕ) (sum : List (ℕ × ℕ)) → HaveKeys old sum → AreTrees old n sum → AreTrees new n sum
   trees_kept n [] h t = tt
   trees_kept n (x ∷ sum) h t =
       (subst (λ ls. IsShuffleTree (arity_in ls) n (tree_at new.trees x.1)) (sym keeps.labels) (subst (IsShuffleTree (arity_in old.labels) n) (sym (tree_kept x.1 h.0)) t.0), trees_kept n sum h.1 t.1)
@@ -138,7 +138,7 @@ sum_of_halves compare p shelf n terms front back ones others made e f g h m =
     one_times k = omega arith
 
 -- the sum of one term
-one_pushed : (compare : Tree ℕ → Tree ℕ → Ordering) (p : ℕ) (shelf : Shelf) (c id : ℕ) (t : Tree ℕ) → c < p → IsShelved shelf id t → IsWelcome shelf t
+one_pushed : (compare : Tree ℕ → Tree ℕ → Ordering) (p : ℕ) (shelf : Shelf) (c id : ℕ) (t : Tree ℕ) → c < p → IsShelved shelf id t → FitsShelf shelf t
     → IsSumOf compare p shelf ((c, t) ∷ []) (pairs (unless_zero_term c id))
 unfolding coef
 one_pushed compare p shelf zero id t small found welcome = record {
@@ -161,12 +161,12 @@ one_pushed compare p shelf (suc c) id t small found welcome = record {
   trees = λ n a. (subst (IsShuffleTree (arity_in shelf.labels) n) (sym found.1) a.0, tt);
 }
 
-pub sum_of_one : (compare : Tree ℕ → Tree ℕ → Ordering) (p : ℕ) (shelf : Shelf) (c id : ℕ) (t : Tree ℕ) (made : List Term) → c < p → IsShelved shelf id t → IsWelcome shelf t → made ≡ unless_zero_term c id
+pub sum_of_one : (compare : Tree ℕ → Tree ℕ → Ordering) (p : ℕ) (shelf : Shelf) (c id : ℕ) (t : Tree ℕ) (made : List Term) → c < p → IsShelved shelf id t → FitsShelf shelf t → made ≡ unless_zero_term c id
     → IsSumOf compare p shelf ((c, t) ∷ []) (pairs made)
 sum_of_one compare p shelf c id t made small found welcome is = subst (λ l. IsSumOf compare p shelf ((c, t) ∷ []) (pairs l)) (sym is) (one_pushed compare p shelf c id t small found welcome)
 
 -- a tree that was welcome before is
-pub welcome_kept : (old new : Shelf) (t : Tree ℕ) → KeepsShelf old new → IsWelcome old t → IsWelcome new t
+pub welcome_kept : (old new : Shelf) (t : Tree ℕ) → KeepsShelf old new → FitsShelf old t → FitsShelf new t
 welcome_kept old new t keeps w = (w.0, subst (λ m. w.0 ≤ m) (sym keeps.most) w.1, subst (λ ls. IsShuffleTree (arity_in ls) w.0 t) (sym keeps.labels) w.2)
 
 -- the sums of both halves have one arity

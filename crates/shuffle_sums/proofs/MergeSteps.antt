@@ -6,7 +6,7 @@ use Rattle.std.specs.declared.cmp.Ordering.{Ordering}
 use Rattle.std.specs.declared.cmp.Ordering.TheVariants.{Less, Equal, Greater}
 use Rattle.std.specs.Ordering.{ordering_reverse}
 use Rattle.std.proofs.lemmas.List.{drop_more, take_more}
-use Rattle.modular_sums.specs.Residues.{Alike}
+use Rattle.modular_sums.specs.Residues.{IsCongruent}
 use Rattle.modular_sums.specs.Sums.{AllTerms}
 use Rattle.modular_sums.proofs.Sums.{AllTerms-append}
 use Rattle.labelled_trees.specs.Trees.{Tree}
@@ -18,7 +18,7 @@ use Rattle.modular_sums.specs.Falling.{IsAbove}
 use Rattle.modular_sums.specs.Merging.{unless_zero, IsMerging}
 use Rattle.modular_sums.proofs.Merging.{left_step, right_step, both_step, merge_start, merge_end}
 use Rattle.shuffle_sums.specs.Shelves.{Shelf, HasKey}
-use Rattle.shuffle_sums.specs.Sums.{pairs, over, AreTrees, StandsIn, FallsOver, OfOneArity}
+use Rattle.shuffle_sums.specs.Sums.{pairs, over, AreTrees, HaveKeys, FallsOver, OfOneArity}
 use Rattle.shuffle_sums.specs.Merges.{unless_zero_term, Merges, Merged}
 use Rattle.shuffle_sums.specs.declared.sum.Term.{Term}
 
@@ -95,7 +95,7 @@ module _ (compare : Tree ℕ → Tree ℕ → Ordering) (p c : ℕ) (shelf : She
         let made_is : over shelf (pairs made) ++ ((x.coef, t) ∷ []) ≡ over shelf (pairs new) = sym (over_both shelf made (x ∷ [])) ∙ ap (λ l. over shelf (pairs l)) (sym is) in
         record {
           merging = subst (λ l. IsMerging compare tree_discrete p c (over shelf (pairs ones)) (over shelf (pairs others)) l (over shelf (pairs (drop (left + 1) ones))) (over shelf (pairs (drop right others)))) made_is next;
-          made_stands = subst (λ l. StandsIn shelf (pairs l)) (sym is) (all_one (HasKey shelf) made x h.made_stands (of_next (HasKey shelf) ones left x h.ones_stand lt e));
+          made_stands = subst (λ l. HaveKeys shelf (pairs l)) (sym is) (all_one (HasKey shelf) made x h.made_stands (of_next (HasKey shelf) ones left x h.ones_stand lt e));
           ones_stand = h.ones_stand;
           others_stand = h.others_stand;
           trees = λ n f g. subst (λ l. AreTrees shelf n (pairs l)) (sym is) (all_one _ made x (h.trees n f g) (of_next _ ones left x f lt e));
@@ -103,7 +103,7 @@ module _ (compare : Tree ℕ → Tree ℕ → Ordering) (p c : ℕ) (shelf : She
 
     -- the next term of the other sum comes next
     pub take_right : (y : Term) (r : ℕ) → right < length others → y ≡ get_or others right y → IsAbove compare (tree_at shelf.trees y.tree) (over shelf (pairs (drop left ones)))
-        → r < p → Alike (p - 1) r (c * y.coef) → new ≡ made ++ unless_zero_term r y.tree → Merges compare p c shelf ones others new left (right + 1)
+        → r < p → IsCongruent (p - 1) r (c * y.coef) → new ≡ made ++ unless_zero_term r y.tree → Merges compare p c shelf ones others new left (right + 1)
     take_right y r lt e above small alike is =
         let t = tree_at shelf.trees y.tree in
         let now = subst (λ l. IsMerging compare tree_discrete p c (over shelf (pairs ones)) (over shelf (pairs others)) (over shelf (pairs made)) (over shelf (pairs (drop left ones))) l)
@@ -114,7 +114,7 @@ module _ (compare : Tree ℕ → Tree ℕ → Ordering) (p c : ℕ) (shelf : She
         ap (λ l. over shelf (pairs made) ++ l) (sym (over_unless shelf r y.tree)) ∙ sym (over_both shelf made (unless_zero_term r y.tree)) ∙ ap (λ l. over shelf (pairs l)) (sym is) in
         record {
           merging = subst (λ l. IsMerging compare tree_discrete p c (over shelf (pairs ones)) (over shelf (pairs others)) l (over shelf (pairs (drop left ones))) (over shelf (pairs (drop (right + 1) others)))) made_is next;
-          made_stands = subst (λ l. StandsIn shelf (pairs l)) (sym is) (all_pushed (HasKey shelf) made r y.tree h.made_stands (of_next (HasKey shelf) others right y h.others_stand lt e));
+          made_stands = subst (λ l. HaveKeys shelf (pairs l)) (sym is) (all_pushed (HasKey shelf) made r y.tree h.made_stands (of_next (HasKey shelf) others right y h.others_stand lt e));
           ones_stand = h.ones_stand;
           others_stand = h.others_stand;
           trees = λ n f g. subst (λ l. AreTrees shelf n (pairs l)) (sym is) (all_pushed _ made r y.tree (h.trees n f g) (of_next _ others right y g lt e));
@@ -123,7 +123,7 @@ module _ (compare : Tree ℕ → Tree ℕ → Ordering) (p c : ℕ) (shelf : She
     -- the next terms of both have one tree
     pub take_both : (x y : Term) (r : ℕ) → left < length ones → x ≡ get_or ones left x → right < length others → y ≡ get_or others right y
         → OfOneArity shelf ones others → compare (tree_at shelf.trees x.tree) (tree_at shelf.trees y.tree) ≡ Equal
-        → r < p → Alike (p - 1) r (x.coef + c * y.coef) → new ≡ made ++ unless_zero_term r x.tree → Merges compare p c shelf ones others new (left + 1) (right + 1)
+        → r < p → IsCongruent (p - 1) r (x.coef + c * y.coef) → new ≡ made ++ unless_zero_term r x.tree → Merges compare p c shelf ones others new (left + 1) (right + 1)
     take_both x y r lt e rt f arity equal small alike is =
         let t = tree_at shelf.trees x.tree in
         let u = tree_at shelf.trees y.tree in
@@ -138,7 +138,7 @@ module _ (compare : Tree ℕ → Tree ℕ → Ordering) (p c : ℕ) (shelf : She
         ap (λ l. over shelf (pairs made) ++ l) (sym (over_unless shelf r x.tree)) ∙ sym (over_both shelf made (unless_zero_term r x.tree)) ∙ ap (λ l. over shelf (pairs l)) (sym is) in
         record {
           merging = subst (λ l. IsMerging compare tree_discrete p c (over shelf (pairs ones)) (over shelf (pairs others)) l (over shelf (pairs (drop (left + 1) ones))) (over shelf (pairs (drop (right + 1) others)))) made_is next;
-          made_stands = subst (λ l. StandsIn shelf (pairs l)) (sym is) (all_pushed (HasKey shelf) made r x.tree h.made_stands (of_next (HasKey shelf) ones left x h.ones_stand lt e));
+          made_stands = subst (λ l. HaveKeys shelf (pairs l)) (sym is) (all_pushed (HasKey shelf) made r x.tree h.made_stands (of_next (HasKey shelf) ones left x h.ones_stand lt e));
           ones_stand = h.ones_stand;
           others_stand = h.others_stand;
           trees = λ n a b. subst (λ l. AreTrees shelf n (pairs l)) (sym is) (all_pushed _ made r x.tree (h.trees n a b) (of_next _ ones left x a lt e));

@@ -7,9 +7,9 @@ use Rattle.std.proofs.Math.Seq.{set-append_seam, get_or-append_seam}
 use Rattle.std.proofs.Math.Nat.{mod-eq_of_lt, mod-lt}
 use Rattle.std.proofs.Common.{Some, slice_get}
 use Rattle.std.proofs.lemmas.Option.{same_Some}
-use Rattle.modular_sums.specs.Residues.{Alike}
+use Rattle.modular_sums.specs.Residues.{IsCongruent}
 use Rattle.modular_sums.proofs.Residues.{alike_mul}
-use Rattle.modular_sums.specs.Falling.{HaveResidues}
+use Rattle.modular_sums.specs.Falling.{AreNonzeroResidues}
 use Rattle.shuffle_sums.specs.Sums.{pairs}
 use Rattle.shuffle_sums.specs.Multiples.{times, first_number, IsMadeMonic}
 use Rattle.shuffle_sums.specs.declared.sum.Term.{Term}
@@ -21,9 +21,9 @@ pub record IsMultiplying (p c : ℕ) (before now : List Term) (at : ℕ) : Type 
   pub was : pairs before ≡ front ++ back
   pub is : pairs now ≡ times p c front ++ back
   pub place : length front ≡ at
-  pub left : HaveResidues p back
+  pub left : AreNonzeroResidues p back
 
-pub multiplying_start : (p c : ℕ) (terms : List Term) → HaveResidues p (pairs terms) → IsMultiplying p c terms terms 0
+pub multiplying_start : (p c : ℕ) (terms : List Term) → AreNonzeroResidues p (pairs terms) → IsMultiplying p c terms terms 0
 multiplying_start p c terms h = record { front = []; back = pairs terms; was = refl; is = refl; place = refl; left = h }
 
 nothing : {X : Type 0} (k : List X) → k ++ [] ≡ k
@@ -64,7 +64,7 @@ module _ (p c : ℕ) (before now : List Term) (at : ℕ) (h : IsMultiplying p c 
           (rest, some ∙ ap (λ z. z ∷ rest) same)
 
   pub next_residue : x.coef < p
-  next_residue = (subst (HaveResidues p) next_term.1 h.left).1
+  next_residue = (subst (AreNonzeroResidues p) next_term.1 h.left).1
 
   -- and is multiplied
   pub multiplied_next : (r : ℕ) → r < p → r % p ≡ (c * x.coef) % p → IsMultiplying p c before (set now at (record { coef = r; tree = x.tree })) (at + 1)
@@ -83,7 +83,7 @@ module _ (p c : ℕ) (before now : List Term) (at : ℕ) (h : IsMultiplying p c 
         is = new ∙ ap (λ v. times p c h.front ++ ((v, x.tree) ∷ n.0)) value ∙ behind (times p c h.front) ((c * x.coef) % p, x.tree) n.0
             ∙ ap (λ l. l ++ n.0) (sym (map-append (λ (t : ℕ × ℕ). ((c * t.0) % p, t.1)) h.front ((x.coef, x.tree) ∷ [])));
         place = let l = length-append h.front ((x.coef, x.tree) ∷ []) in omega (arith, l, h.place);
-        left = (subst (HaveResidues p) n.1 h.left).2;
+        left = (subst (AreNonzeroResidues p) n.1 h.left).2;
       }
 
 -- at the end all are
@@ -101,26 +101,26 @@ multiplied_all p c before now at h l = by h.back refl
 modulus : (p : ℕ) → 0 < p → suc (p - 1) ≡ p
 modulus p h = omega arith
 
-pub alike_at : (p a b : ℕ) → 0 < p → Alike (p - 1) a b → a % p ≡ b % p
+pub alike_at : (p a b : ℕ) → 0 < p → IsCongruent (p - 1) a b → a % p ≡ b % p
 alike_at p a b h e = subst (λ m. a % m ≡ b % m) (modulus p h) e
 
 -- a product with a number that has an inverse isn't 0 where the other factor isn't
-nonzero_product : (p c d x : ℕ) → 0 < x → x < p → Alike (p - 1) (d * c) 1 → (c * x) % p ≡ 0 → ⊥
+nonzero_product : (p c d x : ℕ) → 0 < x → x < p → IsCongruent (p - 1) (d * c) 1 → (c * x) % p ≡ 0 → ⊥
 nonzero_product p c d x n l h zero_is =
     let positive : 0 < p = omega (arith, n, l) in
     let m = modulus p positive in
     let none : 0 % p ≡ 0 = mod-eq_of_lt positive in
-    let gone : Alike (p - 1) (c * x) 0 = subst (λ k. (c * x) % k ≡ 0 % k) (sym m) (zero_is ∙ sym none) in
-    let left : Alike (p - 1) (d * (c * x)) (d * 0) = alike_mul (p - 1) d d (c * x) 0 refl gone in
-    let right : Alike (p - 1) (d * c * x) (1 * x) = alike_mul (p - 1) (d * c) 1 x x h refl in
+    let gone : IsCongruent (p - 1) (c * x) 0 = subst (λ k. (c * x) % k ≡ 0 % k) (sym m) (zero_is ∙ sym none) in
+    let left : IsCongruent (p - 1) (d * (c * x)) (d * 0) = alike_mul (p - 1) d d (c * x) 0 refl gone in
+    let right : IsCongruent (p - 1) (d * c * x) (1 * x) = alike_mul (p - 1) (d * c) 1 x x h refl in
     let regroup : d * c * x ≡ d * (c * x) = omega arith in
     let one : 1 * x ≡ x = omega arith in
     let zero_right : d * 0 ≡ 0 = omega arith in
-    let same : Alike (p - 1) x 0 = ap (λ k. k % suc (p - 1)) (sym one) ∙ sym right ∙ ap (λ k. k % suc (p - 1)) regroup ∙ left ∙ ap (λ k. k % suc (p - 1)) zero_right in
+    let same : IsCongruent (p - 1) x 0 = ap (λ k. k % suc (p - 1)) (sym one) ∙ sym right ∙ ap (λ k. k % suc (p - 1)) regroup ∙ left ∙ ap (λ k. k % suc (p - 1)) zero_right in
     let final : x ≡ 0 = sym (mod-eq_of_lt l) ∙ alike_at p x 0 positive same ∙ none in
     omega (arith, n, final)
 
-times_residues : (p c d : ℕ) (sum : List (ℕ × ℕ)) → Alike (p - 1) (d * c) 1 → HaveResidues p sum → HaveResidues p (times p c sum)
+times_residues : (p c d : ℕ) (sum : List (ℕ × ℕ)) → IsCongruent (p - 1) (d * c) 1 → AreNonzeroResidues p sum → AreNonzeroResidues p (times p c sum)
 times_residues p c d [] h r = tt
 times_residues p c d (x ∷ sum) h r =
     let positive : 0 < p = omega (arith, r.0, r.1) in
@@ -131,18 +131,18 @@ times_residues p c d (x ∷ sum) h r =
     positive_of (suc k) f = omega arith
 
 -- the first residue is that of the first term
-pub first_residue : (p : ℕ) (sum : List (ℕ × ℕ)) (lead id : ℕ) → HaveResidues p sum → Some (lead, id) ≡ slice_get sum 0 → (0 < lead) × (lead < p) × (first_number sum ≡ lead)
+pub first_residue : (p : ℕ) (sum : List (ℕ × ℕ)) (lead id : ℕ) → AreNonzeroResidues p sum → Some (lead, id) ≡ slice_get sum 0 → (0 < lead) × (lead < p) × (first_number sum ≡ lead)
 first_residue p [] lead id r e = absurd (cc e)
 first_residue p (x ∷ sum) lead id r e =
     let same : x.0 ≡ lead = ap (λ t. t.0) (same_Some x (lead, id) (sym e)) in
     (subst (λ n. 0 < n) same r.0, subst (λ n. n < p) same r.1, same)
 
 -- a sum times the inverse of its first number is monic
-pub made_monic : (p inverse lead id : ℕ) (old new : List (ℕ × ℕ)) → HaveResidues p old → Some (lead, id) ≡ slice_get old 0 → Alike (p - 1) (lead * inverse) 1 → new ≡ times p inverse old → IsMadeMonic p old new
+pub made_monic : (p inverse lead id : ℕ) (old new : List (ℕ × ℕ)) → AreNonzeroResidues p old → Some (lead, id) ≡ slice_get old 0 → IsCongruent (p - 1) (lead * inverse) 1 → new ≡ times p inverse old → IsMadeMonic p old new
 made_monic p inverse lead id [] new r e h is = absurd (cc e)
 made_monic p inverse lead id (x ∷ old) new r e h is =
     let f = first_residue p (x ∷ old) lead id r e in
-    let turned : Alike (p - 1) (x.0 * inverse) 1 = subst (λ n. Alike (p - 1) (n * inverse) 1) (sym f.2) h in
+    let turned : IsCongruent (p - 1) (x.0 * inverse) 1 = subst (λ n. IsCongruent (p - 1) (n * inverse) 1) (sym f.2) h in
     let positive : 0 < p = omega (arith, r.0, r.1) in
     let above_one : 1 < p = omega (arith, r.0, r.1) in
     let swap : inverse * x.0 ≡ x.0 * inverse = omega arith in
@@ -151,6 +151,6 @@ made_monic p inverse lead id (x ∷ old) new r e h is =
       inverse = inverse;
       is_inverse = turned;
       multiplied = is;
-      residues = subst (HaveResidues p) (sym is) (times_residues p inverse x.0 (x ∷ old) turned r);
+      residues = subst (AreNonzeroResidues p) (sym is) (times_residues p inverse x.0 (x ∷ old) turned r);
       first = ap first_number is ∙ one;
     }

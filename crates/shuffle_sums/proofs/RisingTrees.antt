@@ -19,13 +19,13 @@ use Rattle.shuffle_insertions.specs.Orders.{IsTreeOrder}
 use Rattle.tree_store.specs.Stores.{IsStore, tree_at}
 use Rattle.tree_store.proofs.Trees.{one_place}
 use Rattle.tree_store.proofs.Counts.{held_valid}
-use Rattle.shuffle_insertions.specs.KeyBlocks.{AreAlike}
+use Rattle.shuffle_insertions.specs.KeyBlocks.{AreComparableKeys}
 use Rattle.shuffle_sums.specs.Sorting.{block_at, compare_by, trees_at, AreOfOneArity, Rise}
 use Rattle.path_orders.proofs.Alike.{keys_are_alike}
 use Rattle.shuffle_sums.proofs.RisingBlocks.{rising}
 
 module _ (trees : List (Tree ℕ)) (ids : List ℕ) (weights : ℕ → ℕ) (by_keys : Key → Key → Ordering) (block : Key → List ℕ)
-    (law : (a b : Key) → AreAlike a b → slice_cmp nat_cmp (block a) (block b) ≡ by_keys a b)
+    (law : (a b : Key) → AreComparableKeys a b → slice_cmp nat_cmp (block a) (block b) ≡ by_keys a b)
     (order : (arity : ℕ → ℕ) → IsTreeOrder arity (compare_by by_keys weights)) (h : AreOfOneArity trees ids) (distinct : Distinct ids) (s : 0 < length ids → IsStore trees) where
   abbrev here : ℕ → Tree ℕ
   here p = tree_at trees (slice_index ids p)

@@ -18,14 +18,14 @@ use Rattle.shuffle_trees.proofs.Counts.{count_of_shuffle}
 use Rattle.shuffle_insertions.specs.KeyBlocks.{IsSmall}
 use Rattle.shuffle_trees.specs.Walks.{vertex_labels, vertex_labels_row}
 use Rattle.path_orders.proofs.WordLists.{length-leaves}
-use Rattle.shuffle_sums.specs.Spread.{HasRoom}
+use Rattle.shuffle_sums.specs.Spread.{FitsFlatKey}
 
 one_yes : (n : ℕ) (d : Dec (n ≡ n)) → 0 < one_if d
 one_yes n (yes _) = omega arith
 one_yes n (no f) = absurd (f refl)
 
 -- a small tree has room
-pub room_at_root : (t : Tree ℕ) (letters leaves vertices : ℕ) → letters ≡ 0 → leaves ≡ 0 → vertices ≡ 0 → IsSmall t → HasRoom letters leaves vertices t
+pub room_at_root : (t : Tree ℕ) (letters leaves vertices : ℕ) → letters ≡ 0 → leaves ≡ 0 → vertices ≡ 0 → IsSmall t → FitsFlatKey letters leaves vertices t
 room_at_root t letters leaves vertices e f g s =
     let count = count_of_shuffle s.leaves t s.shuffle in
     let few = s.few in
@@ -37,7 +37,7 @@ room_at_root t letters leaves vertices e f g s =
     }
 
 -- the number of a leaf alone
-pub leaf_fits : (t : Tree ℕ) (n a b d : ℕ) → t ≡ leaf n → HasRoom a b d t → n ≤ 16
+pub leaf_fits : (t : Tree ℕ) (n a b d : ℕ) → t ≡ leaf n → FitsFlatKey a b d t → n ≤ 16
 leaf_fits t n a b d e h = h.numbers_fit n (subst (λ u. 0 < occurs n u) (sym e) (one_yes n (ℕ_discrete n n)))
 
 -- a vertex of a valid tree has two or more leaves
@@ -78,7 +78,7 @@ same_length now rest before all m n e f same =
     omega (arith, one, other, both, e, f)
 
 -- a vertex of a valid tree with room has room for a label more
-pub label_fits : (t : Tree ℕ) (l : ℕ) (r : Row ℕ) (a b d : ℕ) → t ≡ node l r → IsValid t → HasRoom a b d t → d < 15
+pub label_fits : (t : Tree ℕ) (l : ℕ) (r : Row ℕ) (a b d : ℕ) → t ≡ node l r → IsValid t → FitsFlatKey a b d t → d < 15
 label_fits t l r a b d e v h = let few = h.vertices_fit v.wide in let same = ap vertices e in omega (arith, few, same)
 
 module _ (trees : List (Tree ℕ)) (ids : List ℕ) where
@@ -100,10 +100,10 @@ module _ (trees : List (Tree ℕ)) (ids : List ℕ) where
   -- what is left of the room is enough for the next input
   pub room_for_input : (id l k i : ℕ) (word below row_before row_now labels_before labels_now : List ℕ) → IsStore trees → id < length trees
       → tree_at trees id ≡ node l (row (map (tree_at trees) ids)) → k < length ids → i ≡ get_or ids k i
-      → HasRoom (length word) (length row_before) (length labels_before) (tree_at trees id) → below ≡ word ++ (l ∷ [])
+      → FitsFlatKey (length word) (length row_before) (length labels_before) (tree_at trees id) → below ≡ word ++ (l ∷ [])
       → row_now ++ leaves_row (row (map (tree_at trees) (drop k ids))) ≡ row_before ++ leaves_row (row (map (tree_at trees) ids))
       → labels_now ++ vertex_labels_row (row (map (tree_at trees) (drop k ids))) ≡ (labels_before ++ (l ∷ [])) ++ vertex_labels_row (row (map (tree_at trees) ids))
-      → HasRoom (length below) (length row_now) (length labels_now) (tree_at trees i)
+      → FitsFlatKey (length below) (length row_now) (length labels_now) (tree_at trees i)
   room_for_input id l k i word below row_before row_now labels_before labels_now s held e h is room longer rows labels =
       let all = row (map (tree_at trees) ids) in
       let rest = row (map (tree_at trees) (drop k ids)) in

@@ -7,7 +7,7 @@ use Rattle.labelled_trees.specs.Trees.{Tree}
 use Rattle.labelled_trees.specs.Equality.{tree_discrete}
 use Rattle.modular_sums.specs.Merging.{IsMerging}
 use Rattle.shuffle_sums.specs.Shelves.{Shelf}
-use Rattle.shuffle_sums.specs.Sums.{pairs, over, AreTrees, StandsIn, FallsOver}
+use Rattle.shuffle_sums.specs.Sums.{pairs, over, AreTrees, HaveKeys, FallsOver}
 use Rattle.shuffle_sums.specs.declared.sum.Term.{Term}
 
 -- the term, where its number isn't 0
@@ -19,9 +19,9 @@ unless_zero_term (suc c) tree = record { coef = suc c; tree = tree } ∷ []
 pub record Merges (compare : Tree ℕ → Tree ℕ → Ordering) (p c : ℕ) (shelf : Shelf) (ones others made : List Term) (left right : ℕ) : Type 0 where
   pub merging : IsMerging compare tree_discrete p c (over shelf (pairs ones)) (over shelf (pairs others)) (over shelf (pairs made))
       (over shelf (pairs (drop left ones))) (over shelf (pairs (drop right others)))
-  pub made_stands : StandsIn shelf (pairs made)
-  pub ones_stand : StandsIn shelf (pairs ones)
-  pub others_stand : StandsIn shelf (pairs others)
+  pub made_stands : HaveKeys shelf (pairs made)
+  pub ones_stand : HaveKeys shelf (pairs ones)
+  pub others_stand : HaveKeys shelf (pairs others)
   pub trees : (n : ℕ) → AreTrees shelf n (pairs ones) → AreTrees shelf n (pairs others) → AreTrees shelf n (pairs made)
 
 -- What a merge answers: a falling sum, which is the first sum and the multiple of the other.

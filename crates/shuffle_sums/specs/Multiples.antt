@@ -1,7 +1,7 @@
 -- Multiples of sums of ids.
 use Rattle.std.specs.Prelude.{ℕ, ◌≡◌, ◌*◌, ◌%◌, List, [], ◌∷◌, map}
 use Rattle.prime_field.specs.Residues.{Congruent}
-use Rattle.modular_sums.specs.Falling.{HaveResidues}
+use Rattle.modular_sums.specs.Falling.{AreNonzeroResidues}
 
 -- each number times c, as a residue modulo p
 abbrev pub times : ℕ → ℕ → List (ℕ × ℕ) → List (ℕ × ℕ)
@@ -17,5 +17,5 @@ pub record IsMadeMonic (p : ℕ) (before after : List (ℕ × ℕ)) : Type 0 whe
   pub inverse : ℕ
   pub is_inverse : Congruent p (first_number before * inverse) 1
   pub multiplied : after ≡ times p inverse before
-  pub residues : HaveResidues p after
+  pub residues : AreNonzeroResidues p after
   pub first : first_number after ≡ 1

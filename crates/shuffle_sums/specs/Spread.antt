@@ -16,7 +16,7 @@ abbrev mutual
 
 -- Behind a word of this length, so many leaves and so many vertices, a tree with room: at most 16 leaves, whose numbers are at
 -- most 16, words of at most 15 letters, and at most 15 vertices.
-pub record HasRoom (letters leaves_before vertices_before : ℕ) (t : Tree ℕ) : Type 0 where
+pub record FitsFlatKey (letters leaves_before vertices_before : ℕ) (t : Tree ℕ) : Type 0 where
   pub letters_fit : letters + leaf_count t ≤ 16
   pub leaves_fit : leaves_before + leaf_count t ≤ 16
   pub vertices_fit : IsWide t → vertices_before + vertices t ≤ 15

@@ -21,8 +21,8 @@ abbrev pub over : Shelf → List (ℕ × ℕ) → List (ℕ × Tree ℕ)
 over shelf sum = moved (tree_at shelf.trees) sum
 
 -- A sum of ids stands in a shelf where its ids have keys there.
-abbrev pub StandsIn : Shelf → List (ℕ × ℕ) → Type 0
-StandsIn shelf sum = AllTerms sum (HasKey shelf)
+abbrev pub HaveKeys : Shelf → List (ℕ × ℕ) → Type 0
+HaveKeys shelf sum = AllTerms sum (HasKey shelf)
 
 -- the trees of its ids have the leaves 1 to n, and belong to the labels
 abbrev pub AreTrees : Shelf → ℕ → List (ℕ × ℕ) → Type 0
@@ -31,7 +31,7 @@ AreTrees shelf n sum = AllTerms sum (λ id. IsShuffleTree (arity_in shelf.labels
 -- A sum of ids falls by a shelf: it stands there, its numbers are residues other than 0, and its trees belong to the labels,
 -- have the leaves 1 to n for one n, and fall by the comparison.
 pub record FallsBy (compare : Tree ℕ → Tree ℕ → Ordering) (p : ℕ) (shelf : Shelf) (sum : List (ℕ × ℕ)) : Type 0 where
-  pub stands : StandsIn shelf sum
+  pub stands : HaveKeys shelf sum
   pub falling : IsFalling compare p (over shelf sum)
   pub arity : ℕ
   pub trees : AreTrees shelf arity sum

@@ -1,10 +1,10 @@
 ghost use Rattle.std.specs.Prelude.{◌≡◌, ◌<◌, ◌++◌, ◌-◌, ℕ, [], Some, None, Err, length, slice_get, IfOk, IfSome, IfNone, OnOk, OnErr};
 ghost use Rattle.modular_sums.specs.Sums.{Same, scale};
 ghost use Rattle.labelled_trees.specs.Equality.{tree_discrete};
-ghost use Rattle.modular_sums.specs.Falling.{HaveResidues};
+ghost use Rattle.modular_sums.specs.Falling.{AreNonzeroResidues};
 ghost use Rattle.shuffle_sums.specs.Settings.{compares, field_of, labels_of};
 ghost use Rattle.shuffle_sums.specs.Shelves.{IsShelf, KeepsShelf};
-ghost use Rattle.shuffle_sums.specs.Sums.{AreTerms, AreTrees, FallsBy, IsSumOf, OneArity, StandsIn, over, pairs};
+ghost use Rattle.shuffle_sums.specs.Sums.{AreTerms, AreTrees, FallsBy, IsSumOf, OneArity, HaveKeys, over, pairs};
 ghost use Rattle.shuffle_sums.specs.Multiples.{IsMadeMonic, times};
 
 use crate::arity::are_of_one_arity;
@@ -161,7 +161,7 @@ impl<O: TreeOrder> SSum<O> {
 
     /// The terms in their order, each with its tree. The sum stands in the shelf. `AllocError` comes for want of memory alone.
     pub fn to_sum(&self, alloc: Global, shelf: &Shelf) -> Result<Items<(u32, STree)>, AllocError>
-        requires stands { StandsIn shelf.now self.now }
+        requires stands { HaveKeys shelf.now self.now }
         ensures terms { IfOk result (λ terms. terms ≡ over shelf.now self.now) }
     {
         let store = shelf.store();
@@ -176,7 +176,7 @@ impl<O: TreeOrder> SSum<O> {
     /// than 0. No id changes. It takes no memory.
     pub fn monic(&mut self, setting: &Setting<O>)
         requires some { 0 < length self.old }
-        requires residues { HaveResidues (field_of setting.now) self.old }
+        requires residues { AreNonzeroResidues (field_of setting.now) self.old }
         ensures monic { IsMadeMonic (field_of setting.now) self.old self.new }
     {
         let field = setting.field();
@@ -189,7 +189,7 @@ impl<O: TreeOrder> SSum<O> {
 // Multiplies each residue.
 fn multiply(field: Field, terms: &mut Items<Term>, factor: u32)
     requires factor { factor < field }
-    requires residues { HaveResidues field (pairs terms.old) }
+    requires residues { AreNonzeroResidues field (pairs terms.old) }
     ensures multiplied { pairs terms.new ≡ times field factor (pairs terms.old) }
 {
     for at in 0..terms.len() {

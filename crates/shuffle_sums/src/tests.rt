@@ -5,7 +5,7 @@ ghost use Rattle.shuffle_insertions.specs.ShuffleTrees.{IsShuffleTree};
 ghost use Rattle.shuffle_trees.specs.LabelLists.{arity_in};
 ghost use Rattle.shuffle_sums.specs.Settings.{compares, field_of, labels_of};
 ghost use Rattle.shuffle_sums.specs.Shelves.{IsShelf, KeepsShelf};
-ghost use Rattle.shuffle_sums.specs.Sums.{FallsBy, StandsIn};
+ghost use Rattle.shuffle_sums.specs.Sums.{FallsBy, HaveKeys};
 
 use crate::{SSum, SSumFail, Setting, Shelf};
 use path_orders::{Path, TreeOrder};
@@ -106,7 +106,7 @@ fn print(shape: &Shape, text: &mut String) -> Result<(), AllocError> {
 
 // The sum as text, as "3 ll123, 98 ll132, ".
 fn text<O: TreeOrder>(alloc: Global, shelf: &Shelf, sum: &SSum<O>) -> Result<String, Fail>
-    requires stands { StandsIn shelf.now sum.now }
+    requires stands { HaveKeys shelf.now sum.now }
 {
     let mut text = String::new(alloc);
     let terms = sum.to_sum(alloc, shelf)?;

@@ -6,7 +6,7 @@ ghost use Rattle.shuffle_insertions.specs.KeyBlocks.{IsSmall};
 ghost use Rattle.shuffle_trees.specs.FlatKeys.{flat_labels, flat_row, flat_words, letters, words_by_number};
 ghost use Rattle.shuffle_trees.specs.Walks.{vertex_labels};
 ghost use Rattle.tree_store.specs.Stores.{IsStore, tree_at};
-ghost use Rattle.shuffle_sums.specs.Spread.{HasRoom, spread};
+ghost use Rattle.shuffle_sums.specs.Spread.{FitsFlatKey, spread};
 
 use shuffle_trees::{FlatKey, FlatWord};
 use tree_store::{NodeView, Store, TreeId};
@@ -14,7 +14,7 @@ use tree_store::{NodeView, Store, TreeId};
 // Puts the leaves and vertices of the tree with this id, which stands below the word, behind those of the key.
 fn fill(key: &mut FlatKey, store: &Store, id: TreeId, word: FlatWord)
     requires held { id < length store.now }
-    requires room { HasRoom (length (letters word)) (length (flat_row key.old)) (length (flat_labels key.old)) (tree_at store.now id) }
+    requires room { FitsFlatKey (length (letters word)) (length (flat_row key.old)) (length (flat_labels key.old)) (tree_at store.now id) }
     ensures words { words_by_number key.new ≡ spread (tree_at store.now id) (letters word) (words_by_number key.old) }
     ensures row { flat_row key.new ≡ flat_row key.old ++ leaves (tree_at store.now id) }
     ensures labels { flat_labels key.new ≡ flat_labels key.old ++ vertex_labels (tree_at store.now id) }

@@ -1,7 +1,7 @@
 -- A certified list of elements, its insertions, and the trees that no leading tree divides.
 use Rattle.std.proofs.Common.{◌≡◌, ℕ, ◌≤◌, List, [], ◌∷◌, refl, sym, ◌∙◌, arith, subst}
 use Rattle.std.specs.declared.cmp.Ordering.{Ordering}
-use Rattle.modular_sums.specs.Sums.{Member, moved, AllTerms}
+use Rattle.modular_sums.specs.Sums.{IsLinearCombination, moved, AllTerms}
 use Rattle.modular_sums.proofs.Images.{moved_ext}
 use Rattle.labelled_trees.specs.Trees.{Tree, leaf, graft}
 use Rattle.labelled_trees.specs.Leaves.{sum_leaves, leaf_count}
@@ -29,9 +29,9 @@ use Rattle.modular_sums.proofs.Links.{member_zero, member_through}
 use Rattle.shuffle_transfer.specs.Orderings.{entry}
 use Rattle.shuffle_transfer.specs.Labels.{inputs_of, shuffle_form}
 use Rattle.shuffle_transfer.specs.Transfer.{relabelled, shuffled, RelationInsertion, inserted_relation, IsSumOfInsertions}
-use Rattle.shuffle_transfer.specs.Certified.{setting, IsCertified}
+use Rattle.shuffle_transfer.specs.GroebnerBases.{setting, IsGroebnerBasis}
 use Rattle.shuffle_transfer.proofs.Orderings.{all_orderings}
-use Rattle.shuffle_transfer.proofs.Forth.{forth}
+use Rattle.shuffle_transfer.proofs.ShuffleFormsFit.{forth}
 use Rattle.shuffle_transfer.proofs.TransferLaw.{labelled-relabelled, transfer_law}
 use Rattle.shuffle_transfer.proofs.Carrying.{relations_carried, elements_carried}
 
@@ -44,7 +44,7 @@ pub record Given : Type 0 where
   pub order : IsTreeOrder (inputs_of presentation.generators) compare
   pub elements : List Element
   pub most : ℕ
-  pub certified : IsCertified presentation compare elements most
+  pub certified : IsGroebnerBasis presentation compare elements most
 
 abbrev pub setting_of : Given → Setting
 setting_of c = setting c.presentation c.compare c.elements
@@ -83,7 +83,7 @@ module _ (c : Given) (n : ℕ) (le : n ≤ c.most) where
       let few : r.arity ≤ n = arity_le (inputs_of p.generators) r.arity n s.slot s.rises z hz vz in
       subst (InSpan (setting_of c) n) (sym (moved_ext (insert j.frame) (fill_slot s.slot) (shuffled p (relabelled j.permutation (x ∷ l))) s.inserts))
       (elements_carried (setting_of c) c.certified.monic r.arity n s.slot s.rises z hz.shuffle vz (shuffled p (relabelled j.permutation (x ∷ l)))
-      (subst (λ t. Member tree_discrete (value_of {s = setting_of c} {n = r.arity}) p.q (shuffled p (relabelled j.permutation t))) e
+      (subst (λ t. IsLinearCombination tree_discrete (value_of {s = setting_of c} {n = r.arity}) p.q (shuffled p (relabelled j.permutation t))) e
       (c.certified.relations r j.there (omega (arith, few, le)) j.permutation (((all_orderings r.arity).2 j.permutation).1 j.permutes))))
 
   -- the shuffle form of an element of the ideal

@@ -15,7 +15,7 @@ use Rattle.operad_ideals.specs.Ideals.{InIdeal}
 use Rattle.shuffle_transfer.specs.Labels.{labels, shuffle_form, symmetric_tree}
 use Rattle.shuffle_transfer.specs.Transfer.{shuffled}
 use Rattle.shuffle_transfer.proofs.Labels.{are_labels}
-use Rattle.shuffle_transfer.proofs.Forth.{forth, back_law, spelling}
+use Rattle.shuffle_transfer.proofs.ShuffleFormsFit.{forth, back_law, spelling}
 use Rattle.shuffle_transfer.proofs.Given.{Given, setting_of, ideal_span}
 
 -- a sorted tree whose shuffle form no leading tree divides

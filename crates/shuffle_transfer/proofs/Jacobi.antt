@@ -3,7 +3,7 @@ use Rattle.std.proofs.Common.{◌≡◌, ◌⊎◌, inl, inr, ℕ, zero, suc, �
 use mathlib.Core.Path.{fun_ext}
 use native.Mathlib.Decide.{ℕ_discrete}
 use Rattle.modular_sums.specs.Lists.{Mem, has_by}
-use Rattle.modular_sums.specs.Sums.{coef, scale, expand, Member, AllTerms, Same}
+use Rattle.modular_sums.specs.Sums.{coef, scale, expand, IsLinearCombination, AllTerms, Same}
 use Rattle.modular_sums.proofs.Lists.{has_by_mem}
 use Rattle.modular_sums.proofs.Sameness.{same_if_agree}
 use Rattle.labelled_trees.specs.Trees.{Tree, leaf}
@@ -23,13 +23,13 @@ use Rattle.operad_ideals.specs.Presentations.{Relation, Presentation, arity_of, 
 use Rattle.shuffle_transfer.specs.Orderings.{IsOrdering, orderings}
 use Rattle.shuffle_transfer.specs.Labels.{labels, inputs_of, word_discrete, same_cons, letter_discrete, same_letter}
 use Rattle.shuffle_transfer.specs.Transfer.{relabelled, shuffled, RelationInsertion, inserted_relation, IsSumOfInsertions}
-use Rattle.shuffle_transfer.specs.Certified.{setting, IsCertified}
+use Rattle.shuffle_transfer.specs.GroebnerBases.{setting, IsGroebnerBasis}
 use Rattle.shuffle_transfer.specs.NormalTrees.{by_path, compare, normal_list}
 use Rattle.shuffle_transfer.specs.NormalLaws.{NormalLaw}
 use Rattle.shuffle_transfer.proofs.Orderings.{all_orderings}
 use Rattle.shuffle_transfer.proofs.Labels.{are_labels}
 use Rattle.labelled_trees.specs.Labelled.{IsLabelled}
-use Rattle.shuffle_transfer.proofs.Forth.{back_labelled}
+use Rattle.shuffle_transfer.proofs.ShuffleFormsFit.{back_labelled}
 use Rattle.std.specs.Prelude.{◌↔◌}
 use Rattle.operad_ideals.specs.Ideals.{InIdeal}
 use Rattle.operad_ideals.specs.HoleInstances.{InHoleIdeal}
@@ -144,7 +144,7 @@ unfolding ℕ_discrete tree_discrete tree_discrete_by row_discrete_by same_leaf 
 the_element = record { of = jacobi; member = inl refl; tree = t1; set = top_two; valid = valid_t1; place = ((places_listed t1 t1 tt).0 top_two).0 (inl refl) }
 
 abbrev Relabelled : List ℕ → Type 0
-Relabelled v = Member tree_discrete (value_of {s = lie_setting} {n = 3}) 100 (shuffled lie (relabelled v jacobi_relation.terms))
+Relabelled v = IsLinearCombination tree_discrete (value_of {s = lie_setting} {n = 3}) 100 (shuffled lie (relabelled v jacobi_relation.terms))
 
 -- the relabelled relation is the element, or less the element
 relabelled_ones : (Relabelled (1 ∷ (2 ∷ (3 ∷ [])))) × (Relabelled (2 ∷ (3 ∷ (1 ∷ [])))) × (Relabelled (3 ∷ (1 ∷ (2 ∷ []))))
@@ -172,7 +172,7 @@ relabelled_by v (inr (inr (inr (inr (inl e))))) = subst Relabelled (sym e) relab
 relabelled_by v (inr (inr (inr (inr (inr (inl e)))))) = subst Relabelled (sym e) relabelled_minus.2
 relabelled_by v (inr (inr (inr (inr (inr (inr m)))))) = absurd m
 
-pub certified : IsCertified lie (compare lie.generators by_path) (jacobi ∷ []) 4
+pub certified : IsGroebnerBasis lie (compare lie.generators by_path) (jacobi ∷ []) 4
 certified = record {
   monic = monic;
   once = (λ m. m, tt);
@@ -186,8 +186,8 @@ certified = record {
     in_ideal g (inr m) = absurd m
 
     relations : (r : Relation) → Mem r (jacobi_relation ∷ []) → r.arity ≤ 4 → (v : List ℕ) → Mem v (orderings r.arity)
-        → Member tree_discrete (value_of {s = lie_setting} {n = r.arity}) 100 (shuffled lie (relabelled v r.terms))
-    relations r (inl e) le v m = subst (λ x. (v : List ℕ) → Mem v (orderings x.arity) → Member tree_discrete (value_of {s = lie_setting} {n = x.arity}) 100 (shuffled lie (relabelled v x.terms))) (sym e) relabelled_by v m
+        → IsLinearCombination tree_discrete (value_of {s = lie_setting} {n = r.arity}) 100 (shuffled lie (relabelled v r.terms))
+    relations r (inl e) le v m = subst (λ x. (v : List ℕ) → Mem v (orderings x.arity) → IsLinearCombination tree_discrete (value_of {s = lie_setting} {n = x.arity}) 100 (shuffled lie (relabelled v x.terms))) (sym e) relabelled_by v m
     relations r (inr i) le v m = absurd i
 
 -- ---- the law at this presentation

@@ -1,11 +1,11 @@
-pub mod Back
+pub mod TreesOfShuffleTrees
 pub mod Carrying
 pub mod Examples
 pub mod FormContexts
 pub mod FormGrafts
 pub mod Forms
-pub mod Forth
-pub mod Forward
+pub mod ShuffleFormsFit
+pub mod InstancesToInsertions
 pub mod FramesBack
 pub mod Given
 pub mod Independent
@@ -19,7 +19,7 @@ pub mod Permutes
 pub mod Ranks
 pub mod RelabelledIdeals
 pub mod Relations
-pub mod Return
+pub mod InsertionsToInstances
 pub mod Signs
 pub mod SlotInsertions
 pub mod Spanning

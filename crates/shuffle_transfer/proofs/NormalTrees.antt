@@ -1,6 +1,6 @@
 -- The listing of a certified list of elements has the normal trees.
 use Rattle.std.proofs.Common.{◌≡◌, ◌↔◌, ℕ, ◌<◌, ◌≤◌, List, [], ◌∷◌, map, refl, sym, ◌∙◌, ap, subst, inl, inr}
-use Rattle.modular_sums.specs.Residues.{Alike}
+use Rattle.modular_sums.specs.Residues.{IsCongruent}
 use Rattle.modular_sums.specs.Lists.{Mem, Distinct}
 use Rattle.modular_sums.specs.Sums.{coef, moved, AllTerms}
 use Rattle.modular_sums.proofs.Lists.{mem_map, mem_of_map}
@@ -24,7 +24,7 @@ use Rattle.shuffle_transfer.specs.Labels.{labels, gen, inputs_of, shuffle_form, 
 use Rattle.shuffle_transfer.specs.Transfer.{shuffled}
 use Rattle.shuffle_transfer.specs.NormalTrees.{OneOrder, by_path, by_pathshort, by_leafpath, by_weightpath, compare, normal_list, IsLead, IsNormalTree}
 use Rattle.shuffle_transfer.proofs.Labels.{are_labels}
-use Rattle.shuffle_transfer.proofs.Forth.{forth, back_law, spelling}
+use Rattle.shuffle_transfer.proofs.ShuffleFormsFit.{forth, back_law, spelling}
 use Rattle.shuffle_transfer.proofs.Given.{Given, setting_of, ideal_span, span_ideal}
 use Rattle.shuffle_transfer.proofs.Independent.{Normal}
 use Rattle.shuffle_transfer.proofs.Spanning.{normal_tree, all_shuffles, all_labelled, all_forms}
@@ -96,8 +96,8 @@ module _ (c : Given) (n : ℕ) (le : n ≤ c.most) where
       (record {
         labelled = h.labelled;
         sorted = h.sorted;
-        there = subst (λ l. Alike p.q (coef tree_discrete l (F t)) 0 → ⊥) (sym forms) lead.there;
-        above = λ s w less. subst (λ l. Alike p.q (coef tree_discrete l s) 0) (sym forms) (lead.above s w less);
+        there = subst (λ l. IsCongruent p.q (coef tree_discrete l (F t)) 0 → ⊥) (sym forms) lead.there;
+        above = λ s w less. subst (λ l. IsCongruent p.q (coef tree_discrete l s) 0) (sym forms) (lead.above s w less);
       })
 
   pub of_normal : (t : Tree ℕ) → Normal c n le t → IsNormalTree c.presentation c.compare n t

@@ -3,7 +3,7 @@ use Rattle.std.proofs.Common.{◌≡◌, ⊎_elim, ℕ, zero, suc, ◌^◌, ◌<
 use mathlib.Core.Path.{ap₂}
 use Rattle.std.proofs.lemmas.List.{map-id}
 use Rattle.std.proofs.Math.Nat.{pow-zero, pow-succ'}
-use Rattle.modular_sums.specs.Residues.{Alike}
+use Rattle.modular_sums.specs.Residues.{IsCongruent}
 use Rattle.modular_sums.proofs.Residues.{alike_mul}
 use Rattle.labelled_trees.specs.Trees.{Tree, Row, leaf, node, none, more, inputs}
 use Rattle.labelled_trees.specs.Leaves.{occurs, occurs_row}
@@ -31,7 +31,7 @@ use Rattle.shuffle_transfer.proofs.Forms.{form_rises, occurs-form}
 -- ---- residues and counts
 
 -- minus 1 to the power of a count of changes is the residue of their sign
-pub residue-count : (q n : ℕ) → Alike q (q ^ n) (residue_of q (sign_of n))
+pub residue-count : (q n : ℕ) → IsCongruent q (q ^ n) (residue_of q (sign_of n))
 residue-count q zero = rw pow-zero refl
 residue-count q (suc n) = rw (pow-succ' q n) (alike_mul q q q (q ^ n) (residue_of q (sign_of n)) refl (residue-count q n) ∙ residue-times q minus (sign_of n))
 

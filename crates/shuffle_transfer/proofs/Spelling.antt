@@ -24,7 +24,7 @@ use Rattle.shuffle_transfer.proofs.Words.{parts_plus}
 use Rattle.shuffle_transfer.proofs.Labels.{sorted_word, label_gen, label_word, word_of_label, label_is}
 use Rattle.shuffle_transfer.proofs.FormGrafts.{length-form_row}
 use Rattle.shuffle_transfer.proofs.Forms.{forms_rise, forms_apart, forms_ordering, fits-form_row}
-use Rattle.shuffle_transfer.proofs.Back.{AreLabelled, Back, back, occurs_back, item-map, every_item, to_symmetric_row-map}
+use Rattle.shuffle_transfer.proofs.TreesOfShuffleTrees.{AreLabelled, Back, back, occurs_back, item-map, every_item, to_symmetric_row-map}
 use Rattle.shuffle_transfer.proofs.Signs.{turn_of, twist, least_leaf-is}
 
 module _ (generators : List (List Part)) where

@@ -2,7 +2,7 @@
 use Rattle.std.proofs.Common.{◌≡◌, ℕ, zero, suc, ◌%◌, ◌<◌, ◌≤◌, List, [], ◌∷◌, length, refl, sym, ◌∙◌, ap, arith, subst}
 use native.Mathlib.Decide.{ℕ_discrete}
 use Rattle.modular_sums.specs.Lists.{Mem, Distinct}
-use Rattle.modular_sums.specs.Sums.{coef, Same, expand, Member, moved, AllTerms}
+use Rattle.modular_sums.specs.Sums.{coef, Same, expand, IsLinearCombination, moved, AllTerms}
 use Rattle.modular_sums.proofs.Sums.{Member-same}
 use Rattle.modular_sums.proofs.Images.{moved_eq, moved_ext, Same-moved}
 use Rattle.labelled_trees.specs.Trees.{Tree, leaf, graft}
@@ -26,11 +26,11 @@ use Rattle.shuffle_transfer.specs.Laws.{Kernel}
 use Rattle.shuffle_transfer.proofs.Permutes.{permutes_each}
 use Rattle.shuffle_transfer.proofs.Orderings.{ordering_permutes, entry_mem, mem_entry, entry_within}
 use Rattle.shuffle_insertions.proofs.Upto.{in_upto}
-use Rattle.shuffle_transfer.proofs.Forth.{forth}
+use Rattle.shuffle_transfer.proofs.ShuffleFormsFit.{forth}
 use Rattle.shuffle_transfer.proofs.Turned.{turned, shuffled-turned}
 use Rattle.shuffle_transfer.proofs.SlotInsertions.{SlotInsertion, slot_inserted}
-use Rattle.shuffle_transfer.proofs.Forward.{forward}
-use Rattle.shuffle_transfer.proofs.Return.{backward}
+use Rattle.shuffle_transfer.proofs.InstancesToInsertions.{forward}
+use Rattle.shuffle_transfer.proofs.InsertionsToInstances.{backward}
 
 -- ---- relabelled trees are labelled
 
@@ -122,7 +122,7 @@ module _ (p : Presentation) (n : ℕ) where
 
   module _ (sound : IsSound p) where
     -- an insertion into a frame as one into a slot
-    pub from_frame : (i : RelationInsertion p n) → Member tree_discrete (slot_inserted p n) p.q (inserted_relation p n i)
+    pub from_frame : (i : RelationInsertion p n) → IsLinearCombination tree_discrete (slot_inserted p n) p.q (inserted_relation p n i)
     from_frame i = Member-same tree_discrete (slot_inserted p n) p.q {e = inserted_relation p n i} {f = slot_inserted p n instance}
         (λ t. Same-moved tree_discrete tree_discrete p.q (insert i.frame) (shuffled p r) (turned p r) (shuffled-turned p i.relation.arity r labels) t
         ∙ ap (λ e. coef tree_discrete e t % suc p.q) (moved_ext (insert i.frame) (fill_slot s.slot) (turned p r) s.inserts))
@@ -149,7 +149,7 @@ module _ (p : Presentation) (n : ℕ) where
         }
 
     -- and conversely
-    pub to_frame : (i : SlotInsertion p n) → Member tree_discrete (inserted_relation p n) p.q (slot_inserted p n i)
+    pub to_frame : (i : SlotInsertion p n) → IsLinearCombination tree_discrete (inserted_relation p n) p.q (slot_inserted p n i)
     to_frame i = go i.relation.terms refl
       where
         k : ℕ
@@ -164,7 +164,7 @@ module _ (p : Presentation) (n : ℕ) where
         labels : AllTerms (relabelled i.permutation i.relation.terms) (IsLabelled arity i.relation.arity)
         labels = labelled-relabelled arity i.relation.arity i.permutation i.permutes i.relation.terms (sound i.relation i.there)
 
-        made : (x : Tree ℕ) → IsShuffle i.relation.arity x → IsShuffle n (fill_slot i.slot x) → Member tree_discrete (inserted_relation p n) p.q (slot_inserted p n i)
+        made : (x : Tree ℕ) → IsShuffle i.relation.arity x → IsShuffle n (fill_slot i.slot x) → IsLinearCombination tree_discrete (inserted_relation p n) p.q (slot_inserted p n i)
         made x hx v = Member-same tree_discrete (inserted_relation p n) p.q {e = slot_inserted p n i} {f = inserted_relation p n instance}
             (λ t. sym (Same-moved tree_discrete tree_discrete p.q (insert f) (shuffled p r) (turned p r) (shuffled-turned p i.relation.arity r labels) t
             ∙ ap (λ e. coef tree_discrete e t % suc p.q)
@@ -183,8 +183,8 @@ module _ (p : Presentation) (n : ℕ) where
                   (λ y hy. sym (insert-frame_of i.relation.arity n i.slot i.rises x hx v y hy)) i.valid;
             }
 
-        go : (l : List (ℕ × Tree ℕ)) → i.relation.terms ≡ l → Member tree_discrete (inserted_relation p n) p.q (slot_inserted p n i)
-        go [] e = subst (λ l. Member tree_discrete (inserted_relation p n) p.q (moved (fill_slot i.slot) (turned p (relabelled i.permutation l)))) (sym e) (member_zero tree_discrete (inserted_relation p n) p.q)
+        go : (l : List (ℕ × Tree ℕ)) → i.relation.terms ≡ l → IsLinearCombination tree_discrete (inserted_relation p n) p.q (slot_inserted p n i)
+        go [] e = subst (λ l. IsLinearCombination tree_discrete (inserted_relation p n) p.q (moved (fill_slot i.slot) (turned p (relabelled i.permutation l)))) (sym e) (member_zero tree_discrete (inserted_relation p n) p.q)
         go (x ∷ l) e =
             let h : AllTerms (turned p (relabelled i.permutation (x ∷ l))) (IsShuffle i.relation.arity) = subst (λ t. AllTerms (turned p (relabelled i.permutation t)) (IsShuffle i.relation.arity)) e (forms_shuffle i.relation.arity r labels) in
             let v : AllTerms (moved (fill_slot i.slot) (turned p (relabelled i.permutation (x ∷ l)))) Shuffles = subst (λ t. AllTerms (moved (fill_slot i.slot) (turned p (relabelled i.permutation t))) Shuffles) e i.valid in

@@ -2,8 +2,8 @@
 use Rattle.std.proofs.Common.{◌≡◌, ℕ, ◌+◌, ◌*◌, ◌^◌, List, [], ◌∷◌, refl, sym, ap, arith, subst}
 use mathlib.Core.Path.{ap₂}
 use mathlib.Core.List.{◌++◌}
-use Rattle.modular_sums.specs.Residues.{Alike}
-use Rattle.modular_sums.specs.Sums.{hit, coef, scale, Same, expand, Member, AllTerms}
+use Rattle.modular_sums.specs.Residues.{IsCongruent}
+use Rattle.modular_sums.specs.Sums.{hit, coef, scale, Same, expand, IsLinearCombination, AllTerms}
 use Rattle.modular_sums.proofs.Residues.{alike_add, alike_mul}
 use Rattle.modular_sums.proofs.Sums.{hit-mul, Member-append, Member-scale}
 use Rattle.modular_sums.proofs.Replacements.{sum_over}
@@ -30,10 +30,10 @@ module _ (p : Presentation) where
   turned [] = []
   turned (x ∷ e) = (x.0 * p.q ^ turns_of p x.1, shuffle_form p.generators x.1) ∷ turned e
 
-  pub sign_alike : (n : ℕ) (t : Tree ℕ) → IsLabelled (arity_of p) n t → Alike p.q (p.q ^ turns_of p t) (residue_of p.q (spelled_sign (parts p) t))
-  sign_alike n t h = subst (λ s. Alike p.q (p.q ^ turns_of p t) (residue_of p.q s)) (sign-turns (parts p) (label p.generators) t h.fits (labelled_once h)) (residue-count p.q (turns_of p t))
+  pub sign_alike : (n : ℕ) (t : Tree ℕ) → IsLabelled (arity_of p) n t → IsCongruent p.q (p.q ^ turns_of p t) (residue_of p.q (spelled_sign (parts p) t))
+  sign_alike n t h = subst (λ s. IsCongruent p.q (p.q ^ turns_of p t) (residue_of p.q s)) (sign-turns (parts p) (label p.generators) t h.fits (labelled_once h)) (residue-count p.q (turns_of p t))
 
-  alike_hit : {C : Type 0} (z : Dec C) (u v : ℕ) → Alike p.q u v → Alike p.q (hit z u) (hit z v)
+  alike_hit : {C : Type 0} (z : Dec C) (u v : ℕ) → IsCongruent p.q u v → IsCongruent p.q (hit z u) (hit z v)
   alike_hit (yes _) u v e = e
   alike_hit (no _) u v e = refl
 
@@ -69,8 +69,8 @@ module _ (p : Presentation) where
   Same-turned e f h t = rw (coef-turned e t, coef-turned f t) (same_sum (Tree ℕ) tree_discrete p.q e f (λ x. hit (tree_discrete (shuffle_form p.generators x) t) (p.q ^ turns_of p x)) h)
 
   -- where the shuffle forms of instances are sums of others, so is that of a sum of instances
-  pub member_turned : {I J : Type 0} (value : I → List (ℕ × Tree ℕ)) (other : J → List (ℕ × Tree ℕ)) → ((i : I) → Member tree_discrete other p.q (turned (value i)))
-      → (l : List (ℕ × I)) → Member tree_discrete other p.q (turned (expand value l))
+  pub member_turned : {I J : Type 0} (value : I → List (ℕ × Tree ℕ)) (other : J → List (ℕ × Tree ℕ)) → ((i : I) → IsLinearCombination tree_discrete other p.q (turned (value i)))
+      → (l : List (ℕ × I)) → IsLinearCombination tree_discrete other p.q (turned (expand value l))
   unfolding expand
   member_turned value other h [] = member_zero tree_discrete other p.q
   member_turned value other h (x ∷ l) =

@@ -1,4 +1,4 @@
-pub mod Certified
+pub mod GroebnerBases
 pub mod Labels
 pub mod Laws
 pub mod NormalLaws

@@ -13,7 +13,7 @@ use Rattle.operad_ideals.specs.Presentations.{Presentation, parts, arity_of, IsW
 use Rattle.operad_ideals.specs.Ideals.{InIdeal}
 use Rattle.operad_ideals.specs.Collected.{IsReduced}
 use Rattle.shuffle_transfer.specs.Labels.{inputs_of}
-use Rattle.shuffle_transfer.specs.Certified.{IsCertified}
+use Rattle.shuffle_transfer.specs.GroebnerBases.{IsGroebnerBasis}
 use Rattle.shuffle_transfer.specs.NormalTrees.{normal_list, IsIndependent, IsSpanning, IsCombination, IsNormalTree, HasNormalTrees, IsNormalForm}
 
 -- What a list of the normal trees of arity n that is independent and spanning modulo the ideal gives: each element is one combination of
@@ -40,5 +40,5 @@ NormalFormsByLists = (p : Presentation) (cmp : Tree ℕ → Tree ℕ → Orderin
 -- trees, each once; and it, like each list of these, has these properties.
 abbrev pub NormalTreesListed : Type 0
 NormalTreesListed = (p : Presentation) → IsSound p → IsWide p → 0 < p.q → (cmp : Tree ℕ → Tree ℕ → Ordering) → IsTreeOrder (inputs_of p.generators) cmp
-    → (elements : List Element) (N : ℕ) → IsCertified p cmp elements N
+    → (elements : List Element) (N : ℕ) → IsGroebnerBasis p cmp elements N
     → (n : ℕ) → n ≤ N → HasNormalTrees p cmp n (normal_list p.generators elements n) × ((l : List (Tree ℕ)) → HasNormalTrees p cmp n l → NormalLaw p cmp n l)

@@ -3,7 +3,7 @@ use Rattle.std.specs.Prelude.{ℕ, ◌≡◌, ◌↔◌, List, [], ◌∷◌, �
 use Rattle.std.proofs.Common.{suc}
 use Rattle.std.specs.declared.cmp.Ordering.{Ordering}
 use Rattle.std.specs.declared.cmp.Ordering.TheVariants.{Less}
-use Rattle.modular_sums.specs.Residues.{Alike}
+use Rattle.modular_sums.specs.Residues.{IsCongruent}
 use Rattle.modular_sums.specs.Lists.{Mem, Distinct}
 use Rattle.modular_sums.specs.Sums.{coef, Same, scale, AllTerms}
 use Rattle.labelled_trees.specs.Trees.{Tree}
@@ -68,8 +68,8 @@ module _ (p : Presentation) where
     pub record IsLead (e : List (ℕ × Tree ℕ)) (t : Tree ℕ) : Type 0 where
       pub labelled : IsLabelled (arity_of p) n t
       pub sorted : IsSorted (parts p) t
-      pub there : Alike p.q (coef tree_discrete (shuffled p e) (shuffle_form p.generators t)) 0 → ⊥
-      pub above : (s : Tree ℕ) → IsShuffleTree (inputs_of p.generators) n s → cmp (shuffle_form p.generators t) s ≡ Less → Alike p.q (coef tree_discrete (shuffled p e) s) 0
+      pub there : IsCongruent p.q (coef tree_discrete (shuffled p e) (shuffle_form p.generators t)) 0 → ⊥
+      pub above : (s : Tree ℕ) → IsShuffleTree (inputs_of p.generators) n s → cmp (shuffle_form p.generators t) s ≡ Less → IsCongruent p.q (coef tree_discrete (shuffled p e) s) 0
 
     -- A normal tree: a sorted labelled tree that is the leading tree of no element of the ideal
     -- (Bremner and Dotsenko 2016, normal monomials).

@@ -1,7 +1,7 @@
 -- Sums of insertions of shuffle forms of relabelled relations.
 use Rattle.std.specs.Prelude.{ℕ, ◌↔◌, ◌*◌, List, [], ◌∷◌, map}
 use Rattle.modular_sums.specs.Lists.{Mem}
-use Rattle.modular_sums.specs.Sums.{Member, moved, AllTerms}
+use Rattle.modular_sums.specs.Sums.{IsLinearCombination, moved, AllTerms}
 use Rattle.labelled_trees.specs.Trees.{Tree, leaf, graft}
 use Rattle.labelled_trees.specs.Equality.{tree_discrete}
 use Rattle.labelled_trees.specs.Labelled.{IsLabelled}
@@ -43,7 +43,7 @@ module _ (p : Presentation) where
 
   -- the element is a sum of numbers times insertions
   abbrev pub IsSumOfInsertions : ℕ → List (ℕ × Tree ℕ) → Type 0
-  IsSumOfInsertions n e = Member tree_discrete (inserted_relation n) p.q e
+  IsSumOfInsertions n e = IsLinearCombination tree_discrete (inserted_relation n) p.q e
 
 -- An element is in the ideal exactly where its shuffle form is a sum of insertions of shuffle forms of relabelled relations.
 abbrev pub Transfer : Type 0

@@ -10,7 +10,7 @@ use Rattle.shuffle_insertions.specs.ShuffleTrees.{least, least_row, IsRising, Is
 use Rattle.shuffle_insertions.specs.Frames.{Frame, IsFrame}
 use Rattle.shuffle_trees.specs.ValidTrees.{AreWide, IsValid}
 use Rattle.shuffle_trees.specs.ValidFrames.{IsValidFrame, frame_from}
-use Rattle.shuffle_trees.specs.Checks.{Added, IsTwice, IsOrdered, IsUnordered, AddedInputs, AreTwice}
+use Rattle.shuffle_trees.specs.Checks.{AddsLeaves, IsTwice, IsOrdered, IsUnordered, AddedInputs, AreTwice}
 use Rattle.shuffle_trees.proofs.Counts.{no_times}
 use Rattle.shuffle_trees.proofs.Validity.{counted}
 use Rattle.shuffle_trees.proofs.Vertices.{RisesFrom, row_of_rises}
@@ -62,7 +62,7 @@ valid_small (t ∷ ts) h k o = go (dec_lt 0 (occurs k t)) (λ p. valid_small ts 
 -- ---- what makes a frame
 
 -- the counts of the context and the inputs together
-both : (times after : List ℕ) (hole : Tree ℕ) (inputs : List (Tree ℕ)) → Added (replicate 256 0) times hole → AddedInputs times after inputs
+both : (times after : List ℕ) (hole : Tree ℕ) (inputs : List (Tree ℕ)) → AddsLeaves (replicate 256 0) times hole → AddedInputs times after inputs
     → (k : ℕ) → (occurs k hole + occurs_in k inputs ≤ 1) × (0 < occurs k hole + occurs_in k inputs → k < 256)
 both times after hole inputs a b k = go (dec_lt k 256)
   where
@@ -74,7 +74,7 @@ both times after hole inputs a b k = go (dec_lt k 256)
         let z : occurs k hole + occurs_in k inputs ≡ 0 = omega (arith, one, other) in (omega (arith, z), λ o. absurd (omega (arith, z, o)))
 
 pub frame_by : (times after : List ℕ) (hole : Tree ℕ) (inputs : List (Tree ℕ)) (first : ℕ) (found : Option ℕ) → 0 < length inputs → IsRisingRow (row inputs) → first ≡ least_row (row inputs)
-    → Added (replicate 256 0) times hole → slice_index times 0 ≡ 1 → AddedInputs times after inputs
+    → AddsLeaves (replicate 256 0) times hole → slice_index times 0 ≡ 1 → AddedInputs times after inputs
     → IfSome found (λ l. IsOrdered hole (put hole (leaf first)) l) → IfNone found (IsUnordered hole (put hole (leaf first)))
     → (IsTrue (is_some found) → IsValidFrame (frame_from hole inputs)) × (IsValidFrame (frame_from hole inputs) → IsTrue (is_some found))
 frame_by times after hole inputs first None has rise is a one b s n = (
@@ -98,10 +98,10 @@ frame_by times after hole inputs first (Some l) has rise is a one b s n = (
 pub twice_no_frame : (hole : Tree ℕ) (inputs : List (Tree ℕ)) → IsTwice (replicate 256 0) hole → IsValidFrame (frame_from hole inputs) → ⊥
 twice_no_frame hole inputs h v = h (λ k lt. let z = no_times k in let o = v.once k in omega (arith, z, o))
 
-pub holes_no_frame : (times : List ℕ) (hole : Tree ℕ) (inputs : List (Tree ℕ)) → Added (replicate 256 0) times hole → (slice_index times 0 ≡ 1 → ⊥) → IsValidFrame (frame_from hole inputs) → ⊥
+pub holes_no_frame : (times : List ℕ) (hole : Tree ℕ) (inputs : List (Tree ℕ)) → AddsLeaves (replicate 256 0) times hole → (slice_index times 0 ≡ 1 → ⊥) → IsValidFrame (frame_from hole inputs) → ⊥
 holes_no_frame times hole inputs a h v = h (let c = a.counts 0 (omega arith) in let z = no_times 0 in let o = v.context in omega (arith, c, z, o))
 
-pub repeated_no_frame : (times : List ℕ) (hole : Tree ℕ) (inputs : List (Tree ℕ)) → Added (replicate 256 0) times hole → AreTwice times inputs → IsValidFrame (frame_from hole inputs) → ⊥
+pub repeated_no_frame : (times : List ℕ) (hole : Tree ℕ) (inputs : List (Tree ℕ)) → AddsLeaves (replicate 256 0) times hole → AreTwice times inputs → IsValidFrame (frame_from hole inputs) → ⊥
 repeated_no_frame times hole inputs a h v = h (λ k lt. let z = no_times k in let c = a.counts k lt in let o = v.once k in omega (arith, z, c, o))
 
 -- a valid frame is a frame for trees with as many leaves as it has inputs

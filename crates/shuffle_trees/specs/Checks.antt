@@ -7,7 +7,7 @@ use Rattle.shuffle_insertions.specs.ShuffleTrees.{least, IsRising}
 use Rattle.shuffle_trees.specs.ValidTrees.{IsWide, IsValid}
 
 -- the counts rose by what stands at the leaves, and none is above 1
-pub record Added (before after : List ℕ) (t : Tree ℕ) : Type 0 where
+pub record AddsLeaves (before after : List ℕ) (t : Tree ℕ) : Type 0 where
   pub counts : (k : ℕ) → k < 256 → slice_index after k ≡ slice_index before k + occurs k t
   pub small : AllLeaves t (λ i. i < 256)
   pub once : (k : ℕ) → slice_index after k ≤ 1

@@ -3,9 +3,9 @@ use Rattle.std.specs.Prelude.{ℕ, ◌≤◌, List, [], ◌∷◌, ◌++◌, len
 use Rattle.std.specs.List.{All}
 
 -- for each pair of an arity and a number, as many labels of that arity
-abbrev pub labels_of : List (ℕ × ℕ) → List ℕ
-labels_of [] = []
-labels_of (kind ∷ kinds) = replicate kind.1 kind.0 ++ labels_of kinds
+abbrev pub labels_of_kinds : List (ℕ × ℕ) → List ℕ
+labels_of_kinds [] = []
+labels_of_kinds (kind ∷ kinds) = replicate kind.1 kind.0 ++ labels_of_kinds kinds
 
 -- At most 8,640 labels, each with two to six inputs.
 pub record AreFew (labels : List ℕ) : Type 0 where

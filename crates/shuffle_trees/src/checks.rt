@@ -2,14 +2,14 @@ ghost use Rattle.std.specs.Prelude.{◌≡◌, ◌<◌, ◌≤◌, ℕ, true, fa
 ghost use Rattle.labelled_trees.specs.Meaning.{tree_of};
 ghost use Rattle.labelled_trees.specs.Trees.{leaf};
 ghost use Rattle.labelled_trees.specs.Insertions.{put};
-ghost use Rattle.shuffle_trees.specs.Checks.{Added, IsTwice, IsOrdered, IsUnordered};
+ghost use Rattle.shuffle_trees.specs.Checks.{AddsLeaves, IsTwice, IsOrdered, IsUnordered};
 
 use crate::Shape;
 
 // Counts the leaves of a tree, by their numbers. False where a number then stands twice; the counts say nothing then.
 pub fn count_once(times: &mut [u8; 256], tree: &Shape) -> bool
     requires { (k : ℕ) → slice_index times.old k ≤ 1 }
-    ensures added { result ≡ true → Added times.old times.new (tree_of tree.now) }
+    ensures added { result ≡ true → AddsLeaves times.old times.new (tree_of tree.now) }
     ensures twice { result ≡ false → IsTwice times.old (tree_of tree.now) }
 {
     match tree {

@@ -1,5 +1,5 @@
 ghost use Rattle.std.specs.Prelude.{◌≡◌, ◌<◌, ◌≤◌, ◌++◌, length, replicate, IfOk, OnOk};
-ghost use Rattle.shuffle_trees.specs.LabelLists.{labels_of, arity_in, AreFew};
+ghost use Rattle.shuffle_trees.specs.LabelLists.{labels_of_kinds, arity_in, AreFew};
 
 use sqlite_items::Items;
 use std::alloc::{AllocError, Global};
@@ -37,8 +37,8 @@ impl Labels {
     /// For each pair of an arity and a number, in order, as many labels of that arity. The arities are from 2 to 6,
     /// and there are at most 8,640 labels in all. `AllocError` comes for want of memory alone.
     pub fn of(alloc: Global, kinds: &[(u8, u16)]) -> Result<Labels, AllocError>
-        requires few { AreFew (labels_of kinds.now) }
-        ensures labels { IfOk result (λ labels. labels ≡ labels_of kinds.now) }
+        requires few { AreFew (labels_of_kinds kinds.now) }
+        ensures labels { IfOk result (λ labels. labels ≡ labels_of_kinds kinds.now) }
     {
         let mut arities = Items::new(alloc);
         for kind in kinds {

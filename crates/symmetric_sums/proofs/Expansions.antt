@@ -20,7 +20,7 @@ use Rattle.symmetric_trees.specs.declared.generators.Generator.{Generator}
 use Rattle.labelled_trees.specs.Labelled.{IsNumbered}
 use Rattle.symmetric_sums.specs.Terms.{ArityIs, HaveArity, terms_of}
 use Rattle.symmetric_sums.specs.Collecting.{IsResidue}
-use Rattle.symmetric_sums.specs.Instances.{element_arity, in_place, IsValid, products, without_zeros, instance_element, IsExpandedTo, sum_at}
+use Rattle.symmetric_sums.specs.Instances.{element_arity, in_place, IsValidInstance, products, without_zeros, instance_element, IsExpandedTo, sum_at}
 use Rattle.symmetric_sums.specs.Expanding.{HasPlace, IsFilled}
 use Rattle.symmetric_sums.specs.declared.expanding.ExpandFail.{ExpandFail}
 use Rattle.symmetric_sums.specs.declared.expanding.ExpandFail.TheVariants.{Unfit, NoMemory}
@@ -132,15 +132,15 @@ no_nil [] l e = omega (arith, l)
 no_nil (t ∷ ts) l e = cc e
 
 -- what is valid has its place
-pub valid-place : (generators : List Generator) (terms : List Term) (n : ℕ) (instance : Instance) → IsValid generators (terms_of terms) n instance → HasPlace terms instance
+pub valid-place : (generators : List Generator) (terms : List Term) (n : ℕ) (instance : Instance) → IsValidInstance generators (terms_of terms) n instance → HasPlace terms instance
 valid-place generators terms n instance v = record { some = some_length terms v.has_terms; as_many = v.as_many; is_context = v.is_context; no_zero = v.no_zero }
 
 -- the filled trees of what is valid
-pub valid-each : (generators : List Generator) (terms : List Term) (n : ℕ) (instance : Instance) → IsValid generators (terms_of terms) n instance → All (λ t. IsLabelled generators n (in_place instance (tree_of t.tree))) terms
+pub valid-each : (generators : List Generator) (terms : List Term) (n : ℕ) (instance : Instance) → IsValidInstance generators (terms_of terms) n instance → All (λ t. IsLabelled generators n (in_place instance (tree_of t.tree))) terms
 valid-each generators terms n instance v = All-from_recursion (λ (t : Term). IsLabelled generators n (in_place instance (tree_of t.tree))) terms (all_terms-each terms (in_place instance) (IsLabelled generators n) v.labelled)
 
 pub place-valid : (generators : List Generator) (terms : List Term) (n : ℕ) (instance : Instance) → HasPlace terms instance → All (λ t. IsLabelled generators n (in_place instance (tree_of t.tree))) terms
-    → IsValid generators (terms_of terms) n instance
+    → IsValidInstance generators (terms_of terms) n instance
 place-valid generators terms n instance h l = record {
   has_terms = no_nil terms h.some;
   as_many = h.as_many;
@@ -160,13 +160,13 @@ one_label generators m n t a b = one_number m n t (numbered_of_labelled a) (numb
 
 -- a term that fills to no labelled tree
 pub unfit-tree : (generators : List Generator) (instance : Instance) (terms : List Term) (i : ℕ) (t : Term) → i < length terms → t ≡ get_or terms i t
-    → ((n : ℕ) → IsLabelled generators n (in_place instance (tree_of t.tree)) → ⊥) → (n : ℕ) → IsValid generators (terms_of terms) n instance → ⊥
+    → ((n : ℕ) → IsLabelled generators n (in_place instance (tree_of t.tree)) → ⊥) → (n : ℕ) → IsValidInstance generators (terms_of terms) n instance → ⊥
 unfit-tree generators instance terms i t l e none n v = none n (subst (λ (x : Term). IsLabelled generators n (in_place instance (tree_of x.tree))) (sym e) (valid-each generators terms n instance v i t l))
 
 -- a term that fills to a tree of another arity than one before it
 pub unfit-arity : (p : ℕ) (generators : List Generator) (instance : Instance) (terms made : List Term) (arity : Option ℕ) (i m own : ℕ) (t : Term) → i < length terms → t ≡ get_or terms i t
     → IsExpandedSoFar p generators instance (take i terms) made arity → arity ≡ Some m → m ≢ own → IsLabelled generators own (in_place instance (tree_of t.tree))
-    → (n : ℕ) → IsValid generators (terms_of terms) n instance → ⊥
+    → (n : ℕ) → IsValidInstance generators (terms_of terms) n instance → ⊥
 unfit-arity p generators instance terms made arity i m own t l e h is ne label n v =
     let some : 0 < length (take i terms) = (h.some m is).0 in
     let all = valid-each generators terms n instance v in
@@ -242,7 +242,7 @@ failed-step p generators instance terms i t NoMemory r l e h is = subst (IsExpan
 
 -- the whole element
 pub whole-valid : (p : ℕ) (generators : List Generator) (instance : Instance) (terms made : List Term) (arity : Option ℕ) (i n : ℕ) → length terms ≤ i → HasPlace terms instance
-    → IsExpandedSoFar p generators instance (take i terms) made arity → arity ≡ Some n → IsValid generators (terms_of terms) n instance × (terms_of made ≡ instance_element p (terms_of terms) instance)
+    → IsExpandedSoFar p generators instance (take i terms) made arity → arity ≡ Some n → IsValidInstance generators (terms_of terms) n instance × (terms_of made ≡ instance_element p (terms_of terms) instance)
 whole-valid p generators instance terms made arity i n l h so_far is =
     let all = take_all i terms l in (
       place-valid generators terms n instance h (subst (All (λ (t : Term). IsLabelled generators n (in_place instance (tree_of t.tree)))) all (so_far.some n is).1),
@@ -272,5 +272,5 @@ sum_at-past (x ∷ xs) (suc zero) positive l = absurd (omega (arith, l))
 sum_at-past (x ∷ xs) (suc (suc k)) positive l = sum_at-past xs (suc k) (omega arith) (omega (arith, l))
 
 -- no instance around nothing is valid
-pub nothing-valid : (generators : List Generator) (e : List (ℕ × Tree ℕ)) (instance : Instance) → e ≡ [] → (n : ℕ) → IsValid generators e n instance → ⊥
+pub nothing-valid : (generators : List Generator) (e : List (ℕ × Tree ℕ)) (instance : Instance) → e ≡ [] → (n : ℕ) → IsValidInstance generators e n instance → ⊥
 nothing-valid generators e instance is n v = v.has_terms is

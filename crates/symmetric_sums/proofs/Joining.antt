@@ -5,7 +5,7 @@ use Rattle.std.specs.declared.cmp.Ordering.{Ordering}
 use Rattle.std.specs.declared.cmp.Ordering.TheVariants.{Less, Equal, Greater}
 use Rattle.std.specs.Ordering.{is_lt, is_ne, ordering_reverse}
 use Rattle.modular_sums.specs.Lists.{Mem}
-use Rattle.modular_sums.specs.Residues.{Alike}
+use Rattle.modular_sums.specs.Residues.{IsCongruent}
 use Rattle.modular_sums.specs.Sums.{hit}
 use Rattle.modular_sums.proofs.Residues.{alike_add}
 use Rattle.labelled_trees.specs.Trees.{Tree}
@@ -34,10 +34,10 @@ other_before t u l ne = by_order (order t u) (order u t) (order_is_total.turned 
 -- ---- one more term
 
 module _ (p : ℕ) (old new : List Term) (term : Term) where
-  pub joined-weight : JoinedTo p old term new → (t : Tree ℕ) → Alike (p - 1) (weight new t) (weight old t + share term t)
+  pub joined-weight : JoinedTo p old term new → (t : Tree ℕ) → IsCongruent (p - 1) (weight new t) (weight old t + share term t)
   joined-weight (apart ne e) t = ap (λ n. n % suc (p - 1)) (ap (λ xs. weight xs t) e ∙ weight-push old term t)
   joined-weight (added front last c e same small alike is) t =
-      let d : Alike (p - 1) (hit (tree_discrete (tree_of term.tree) t) c) (hit (tree_discrete (tree_of term.tree) t) last.coef + share term t) = two_hits (p - 1) (tree_discrete (tree_of term.tree) t) c last.coef term.coef alike in
+      let d : IsCongruent (p - 1) (hit (tree_discrete (tree_of term.tree) t) c) (hit (tree_discrete (tree_of term.tree) t) last.coef + share term t) = two_hits (p - 1) (tree_discrete (tree_of term.tree) t) c last.coef term.coef alike in
       let mine : share last t ≡ hit (tree_discrete (tree_of term.tree) t) last.coef = ap (λ u. hit (tree_discrete u t) last.coef) same in
       let before : weight old t ≡ weight front t + share last t = ap (λ xs. weight xs t) e ∙ weight-push front last t in
       let after : weight new t ≡ weight front t + hit (tree_discrete (tree_of term.tree) t) c = ap (λ xs. weight xs t) is ∙ weight-push front (record { coef = c; tree = term.tree }) t in
@@ -46,7 +46,7 @@ module _ (p : ℕ) (old new : List Term) (term : Term) where
       ∙ alike_add (p - 1) (weight front t) (weight front t) (hit (tree_discrete (tree_of term.tree) t) c) (hit (tree_discrete (tree_of term.tree) t) last.coef + share term t) refl d
       ∙ ap (λ n. n % suc (p - 1)) sum
   joined-weight (cancelled front last e same alike is) t =
-      let d : Alike (p - 1) (hit (tree_discrete (tree_of term.tree) t) 0) (hit (tree_discrete (tree_of term.tree) t) last.coef + share term t) = two_hits (p - 1) (tree_discrete (tree_of term.tree) t) 0 last.coef term.coef alike in
+      let d : IsCongruent (p - 1) (hit (tree_discrete (tree_of term.tree) t) 0) (hit (tree_discrete (tree_of term.tree) t) last.coef + share term t) = two_hits (p - 1) (tree_discrete (tree_of term.tree) t) 0 last.coef term.coef alike in
       let nothing : hit (tree_discrete (tree_of term.tree) t) 0 ≡ 0 = hit_nothing (tree_discrete (tree_of term.tree) t) in
       let mine : share last t ≡ hit (tree_discrete (tree_of term.tree) t) last.coef = ap (λ u. hit (tree_discrete u t) last.coef) same in
       let before : weight old t ≡ weight front t + share last t = ap (λ xs. weight xs t) e ∙ weight-push front last t in
@@ -99,7 +99,7 @@ trees = map (λ x. tree_of x.tree)
 
 -- what is put together so far, and what is left
 pub record IsOnTheWay (p : ℕ) (whole rest terms : List Term) : Type 0 where
-  pub same : (t : Tree ℕ) → Alike (p - 1) (weight terms t + weight rest t) (weight whole t)
+  pub same : (t : Tree ℕ) → IsCongruent (p - 1) (weight terms t + weight rest t) (weight whole t)
   pub ascending : Pairs Before terms
   pub residues : AllByRecursion (IsResidue p) terms
   pub found : AllByRecursion (λ x. Mem (tree_of x.tree) (trees whole)) terms
@@ -136,7 +136,7 @@ way-step p whole rest left terms new term way e joined =
     let behind_are = each-pop (λ (r : Term). AllByRecursion (NotBefore r) terms) left term (subst (AllByRecursion (λ (r : Term). AllByRecursion (NotBefore r) terms)) e way.behind) in
     record {
       same = λ t.
-          let now : Alike (p - 1) (weight new t) (weight terms t + share term t) = joined-weight p terms new term joined t in
+          let now : IsCongruent (p - 1) (weight new t) (weight terms t + share term t) = joined-weight p terms new term joined t in
           let before : weight rest t ≡ weight left t + share term t = ap (λ xs. weight xs t) e ∙ weight-push left term t in
           let sum : weight terms t + share term t + weight left t ≡ weight terms t + weight rest t = omega (arith, before) in
           alike_add (p - 1) (weight new t) (weight terms t + share term t) (weight left t) (weight left t) now refl ∙ ap (λ n. n % suc (p - 1)) sum ∙ way.same t;

@@ -6,7 +6,7 @@ use Rattle.std.proofs.lemmas.List.{length-map}
 use Rattle.std.proofs.lemmas.List.Elements.{recursion_from_All}
 use native.Mathlib.Decide.{ℕ_discrete}
 use Rattle.modular_sums.specs.Lists.{Mem}
-use Rattle.modular_sums.specs.Residues.{Alike}
+use Rattle.modular_sums.specs.Residues.{IsCongruent}
 use Rattle.modular_sums.specs.Sums.{hit, coef, scale, Same, moved, AllTerms}
 use Rattle.modular_sums.proofs.Images.{moved_ext}
 use Rattle.modular_sums.proofs.Residues.{alike_add}
@@ -31,7 +31,7 @@ use Rattle.symmetric_trees.specs.Generators.{parts_at}
 use Rattle.symmetric_trees.specs.Trees.{IsLabelled}
 use Rattle.symmetric_trees.specs.declared.generators.Generator.{Generator}
 use Rattle.symmetric_sums.specs.Terms.{terms_of}
-use Rattle.symmetric_sums.specs.Instances.{sum_at, exchange_sign, symmetry_terms, symmetry_rule, rule_element, element_arity, in_place, IsValid, products, without_zeros, instance_element}
+use Rattle.symmetric_sums.specs.Instances.{sum_at, exchange_sign, symmetry_terms, symmetry_rule, rule_element, element_arity, in_place, IsValidInstance, products, without_zeros, instance_element}
 use Rattle.symmetric_sums.specs.Membership.{relation_of, presentation_of, IsElement, IsMember, InstancesAreMembers}
 use Rattle.symmetric_sums.specs.declared.term.Term.{Term}
 use Rattle.symmetric_sums.specs.declared.instance.Rule as program_rule
@@ -45,10 +45,10 @@ use Rattle.symmetric_sums.proofs.PlacedIdeals.{placed_member}
 
 -- ---- products modulo p, without zeros, as a multiple
 
-alike_mod : (q a : ℕ) → Alike q (a % suc q) a
+alike_mod : (q a : ℕ) → IsCongruent q (a % suc q) a
 alike_mod q a = mod-mod a (suc q)
 
-hit_alike : {A : Type 0} (q : ℕ) (d : Dec A) (a : ℕ) → Alike q (hit d (a % suc q)) (hit d a)
+hit_alike : {A : Type 0} (q : ℕ) (d : Dec A) (a : ℕ) → IsCongruent q (hit d (a % suc q)) (hit d a)
 hit_alike q (yes _) a = alike_mod q a
 hit_alike q (no _) a = refl
 
@@ -88,7 +88,7 @@ module _ (p : ℕ) (generators : List Generator) (rels : List (List Term)) (n : 
   no_zero_each (t ∷ ts) h u (inl e) = ap (occurs 0) e ∙ h.0
   no_zero_each (t ∷ ts) h u (inr m) = no_zero_each ts h.1 u m
 
-  around_rule : (rule : Rule whole) (instance : Instance) → IsValid generators (rule_terms whole rule) n instance → length instance.inputs ≡ rule_arity whole rule
+  around_rule : (rule : Rule whole) (instance : Instance) → IsValidInstance generators (rule_terms whole rule) n instance → length instance.inputs ≡ rule_arity whole rule
       → InIdeal whole n (instance_element p (rule_terms whole rule) instance)
   around_rule rule instance v as_many =
       let plain : PlainInstance whole n = record {
@@ -110,14 +110,14 @@ module _ (p : ℕ) (generators : List Generator) (rels : List (List Term)) (n : 
   relation_at (x ∷ xs) (suc (suc k)) h = let r = relation_at xs (suc k) h in (r.0, inr r.1, r.2)
 
   -- an instance of a relation
-  around_relation : (k : ℕ) (instance : Instance) → IsValid generators (sum_at rels k) n instance → InIdeal whole n (instance_element p (sum_at rels k) instance)
+  around_relation : (k : ℕ) (instance : Instance) → IsValidInstance generators (sum_at rels k) n instance → InIdeal whole n (instance_element p (sum_at rels k) instance)
   around_relation k instance v =
       let r = relation_at rels k v.has_terms in
-      let w : IsValid generators (terms_of r.0) n instance = subst (λ e. IsValid generators e n instance) r.2 v in
+      let w : IsValidInstance generators (terms_of r.0) n instance = subst (λ e. IsValidInstance generators e n instance) r.2 v in
       subst (λ e. InIdeal whole n (instance_element p e instance)) (sym r.2) (around_rule (relation (relation_of r.0) r.1) instance w w.as_many)
 
   -- an instance of a symmetry rule
-  around_signed : (g at : ℕ) (o : Option Sign) (instance : Instance) → ((s : Sign) → o ≡ Some s → exchange_sign (parts_at generators g) (at - 1) ≡ Some s) → IsValid generators (symmetry_terms p generators g at o) n instance
+  around_signed : (g at : ℕ) (o : Option Sign) (instance : Instance) → ((s : Sign) → o ≡ Some s → exchange_sign (parts_at generators g) (at - 1) ≡ Some s) → IsValidInstance generators (symmetry_terms p generators g at o) n instance
       → InIdeal whole n (instance_element p (symmetry_terms p generators g at o) instance)
   around_signed g at None instance is v = absurd (v.has_terms refl)
   around_signed g at (Some s) instance is v =
@@ -125,7 +125,7 @@ module _ (p : ℕ) (generators : List Generator) (rels : List (List Term)) (n : 
       around_rule (symmetry g (at - 1) s (exchange-in_part (parts_at generators g) (at - 1) s (is s refl))) instance v
       (v.as_many ∙ leaf_count-numbered k (node g (numbered 0 k)) (numbered-numbered g k))
 
-  around_symmetry : (g at : ℕ) (instance : Instance) → IsValid generators (symmetry_rule p generators g at) n instance → InIdeal whole n (instance_element p (symmetry_rule p generators g at) instance)
+  around_symmetry : (g at : ℕ) (instance : Instance) → IsValidInstance generators (symmetry_rule p generators g at) n instance → InIdeal whole n (instance_element p (symmetry_rule p generators g at) instance)
   around_symmetry g zero instance v = absurd (v.has_terms refl)
   around_symmetry g (suc i) instance v =
       let e : suc i - 1 ≡ i = omega arith in
@@ -141,7 +141,7 @@ module _ (p : ℕ) (generators : List Generator) (rels : List (List Term)) (n : 
   pub sound : All (λ rel. IsElement generators (terms_of rel)) rels → IsSound whole
   sound h = sound_each rels (recursion_from_All (λ rel. IsElement generators (terms_of rel)) rels h)
 
-  around_member : All (λ rel. IsElement generators (terms_of rel)) rels → (e : List (ℕ × Tree ℕ)) (instance : Instance) → IsMember p generators rels e → IsValid generators e n instance
+  around_member : All (λ rel. IsElement generators (terms_of rel)) rels → (e : List (ℕ × Tree ℕ)) (instance : Instance) → IsMember p generators rels e → IsValidInstance generators e n instance
       → InIdeal whole n (instance_element p e instance)
   around_member relations [] instance member v = absurd (v.has_terms refl)
   around_member relations (x ∷ e) instance member v =
@@ -166,7 +166,7 @@ module _ (p : ℕ) (generators : List Generator) (rels : List (List Term)) (n : 
   step_at (x ∷ xs) (suc (suc k)) h all = step_at xs (suc k) h all.1
 
   by_rule : (rule : program_rule.Rule) (steps : List (List Term)) (instance : Instance) → All (λ rel. IsElement generators (terms_of rel)) rels → All (λ step. IsMember p generators rels (terms_of step)) steps
-      → IsValid generators (rule_element p generators rels steps rule) n instance → InIdeal whole n (instance_element p (rule_element p generators rels steps rule) instance)
+      → IsValidInstance generators (rule_element p generators rels steps rule) n instance → InIdeal whole n (instance_element p (rule_element p generators rels steps rule) instance)
   by_rule (Rel k) steps instance relations members v = around_relation k instance v
   by_rule (Swap g at) steps instance relations members v = around_symmetry g at instance v
   by_rule (Step k) steps instance relations members v =

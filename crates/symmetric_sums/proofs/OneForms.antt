@@ -2,7 +2,7 @@
 use Rattle.std.proofs.Common.{◌≡◌, ◌≢◌, ℕ, suc, ◌+◌, ◌*◌, ◌%◌, List, [], ◌∷◌, refl, ap, sym, ◌∙◌, subst, arith}
 use mathlib.Core.List.{◌++◌}
 use native.Mathlib.Decide.{ℕ_discrete}
-use Rattle.modular_sums.specs.Residues.{Alike}
+use Rattle.modular_sums.specs.Residues.{IsCongruent}
 use Rattle.modular_sums.specs.Sums.{hit, coef, scale, moved, AllTerms}
 use Rattle.modular_sums.proofs.Residues.{alike_add, alike_mul, alike_drop}
 use Rattle.modular_sums.proofs.Sums.{coef-append, coef-scale, expand-moved}
@@ -98,7 +98,7 @@ module _ (p : Presentation) where
       ∙ ap (λ k. k % suc p.q) (sym (less-coef e (spelled_sum p.q (parts p) e) t)))
       (ideal_lifted sound m (e ++ scale p.q (spelled_sum p.q (parts p) e)) (less_collected p m e le))
     where
-      none : (t : Tree ℕ) → Dec (leaf_count t ≡ m) → Alike p.q (coef tree_discrete (spelled_sum p.q (parts p) e) t) 0
+      none : (t : Tree ℕ) → Dec (leaf_count t ≡ m) → IsCongruent p.q (coef tree_discrete (spelled_sum p.q (parts p) e) t) 0
       none t (no f') = ap (λ k. k % suc p.q) (coef_apart m (spelled_sum p.q (parts p) e) t (spelled_leaves m e le) f')
       none t (yes same) =
           sym (form-same p m e h.0 h.1 t) ∙ form-same p m f h.0 h.2 t

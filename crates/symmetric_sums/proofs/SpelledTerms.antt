@@ -5,7 +5,7 @@ use Rattle.std.proofs.lemmas.List.Elements.{All-from_recursion, recursion_from_A
 use Rattle.std.proofs.lemmas.List.Sorted.{All-permutation, length_permutation}
 use Rattle.std.proofs.Math.Seq.{take-suc, take-append_seam}
 use Rattle.modular_sums.specs.Lists.{Mem}
-use Rattle.modular_sums.specs.Residues.{Alike}
+use Rattle.modular_sums.specs.Residues.{IsCongruent}
 use Rattle.modular_sums.specs.Sums.{hit, coef}
 use Rattle.modular_sums.proofs.Residues.{alike_add, alike_cancel, alike_drop}
 use Rattle.labelled_trees.specs.Trees.{Tree}
@@ -39,7 +39,7 @@ use Rattle.symmetric_sums.proofs.Weights.{weight, share, weight-permutation, ali
 
 -- a residue times a sign
 pub signed_residue : (p c r : ℕ) (sign : Sign) (s : math.Sign) → s ≡ program.meaning_of sign → 0 < c → c < p → (sign ≡ Plus → r ≡ c) → (sign ≡ Minus → r + c ≡ p)
-    → Alike (p - 1) r (residue_of (p - 1) s * c) × (0 < r) × (r < p)
+    → IsCongruent (p - 1) r (residue_of (p - 1) s * c) × (0 < r) × (r < p)
 signed_residue p c r Plus s e pc lc f g =
     let same : r ≡ c = f refl in
     let one : 1 * c ≡ c = omega arith in
@@ -47,8 +47,8 @@ signed_residue p c r Plus s e pc lc f g =
 signed_residue p c r Minus s e pc lc f g =
     let whole : r + c ≡ p = g refl in
     let q = p - 1 in
-    let left : Alike q (0 + (1 + q * 1)) 0 = alike_drop q 0 1 in
-    let right : Alike q (0 + (c + q * c)) 0 = alike_drop q 0 c in
+    let left : IsCongruent q (0 + (1 + q * 1)) 0 = alike_drop q 0 1 in
+    let right : IsCongruent q (0 + (c + q * c)) 0 = alike_drop q 0 c in
     let e₁ : 0 + (1 + q * 1) ≡ r + c = omega arith in
     let e₂ : 0 + (c + q * c) ≡ q * c + c = omega arith in (
       alike_cancel q r (q * c) c ((rw e₁ at left) ∙ sym (rw e₂ at right)) ∙ ap (λ x. (residue_of q x * c) % suc q) (sym e),
@@ -70,7 +70,7 @@ module _ (p : ℕ) (generators : List Generator) where
   spellings-residues (t ∷ ts) (u ∷ us) h = (h.0.residue, spellings-residues ts us h.1)
 
   -- the coefficients of the spellings
-  pub spellings-weight : (ts us : List Term) → AreSpellings p generators ts us → (t : Tree ℕ) → Alike (p - 1) (weight us t) (coef tree_discrete (spelled_sum (p - 1) (parts_at generators) (terms_of ts)) t)
+  pub spellings-weight : (ts us : List Term) → AreSpellings p generators ts us → (t : Tree ℕ) → IsCongruent (p - 1) (weight us t) (coef tree_discrete (spelled_sum (p - 1) (parts_at generators) (terms_of ts)) t)
   unfolding coef
   spellings-weight [] [] h t = refl
   spellings-weight [] (u ∷ us) h t = absurd h

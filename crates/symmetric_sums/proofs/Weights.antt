@@ -3,7 +3,7 @@ use Rattle.std.proofs.Common.{◌≡◌, ℕ, ◌+◌, List, [], ◌∷◌, ◌+
 use Rattle.std.specs.List.{sum_by}
 use Rattle.std.proofs.lemmas.List.Sums.{sum_by-cons}
 use Rattle.std.proofs.lemmas.List.Sorted.{sum_by-IsPermutation}
-use Rattle.modular_sums.specs.Residues.{Alike}
+use Rattle.modular_sums.specs.Residues.{IsCongruent}
 use Rattle.modular_sums.specs.Sums.{hit, coef}
 use Rattle.labelled_trees.specs.Trees.{Tree}
 use Rattle.labelled_trees.specs.Equality.{tree_discrete}
@@ -41,10 +41,10 @@ weight-sum (x ∷ xs) t = weight-cons x xs t ∙ ap (λ n. share x t + n) (weigh
 pub weight-permutation : (xs ys : List Term) (t : Tree ℕ) → IsPermutation xs ys → weight ys t ≡ weight xs t
 weight-permutation xs ys t h = weight-sum ys t ∙ sum_by-IsPermutation (λ x. share x t) xs ys h ∙ sym (weight-sum xs t)
 
-pub alike_hit : {A : Type 0} (q : ℕ) (d : Dec A) (a b : ℕ) → Alike q a b → Alike q (hit d a) (hit d b)
+pub alike_hit : {A : Type 0} (q : ℕ) (d : Dec A) (a b : ℕ) → IsCongruent q a b → IsCongruent q (hit d a) (hit d b)
 alike_hit q (yes _) a b h = h
 alike_hit q (no _) a b h = refl
 
-pub two_hits : {A : Type 0} (q : ℕ) (d : Dec A) (c a b : ℕ) → Alike q c (a + b) → Alike q (hit d c) (hit d a + hit d b)
+pub two_hits : {A : Type 0} (q : ℕ) (d : Dec A) (c a b : ℕ) → IsCongruent q c (a + b) → IsCongruent q (hit d c) (hit d a + hit d b)
 two_hits q (yes _) c a b h = h
 two_hits q (no _) c a b h = refl

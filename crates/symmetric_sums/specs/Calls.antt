@@ -17,10 +17,10 @@ abbrev pub Joins : ℕ → program.Tree → List Term → Type 0
 Joins coef tree terms = 0 < coef → (n : ℕ) × IsNumbered n (tree_of tree) × HaveArity n terms
 
 -- what `add_term` answers and leaves
-abbrev pub Added : ℕ → program.Tree → List Term → Result (Unit {0}) SumFail → List Term → Type 0
-Added coef tree old (Ok done) new = (new ≡ with_term coef tree old) × Joins coef tree old
-Added coef tree old (Err ArityDiffers) new = (new ≡ old) × (Joins coef tree old → ⊥)
-Added coef tree old (Err NoMemory) new = (new ≡ old) × (0 < coef) × Joins coef tree old
+abbrev pub TermIsAdded : ℕ → program.Tree → List Term → Result (Unit {0}) SumFail → List Term → Type 0
+TermIsAdded coef tree old (Ok done) new = (new ≡ with_term coef tree old) × Joins coef tree old
+TermIsAdded coef tree old (Err ArityDiffers) new = (new ≡ old) × (Joins coef tree old → ⊥)
+TermIsAdded coef tree old (Err NoMemory) new = (new ≡ old) × (0 < coef) × Joins coef tree old
 
 -- what `minus` answers
 abbrev pub Subtracted : ℕ → List Term → List Term → Result (List Term) SumFail → Type 0

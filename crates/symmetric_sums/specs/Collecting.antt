@@ -5,7 +5,7 @@ use Rattle.std.specs.declared.cmp.Ordering.TheVariants.{Less}
 use Rattle.std.specs.Ordering.{is_lt}
 use Rattle.std.proofs.Common.{false}
 use Rattle.modular_sums.specs.Lists.{Mem}
-use Rattle.modular_sums.specs.Residues.{Alike}
+use Rattle.modular_sums.specs.Residues.{IsCongruent}
 use Rattle.modular_sums.specs.Sums.{Same}
 use Rattle.labelled_trees.specs.Equality.{tree_discrete}
 use Rattle.labelled_trees.specs.Meaning.{tree_of}
@@ -32,7 +32,7 @@ IsResidue p term = (0 < term.coef) × (term.coef < p)
 
 -- the second term is the first one's sorted spelling, with its number times the sign
 pub record IsSpellingOf (p : ℕ) (generators : List Generator) (term spelling : Term) : Type 0 where
-  pub coef : Alike (p - 1) spelling.coef (residue_of (p - 1) (spelled_sign (parts_at generators) (tree_of term.tree)) * term.coef)
+  pub coef : IsCongruent (p - 1) spelling.coef (residue_of (p - 1) (spelled_sign (parts_at generators) (tree_of term.tree)) * term.coef)
   pub residue : IsResidue p spelling
   pub tree : tree_of spelling.tree ≡ spelled (parts_at generators) (tree_of term.tree)
 
@@ -47,9 +47,9 @@ AreSpellings p generators (t ∷ ts) (u ∷ us) = IsSpellingOf p generators t u 
 pub data JoinedTo (p : ℕ) (old : List Term) (term : Term) (new : List Term) : Type 0 where
   apart : ((front : List Term) (last : Term) → old ≡ front ++ last ∷ [] → tree_of last.tree ≢ tree_of term.tree) → new ≡ old ++ term ∷ [] → JoinedTo p old term new
   added : (front : List Term) (last : Term) (coef : ℕ) → old ≡ front ++ last ∷ [] → tree_of last.tree ≡ tree_of term.tree → (0 < coef) × (coef < p)
-      → Alike (p - 1) coef (last.coef + term.coef) → new ≡ front ++ record { coef = coef; tree = term.tree } ∷ [] → JoinedTo p old term new
+      → IsCongruent (p - 1) coef (last.coef + term.coef) → new ≡ front ++ record { coef = coef; tree = term.tree } ∷ [] → JoinedTo p old term new
   cancelled : (front : List Term) (last : Term) → old ≡ front ++ last ∷ [] → tree_of last.tree ≡ tree_of term.tree
-      → Alike (p - 1) 0 (last.coef + term.coef) → new ≡ front → JoinedTo p old term new
+      → IsCongruent (p - 1) 0 (last.coef + term.coef) → new ≡ front → JoinedTo p old term new
 
 -- the second list is the first one with equal trees put together, in the spelling order, without zeros
 pub record AreJoined (p : ℕ) (whole terms : List Term) : Type 0 where

@@ -78,7 +78,7 @@ in_place instance = placed (tree_of instance.context) (map tree_of instance.inpu
 
 -- An instance around an element is valid in arity n: the element has terms, there are as many inputs as its arity, leaf 0
 -- stands in the context once and in no input, and each tree of the element, filled in, is labelled by 1 to n.
-pub record IsValid (generators : List Generator) (e : List (ℕ × Tree ℕ)) (n : ℕ) (instance : Instance) : Type 0 where
+pub record IsValidInstance (generators : List Generator) (e : List (ℕ × Tree ℕ)) (n : ℕ) (instance : Instance) : Type 0 where
   pub has_terms : e ≡ [] → ⊥
   pub as_many : length instance.inputs ≡ element_arity e
   pub is_context : IsContext (tree_of instance.context)
@@ -101,11 +101,11 @@ instance_element p e instance = without_zeros (products p instance.coef (moved (
 
 -- the answer, with the arity of the filled trees
 abbrev pub IsExpandedTo : ℕ → List Generator → List (ℕ × Tree ℕ) → Instance → Result Expanded ExpandFail → Type 0
-IsExpandedTo p generators e instance (Ok expanded) = IsValid generators e expanded.arity instance × (terms_of expanded.sum ≡ instance_element p e instance)
-IsExpandedTo p generators e instance (Err Unfit) = (n : ℕ) → IsValid generators e n instance → ⊥
+IsExpandedTo p generators e instance (Ok expanded) = IsValidInstance generators e expanded.arity instance × (terms_of expanded.sum ≡ instance_element p e instance)
+IsExpandedTo p generators e instance (Err Unfit) = (n : ℕ) → IsValidInstance generators e n instance → ⊥
 IsExpandedTo p generators e instance (Err NoMemory) = Unit {0}
 
 abbrev pub IsExpanded : ℕ → List Generator → List (ℕ × Tree ℕ) → Instance → Result (List Term) ExpandFail → Type 0
-IsExpanded p generators e instance (Ok sum) = ((n : ℕ) × IsValid generators e n instance) × (terms_of sum ≡ instance_element p e instance)
-IsExpanded p generators e instance (Err Unfit) = (n : ℕ) → IsValid generators e n instance → ⊥
+IsExpanded p generators e instance (Ok sum) = ((n : ℕ) × IsValidInstance generators e n instance) × (terms_of sum ≡ instance_element p e instance)
+IsExpanded p generators e instance (Err Unfit) = (n : ℕ) → IsValidInstance generators e n instance → ⊥
 IsExpanded p generators e instance (Err NoMemory) = Unit {0}

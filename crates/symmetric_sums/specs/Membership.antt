@@ -9,7 +9,7 @@ use Rattle.symmetric_trees.specs.Generators.{generators_of}
 use Rattle.symmetric_trees.specs.Trees.{IsLabelled}
 use Rattle.symmetric_trees.specs.declared.generators.Generator.{Generator}
 use Rattle.symmetric_sums.specs.Terms.{terms_of}
-use Rattle.symmetric_sums.specs.Instances.{element_arity, rule_element, IsValid, instance_element}
+use Rattle.symmetric_sums.specs.Instances.{element_arity, rule_element, IsValidInstance, instance_element}
 use Rattle.symmetric_sums.specs.declared.term.Term.{Term}
 use Rattle.symmetric_sums.specs.declared.instance.Instance.{Instance}
 
@@ -35,5 +35,5 @@ pub record IsMember (p : ℕ) (generators : List Generator) (rels : List (List T
 abbrev pub InstancesAreMembers : Type 0
 InstancesAreMembers = (p : ℕ) (generators : List Generator) (rels steps : List (List Term)) (n : ℕ) (instance : Instance) → 0 < p
     → All (λ rel. IsElement generators (terms_of rel)) rels → All (λ step. IsMember p generators rels (terms_of step)) steps
-    → IsValid generators (rule_element p generators rels steps instance.rule) n instance
+    → IsValidInstance generators (rule_element p generators rels steps instance.rule) n instance
     → InIdeal (presentation_of p generators rels) n (instance_element p (rule_element p generators rels steps instance.rule) instance)

@@ -3,7 +3,7 @@ ghost use Rattle.std.specs.List.{All};
 ghost use Rattle.labelled_trees.specs.Meaning.{tree_of};
 ghost use Rattle.symmetric_trees.specs.Trees.{IsLabelled};
 ghost use Rattle.symmetric_sums.specs.Terms.{ArityIs, FitsOver, HaveArity, HaveOneArity, HaveResidues, IsSum, multiples, negated};
-ghost use Rattle.symmetric_sums.specs.Calls.{Added, Subtracted};
+ghost use Rattle.symmetric_sums.specs.Calls.{TermIsAdded, Subtracted};
 
 use crate::Term;
 use prime_field::Field;
@@ -126,7 +126,7 @@ impl Sum {
     ) -> Result<(), SumFail>
         requires residue { coef < field }
         requires labelled { (n : ℕ) × IsLabelled table.now n (tree_of tree) }
-        ensures answer { Added coef tree self.old result self.new }
+        ensures answer { TermIsAdded coef tree self.old result self.new }
     {
         if coef == 0 {
             return Ok(());

@@ -11,7 +11,7 @@ use Rattle.std.proofs.lemmas.List.Quantifiers.{all_pairs_push}
 use Rattle.std.proofs.lemmas.List.{get_or_default}
 use Rattle.std.proofs.lemmas.Option.{get_or_from_slice_get}
 use Rattle.symmetric_trees.specs.declared.generators.Generator.{Generator}
-use Rattle.symmetric_trees.specs.Generators.{part_of, parts_at, IsTable, IsTaken, IsWelcome, IsNamed, IsArity, SizesFit}
+use Rattle.symmetric_trees.specs.Generators.{part_of, parts_at, IsTable, IsTaken, MayBeAdded, IsNamed, IsArity, SizesFit}
 
 -- a name that no generator has differs from the name of each
 pub none_named : (generators : List Generator) (name : List ℕ) → (Any (IsNamed name) generators → ⊥) → (k : ℕ) (d : Generator) → k < length generators → (get_or generators k d).name ≡ name → ⊥
@@ -19,7 +19,7 @@ none_named generators name none k d l e =
     none (k, get_or generators k d, l, get_or_default generators k (get_or generators k d) d l, e)
 
 -- a table with one more generator
-pub table-push : (generators : List Generator) (generator : Generator) → IsTable generators → IsWelcome generators generator → IsTable (generators ++ generator ∷ [])
+pub table-push : (generators : List Generator) (generator : Generator) → IsTable generators → MayBeAdded generators generator → IsTable (generators ++ generator ∷ [])
 table-push generators generator table welcome = record {
   few = omega (arith, length-append generators (generator ∷ []), welcome.room);
   apart = all_pairs_push (λ one other. one.name ≡ other.name → ⊥) generators generator table.apart (λ k d l e. none_named generators generator.name welcome.new_name k d l e);

@@ -53,7 +53,7 @@ abbrev pub IsTaken : List ℕ → List Generator → Type 0
 IsTaken name generators = Any (IsNamed name) generators
 
 -- the generator may be added
-pub record IsWelcome (old : List Generator) (generator : Generator) : Type 0 where
+pub record MayBeAdded (old : List Generator) (generator : Generator) : Type 0 where
   pub room : length old < 12
   pub new_name : IsTaken generator.name old → ⊥
   pub arity : IsArity generator.arity
@@ -65,8 +65,8 @@ Refuses old generator TooManyGens = length old ≡ 12
 Refuses old generator NameTaken = (length old < 12) × IsTaken generator.name old
 Refuses old generator ArityOut = (length old < 12) × (IsTaken generator.name old → ⊥) × (IsArity generator.arity → ⊥)
 Refuses old generator PartsOut = (length old < 12) × (IsTaken generator.name old → ⊥) × IsArity generator.arity × (SizesFit generator → ⊥)
-Refuses old generator NoMemory = IsWelcome old generator
+Refuses old generator NoMemory = MayBeAdded old generator
 
-abbrev pub Added : List Generator → Generator → Result (Unit {0}) GenFail → List Generator → Type 0
-Added old generator (Ok done) new = (new ≡ old ++ generator ∷ []) × IsWelcome old generator
-Added old generator (Err fail) new = (new ≡ old) × Refuses old generator fail
+abbrev pub GeneratorIsAdded : List Generator → Generator → Result (Unit {0}) GenFail → List Generator → Type 0
+GeneratorIsAdded old generator (Ok done) new = (new ≡ old ++ generator ∷ []) × MayBeAdded old generator
+GeneratorIsAdded old generator (Err fail) new = (new ≡ old) × Refuses old generator fail

@@ -193,7 +193,7 @@ impl GenTable {
     /// a size is 0 or the sizes don't add up to the arity. Where none holds, the generator is added, or `NoMemory`
     /// comes for want of memory. After an error the table is as before.
     pub fn add(&mut self, _alloc: Global, generator: Generator) -> Result<(), GenFail>
-        ensures answer { spec.Added self.old generator result self.new }
+        ensures answer { spec.GeneratorIsAdded self.old generator result self.new }
     {
         if let Some(fail) = self.refusal(&generator) {
             return Err(fail);
@@ -206,7 +206,7 @@ impl GenTable {
 
     // The first thing that stands against a generator.
     fn refusal(&self, generator: &Generator) -> Option<GenFail>
-        ensures { MatchOption result (spec.IsWelcome self.now generator.now) (spec.Refuses self.now generator.now) }
+        ensures { MatchOption result (spec.MayBeAdded self.now generator.now) (spec.Refuses self.now generator.now) }
     {
         if self.generators.len() == MOST_GENERATORS {
             return Some(GenFail::TooManyGens);

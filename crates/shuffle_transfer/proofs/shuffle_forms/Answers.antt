@@ -1,4 +1,4 @@
-use Rattle.shuffle_transfer.proofs.Forth.{forth, back_law, spelling}
+use Rattle.shuffle_transfer.proofs.ShuffleFormsFit.{forth, back_law, spelling}
 use Rattle.shuffle_transfer.proofs.TransferLaw.{kernel}
 use Rattle.shuffle_transfer.proofs.shuffle_forms.Goals as goal
 

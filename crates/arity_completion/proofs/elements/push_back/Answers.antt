@@ -6,7 +6,7 @@ use Rattle.labelled_trees.proofs.Numbered.{numbered_of_labelled}
 use Rattle.shuffle_transfer.specs.Labels.{inputs_of, symmetric_tree}
 use Rattle.std.proofs.lemmas.List.{map-append}
 use Rattle.symmetric_trees.specs.Trees.{IsLabelled}
-use Rattle.symmetric_sums.specs.Calls.{Added}
+use Rattle.symmetric_sums.specs.Calls.{TermIsAdded}
 use Rattle.symmetric_sums.specs.Terms.{terms_of}
 use Rattle.symmetric_sums.specs.declared.term.Term.{Term}
 use Rattle.shuffle_passage.proofs.RenamedTerms.{with_one}
@@ -22,12 +22,12 @@ add_term-requires-clause-labelled c =
 
 pub unreachable-requires : goal.unreachable-requires
 unreachable-requires c =
-    let k = subst (λ r. Added c.args.term.now.0 c.in_ok-tree.tree c.args.sum.now r c.add_term.new.self) (c.in-Err-ArityDiffers.is ∙ ap Err c.in-Err-ArityDiffers.field-0-is) c.add_term.ensures.answer in
+    let k = subst (λ r. TermIsAdded c.args.term.now.0 c.in_ok-tree.tree c.args.sum.now r c.add_term.new.self) (c.in-Err-ArityDiffers.is ∙ ap Err c.in-Err-ArityDiffers.field-0-is) c.add_term.ensures.answer in
     k.1 (λ positive. (c.requires.arity.0, numbered_of_labelled (c.in_ok-tree.ensures.back c.requires.arity.0 c.requires.arity.1.shuffle).0, c.requires.arity.2))
 
 pub returns-in-Ok : goal.returns-in-Ok
 returns-in-Ok c =
-    let k = subst (λ r. Added c.args.term.now.0 c.in_ok-tree.tree c.args.sum.now r c.add_term.new.self) c.in-Ok.is c.add_term.ensures.answer in
+    let k = subst (λ r. TermIsAdded c.args.term.now.0 c.in_ok-tree.tree c.args.sum.now r c.add_term.new.self) c.in-Ok.is c.add_term.ensures.answer in
     let last : Term = record { coef = c.args.term.now.0; tree = c.in_ok-tree.tree } in
     ap terms_of (with_one c.args.term.now.0 c.in_ok-tree.tree c.args.sum.now c.add_term.new.self c.requires.residue.0 k.0)
     ∙ map-append (λ (x : Term). (x.coef, tree_of x.tree)) c.args.sum.now (record { coef = c.args.term.now.0; tree = c.in_ok-tree.tree } ∷ [])

@@ -1,6 +1,6 @@
 use Rattle.std.proofs.Common.{◌∙◌, ◌*◌, ◌-◌, ◌<◌, ap, refl, sym, subst, map}
 use Rattle.std.specs.List.{All}
-use Rattle.modular_sums.specs.Residues.{Alike}
+use Rattle.modular_sums.specs.Residues.{IsCongruent}
 use Rattle.labelled_trees.specs.Labelled.{Fits}
 use Rattle.shuffle_insertions.specs.Frames.{Frame}
 use Rattle.shuffle_transfer.specs.Labels.{inputs_of, symmetric_tree}
@@ -43,9 +43,9 @@ returns c =
     let table_is = c.table.ensures.table in
     record {
       residue = subst (λ p. c.mul.result < p) field_is c.mul.ensures.residue;
-      coef = subst (λ p. Alike (p - 1) c.mul.result (c.args.factor * ((p - 1) * c.args.cofactor.now.coef))) field_is
+      coef = subst (λ p. IsCongruent (p - 1) c.mul.result (c.args.factor * ((p - 1) * c.args.cofactor.now.coef))) field_is
           (step_number (c.field-field.result - 1) c.of_number.result c.args.cofactor.now.coef c.neg-number.result c.args.factor c.mul.result c.mul.ensures.product c.neg-number.ensures.negative
-          (subst (λ k. Alike (c.field-field.result - 1) c.of_number.result k) c.from.ensures c.of_number.ensures.same));
+          (subst (λ k. IsCongruent (c.field-field.result - 1) c.of_number.result k) c.from.ensures c.of_number.ensures.same));
       rule = refl;
       hole = c.in_ok-context.ensures.hole;
       context = c.in_ok-context.ensures.context ∙ ap (λ gens. symmetric_tree (generators_of gens) c.in_ok-frame.frame.hole) table_is ∙ ap (λ (f : Frame). symmetric_tree (generators_of c.args.log.now.gens) f.hole) frame_is;

@@ -1,9 +1,9 @@
 use Rattle.std.proofs.Common.{◌≡◌, ◌∙◌, ◌∷◌, [], Ok, ap, codes, drop, false, map, sym, true}
 use Rattle.std.proofs.lemmas.List.{map-append}
 use Rattle.symmetric_sums.specs.Terms.{terms_of}
-use Rattle.presentation_text.specs.LineForms.{is}
+use Rattle.presentation_text.specs.LineReadings.{is}
 use Rattle.presentation_text.specs.Readings.{end_in}
-use Rattle.certificate_text.specs.BlockForms.{between, block_line, in_step, sum_in}
+use Rattle.certificate_text.specs.BlockReadings.{between, block_line, in_step, sum_in}
 use Rattle.certificate_text.specs.Plain.{plain_block, plain_use}
 use Rattle.certificate_text.proofs.BlockReading.{follow_stops}
 use Rattle.presentation_text.proofs.LineFormsStops.{stops_on}

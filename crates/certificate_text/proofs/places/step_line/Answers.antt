@@ -1,9 +1,9 @@
 use Rattle.std.proofs.Common.{◌≡◌, ◌∙◌, ◌∷◌, [], Ok, ap, codes, drop, false, map, subst, sym, true}
 use Rattle.std.proofs.lemmas.List.{map-append}
 use Rattle.symmetric_sums.specs.Terms.{terms_of}
-use Rattle.presentation_text.specs.LineForms.{is}
-use Rattle.certificate_text.specs.BlockForms.{block_line, in_step, step_line, use_in}
-use Rattle.certificate_text.specs.PlaceForms.{GivesFollow}
+use Rattle.presentation_text.specs.LineReadings.{is}
+use Rattle.certificate_text.specs.BlockReadings.{block_line, in_step, step_line, use_in}
+use Rattle.certificate_text.specs.PlaceReadings.{GivesFollow}
 use Rattle.certificate_text.specs.Plain.{plain_block, plain_step, plain_use}
 use Rattle.certificate_text.proofs.BlockReading.{follow_stops}
 use Rattle.presentation_text.proofs.LineFormsStops.{stops_on}

@@ -1,8 +1,8 @@
 use Rattle.std.proofs.Common.{None, drop, refl}
-use Rattle.presentation_text.specs.ElementForms.{element_in}
+use Rattle.presentation_text.specs.ElementReadings.{element_in}
 use Rattle.presentation_text.specs.Readings.{StopsAs, end_in}
-use Rattle.presentation_text.specs.TreeForms.{demands_of}
-use Rattle.certificate_text.specs.BlockForms.{sum_in}
+use Rattle.presentation_text.specs.TreeReadings.{demands_of}
+use Rattle.certificate_text.specs.BlockReadings.{sum_in}
 use Rattle.presentation_text.proofs.LineFormsStops.{part_stops, stops_on}
 use Rattle.certificate_text.proofs.places.sum_line.Goals as goal
 

@@ -1,6 +1,6 @@
 use Rattle.std.proofs.Common.{Ok, ap, drop, map, sym}
 use Rattle.symmetric_sums.specs.Terms.{terms_of}
-use Rattle.certificate_text.specs.BlockForms.{in_block, sum_in, want_line}
+use Rattle.certificate_text.specs.BlockReadings.{in_block, sum_in, want_line}
 use Rattle.certificate_text.specs.Plain.{plain_block, plain_step}
 use Rattle.certificate_text.proofs.BlockReading.{follow_stops}
 use Rattle.presentation_text.proofs.LineFormsStops.{stops_on}

@@ -3,8 +3,8 @@ use Rattle.std.specs.Result.{MatchResult}
 use Rattle.presentation_text.specs.Lines.{lines}
 use Rattle.presentation_text.specs.Tokens.{tokens}
 use Rattle.presentation_text.specs.declared.kinds.DocKind.TheVariants.{Block}
-use Rattle.certificate_text.specs.BlockForms.{base_of, between, blocks_from, tail_line}
-use Rattle.certificate_text.specs.PlaceForms.{StopsAtLine, follow_of}
+use Rattle.certificate_text.specs.BlockReadings.{base_of, between, blocks_from, tail_line}
+use Rattle.certificate_text.specs.PlaceReadings.{StopsAtBlockLine, follow_of}
 use Rattle.certificate_text.specs.Plain.{plain_block}
 use Rattle.certificate_text.specs.declared.block.Block as block
 use Rattle.certificate_text.specs.declared.places.Progress.{Progress}
@@ -18,7 +18,7 @@ returns-in_err-now c =
     let number = c.loop-line.number in
     let others = lines c.in-Some.behind.now in
     let whole = blocks_from base (between, []) c.args.first (lines c.args.text.now) in
-    line_stops _ (StopsAtLine whole) c.from_residual.result c.in_err-now.field-0.0 c.from_residual.ensures.0 c.from_residual.ensures.1
+    line_stops _ (StopsAtBlockLine whole) c.from_residual.result c.in_err-now.field-0.0 c.from_residual.ensures.0 c.from_residual.ensures.1
     (lines_stop (λ next. blocks_from base next (number + 1) others) (tail_line base (follow_of c.loop-line.now) number (tokens c.in-Some.line.now)) whole c.in_err-now.field-0.0
     (c.loop-line.invariant.read
     ∙ lines_counted base (follow_of c.loop-line.now) number (lines c.loop-line.rest.now) others c.in-Some.line.now c.in-Some.ensures.lines (sym c.counts.ensures ∙ c.if-counts.true))
@@ -50,8 +50,8 @@ returns c =
     let Given = λ (blocks : List block.Block). whole ≡ Ok (map plain_block blocks) in
     let end = c.loop-line.invariant.read ∙ lines_end base (follow_of now) number (lines c.loop-line.rest.now) (ap lines (c.in_default.ensures.none.0 refl)) in
     elim c.match-place.branch [
-      | in-Between w ↦ subst (λ r. MatchResult r Given (StopsAtLine whole)) (sym w.result-is) (end ∙ ends_whole now number w.in-Between.is)
+      | in-Between w ↦ subst (λ r. MatchResult r Given (StopsAtBlockLine whole)) (sym w.result-is) (end ∙ ends_whole now number w.in-Between.is)
       | in_default-place w ↦
-          subst (λ r. MatchResult r Given (StopsAtLine whole)) (sym w.result-is)
+          subst (λ r. MatchResult r Given (StopsAtBlockLine whole)) (sym w.result-is)
           (line_fails Given whole w.fail.result number Block (end ∙ ends_open now number w.in_default-place.not-Between) w.fail.ensures)
     ]

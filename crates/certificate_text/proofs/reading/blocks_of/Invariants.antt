@@ -1,7 +1,7 @@
 use Rattle.std.proofs.Common.{◌≡◌, ◌<◌, ◌+◌, ◌^◌, [], length}
 use Rattle.presentation_text.specs.Lines.{lines}
-use Rattle.certificate_text.specs.BlockForms.{base_of, between, blocks_from}
-use Rattle.certificate_text.specs.PlaceForms.{follow_of}
+use Rattle.certificate_text.specs.BlockReadings.{base_of, between, blocks_from}
+use Rattle.certificate_text.specs.PlaceReadings.{follow_of}
 use Rattle.certificate_text.proofs.reading.blocks_of.Given as goal
 
 abbrev pub invariant-loop-line : goal.invariant-loop-line

@@ -2,8 +2,8 @@ use Rattle.std.proofs.Common.{◌≡◌, ◌∷◌, ◌∙◌, ap, drop, subst, 
 use Rattle.presentation_text.specs.Readings.{StopsAs}
 use Rattle.presentation_text.specs.Tokens.{tokens}
 use Rattle.presentation_text.specs.declared.lexing.Token.TheVariants.{Word}
-use Rattle.certificate_text.specs.BlockForms.{base_of, refused_at, rest_of_tail_line, tail_line}
-use Rattle.certificate_text.specs.PlaceForms.{follow_of}
+use Rattle.certificate_text.specs.BlockReadings.{base_of, refused_at, rest_of_tail_line, tail_line}
+use Rattle.certificate_text.specs.PlaceReadings.{follow_of}
 use Rattle.certificate_text.proofs.BlockReading.{line_fails, line_goes_on, line_refused}
 use Rattle.certificate_text.proofs.reading.tail_line.Goals as goal
 use Rattle.presentation_text.proofs.DocumentFormsLines.{begun_by}

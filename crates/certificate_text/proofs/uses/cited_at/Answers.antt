@@ -2,7 +2,7 @@ use Rattle.std.proofs.Common.{◌≡◌, ◌∙◌, ◌+◌, ap, arith, drop, fa
 use Rattle.symmetric_sums.specs.declared.instance.Rule.TheVariants.{Rel, Step}
 use Rattle.presentation_text.specs.Readings.{StopsAs, number_in, word_in}
 use Rattle.presentation_text.specs.declared.kinds.DocKind.TheVariants.{Syntax}
-use Rattle.certificate_text.specs.BlockForms.{cited_in, cites_step}
+use Rattle.certificate_text.specs.BlockReadings.{cited_in, cites_step}
 use Rattle.certificate_text.specs.UseText.{greatest_cited}
 use Rattle.presentation_text.proofs.LineFormsStops.{part_fails, part_stops, stops_on}
 use Rattle.certificate_text.proofs.uses.cited_at.Goals as goal

@@ -1,6 +1,6 @@
 use Rattle.std.proofs.Common.{◌≤◌, ◌-◌, drop, length, map}
 use Rattle.labelled_trees.specs.Meaning.{tree_of}
-use Rattle.certificate_text.specs.BlockForms.{inputs_in}
+use Rattle.certificate_text.specs.BlockReadings.{inputs_in}
 use Rattle.certificate_text.proofs.UseReading.{GoesOn}
 use Rattle.certificate_text.proofs.uses.inputs_at.Given as goal
 

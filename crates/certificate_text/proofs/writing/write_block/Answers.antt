@@ -4,7 +4,7 @@ use Rattle.std.proofs.lemmas.List.Elements.{All-get_or}
 use Rattle.certificate_text.specs.Plain.{plain_step}
 use Rattle.certificate_text.specs.Writable.{IsWritableStep}
 use Rattle.certificate_text.specs.declared.block.Step.{Step}
-use Rattle.certificate_text.proofs.SaidSums.{steps_writable}
+use Rattle.certificate_text.proofs.WrittenSums.{steps_writable}
 use Rattle.certificate_text.proofs.writing.write_block.Goals as goal
 
 pub write_step-requires : goal.write_step-requires

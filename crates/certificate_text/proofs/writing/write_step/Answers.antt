@@ -4,7 +4,7 @@ use Rattle.std.proofs.lemmas.List.Elements.{All-get_or}
 use Rattle.symmetric_sums.specs.declared.instance.Instance.{Instance}
 use Rattle.certificate_text.specs.Plain.{plain_use}
 use Rattle.certificate_text.specs.Writable.{IsWritableUse}
-use Rattle.certificate_text.proofs.SaidSums.{uses_writable}
+use Rattle.certificate_text.proofs.WrittenSums.{uses_writable}
 use Rattle.certificate_text.proofs.writing.write_step.Goals as goal
 
 pub write_use-requires : goal.write_use-requires

@@ -1,4 +1,4 @@
-use Rattle.certificate_text.proofs.SaidSums.{said_residues, said_trees}
+use Rattle.certificate_text.proofs.WrittenSums.{said_residues, said_trees}
 use Rattle.certificate_text.proofs.writing.write_sum_line.Goals as goal
 
 pub write_sum-requires-clause-residues : goal.write_sum-requires-clause-residues

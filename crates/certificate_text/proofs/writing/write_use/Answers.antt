@@ -7,7 +7,7 @@ use Rattle.presentation_text.specs.DocumentText.{blank_before}
 use Rattle.presentation_text.specs.TreeText.{tree_text}
 use Rattle.certificate_text.specs.PrintedBlocks.{coefficient_text, input_words, rule_words}
 use Rattle.certificate_text.proofs.UseTexts.{use_grown}
-use Rattle.certificate_text.proofs.SaidSums.{inputs_fit}
+use Rattle.certificate_text.proofs.WrittenSums.{inputs_fit}
 use Rattle.certificate_text.proofs.writing.write_use.Goals as goal
 
 pub write_inputs-requires : goal.write_inputs-requires

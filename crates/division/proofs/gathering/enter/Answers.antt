@@ -1,7 +1,7 @@
 use Rattle.std.proofs.Common.{◌∷◌, [], ◌∙◌, Some, set, sym, subst}
 use mathlib.Core.Path.{ap₂}
 use mathlib.Core.List.{◌++◌}
-use Rattle.division.specs.Gathered.{Came, ArePlaces}
+use Rattle.division.specs.Gathered.{CameFrom, ArePlaces}
 use Rattle.division.proofs.Meeting.{came_pushed, enter_places}
 use Rattle.division.proofs.gathering.enter.Goals as goal
 
@@ -12,4 +12,4 @@ returns-in-Ok-clause-places c =
     (enter_places c.args.places.now c.args.ids.now c.args.id c.requires.places c.requires.room c.requires.new))
 
 pub returns-in-Ok-clause-only : goal.returns-in-Ok-clause-only
-returns-in-Ok-clause-only c = subst (λ l. Came c.args.ids.now l (c.args.id ∷ [])) (sym c.in-Ok.ensures.ok) (came_pushed c.args.ids.now c.args.id)
+returns-in-Ok-clause-only c = subst (λ l. CameFrom c.args.ids.now l (c.args.id ∷ [])) (sym c.in-Ok.ensures.ok) (came_pushed c.args.ids.now c.args.id)

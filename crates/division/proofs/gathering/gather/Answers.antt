@@ -2,7 +2,7 @@ use Rattle.std.proofs.Common.{◌≡◌, ◌<◌, ◌∙◌, Some, length, get_o
 use mathlib.Core.Path.{ap₂}
 use Rattle.std.specs.List.{All}
 use Rattle.std.proofs.lemmas.Option.{slice_get-get_or}
-use Rattle.division.specs.Gathered.{Came, StandAt}
+use Rattle.division.specs.Gathered.{CameFrom, StandAt}
 use Rattle.division.proofs.MadeTrees.{grown_held}
 use Rattle.division.proofs.Meeting.{gathering_more, step_held}
 use Rattle.division.proofs.gathering.gather.Goals as goal
@@ -19,4 +19,4 @@ each-preserved c =
     let held = c.meet_all.ensures.held (length c.step.new.store) old (subst (All (λ i. i < length c.step.new.store)) (sym c.as_slice-in-each.ensures) tail) in
     gathering_more c.args.store.now c.each.store c.step.new.store c.args.reducers.now c.args.groups.now c.args.found.now c.each.found c.step.new.found c.each.kept c.step.new.kept c.each.places c.meet_all.new.places
     c.args.ids.now c.each.ids c.meet_all.new.ids c.each.tails c.each.invariant c.step.ensures.found c.step.ensures.working c.step.ensures.grows c.meet_all.ensures.places c.meet_all.ensures.longer
-    x c.in_ok-tail.tail c.in_ok-at.at c.push.new.self lt stands c.in-Ok.ensures.ok c.in_ok-tail.ensures.step there held (subst (Came c.each.ids c.meet_all.new.ids) c.as_slice-in-each.ensures c.meet_all.ensures.only)
+    x c.in_ok-tail.tail c.in_ok-at.at c.push.new.self lt stands c.in-Ok.ensures.ok c.in_ok-tail.ensures.step there held (subst (CameFrom c.each.ids c.meet_all.new.ids) c.as_slice-in-each.ensures c.meet_all.ensures.only)

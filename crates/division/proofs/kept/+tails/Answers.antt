@@ -3,7 +3,7 @@ use Rattle.std.specs.List.{All}
 use Rattle.std.proofs.lemmas.Option.{slice_get-get_or}
 use Rattle.std.proofs.lemmas.Result.{on_ok_weaker}
 use Rattle.division.specs.Insertions.{AreMade, CanReplace, with_other}
-use Rattle.division.specs.KeptTails.{IsTail}
+use Rattle.division.specs.KeptTails.{IsInsertionTail}
 use Rattle.division.proofs.MadeTrees.{grows_length}
 use Rattle.division.proofs.TailSteps.{found_host, element_low, at_root, root_tail, kept_later, reducers_later, input_can, input_tail}
 use Rattle.division.proofs.kept.+tails.Goals as goal
@@ -50,7 +50,7 @@ make_tail-replace_all-requires-clause-can t c =
     let is : slice_get c.args.found.now c.args.host ≡ Some (Some c.in-Some.element) = found_host c.args.found.now c.args.host c.index.result c.in-Some.element c.requires.divided c.index.ensures.index c.in-Some.is in
     let hr = reducers_later c.args.store.now c.keep_tail.new.store c.args.reducers.now c.keep_tail.ensures.grows c.requires.reducers in
     let entry : slice_get c.keep_tail.new.kept c.in-Some-divided_input.input.1 ≡ Some (Some c.in-Some-Some.ids) = ap (slice_get c.keep_tail.new.kept) (sym c.index-in-Some-divided_input.ensures.index) ∙ sym c.in-Some-Some.ensures.value ∙ ap Some c.in-Some-Some.field-0-is in
-    let tail : IsTail c.keep_tail.new.store c.args.reducers.now c.args.found.now c.in-Some-divided_input.input.1 c.in-Some-Some.ids = c.keep_tail.ensures.kept c.in-Some-divided_input.input.1 c.in-Some-Some.ids entry in
+    let tail : IsInsertionTail c.keep_tail.new.store c.args.reducers.now c.args.found.now c.in-Some-divided_input.input.1 c.in-Some-Some.ids = c.keep_tail.ensures.kept c.in-Some-divided_input.input.1 c.in-Some-Some.ids entry in
     subst (All (CanReplace c.keep_tail.new.store c.args.host c.in-Some-divided_input.input.0)) (sym c.as_slice.ensures) (input_can c.args.store.now c.keep_tail.new.store c.args.reducers.now c.args.found.now c.keep_tail.ensures.grows c.keep_tail.ensures.store hr c.requires.few c.args.host c.in-Some.element c.in-Some-divided_input.input.0 c.in-Some-divided_input.input.1 is c.in-Some-divided_input.ensures.input c.in-Some-Some.ids tail)
 
 pub make_tail-returns-in-Some-Some-clause-made : goal.make_tail-returns-in-Some-Some-clause-made
@@ -58,7 +58,7 @@ make_tail-returns-in-Some-Some-clause-made t c =
     let is : slice_get c.args.found.now c.args.host ≡ Some (Some c.in-Some.element) = found_host c.args.found.now c.args.host c.index.result c.in-Some.element c.requires.divided c.index.ensures.index c.in-Some.is in
     let hr = reducers_later c.args.store.now c.keep_tail.new.store c.args.reducers.now c.keep_tail.ensures.grows c.requires.reducers in
     let entry : slice_get c.keep_tail.new.kept c.in-Some-divided_input.input.1 ≡ Some (Some c.in-Some-Some.ids) = ap (slice_get c.keep_tail.new.kept) (sym c.index-in-Some-divided_input.ensures.index) ∙ sym c.in-Some-Some.ensures.value ∙ ap Some c.in-Some-Some.field-0-is in
-    let tail : IsTail c.keep_tail.new.store c.args.reducers.now c.args.found.now c.in-Some-divided_input.input.1 c.in-Some-Some.ids = c.keep_tail.ensures.kept c.in-Some-divided_input.input.1 c.in-Some-Some.ids entry in
+    let tail : IsInsertionTail c.keep_tail.new.store c.args.reducers.now c.args.found.now c.in-Some-divided_input.input.1 c.in-Some-Some.ids = c.keep_tail.ensures.kept c.in-Some-divided_input.input.1 c.in-Some-Some.ids entry in
     on_ok_weaker c.replace_all.result
     (λ m. input_tail c.args.store.now c.keep_tail.new.store c.args.reducers.now c.args.found.now c.keep_tail.ensures.grows c.keep_tail.ensures.store hr c.requires.few c.args.host c.in-Some.element c.in-Some-divided_input.input.0 c.in-Some-divided_input.input.1 is c.in-Some-divided_input.ensures.input c.in-Some-Some.ids tail c.replace_all.new.store c.replace_all.ensures.grows c.args.out.now c.replace_all.new.out
     (subst (λ l. AreMade c.replace_all.new.store (with_other c.keep_tail.new.store c.args.host c.in-Some-divided_input.input.0) l c.args.out.now c.replace_all.new.out) c.as_slice.ensures m))

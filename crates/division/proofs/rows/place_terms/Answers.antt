@@ -1,9 +1,9 @@
-use Rattle.division.specs.Rows.{HasPlace}
+use Rattle.division.specs.Rows.{IsInCone}
 use Rattle.division.proofs.Rowing.{place_step, term_has}
 use Rattle.division.proofs.rows.place_terms.Goals as goal
 
 pub position_of-requires-clause-there : goal.position_of-requires-clause-there
-position_of-requires-clause-there c = term_has (HasPlace c.args.cone.now) c.args.terms.now c.loop-term.term-index c.term-item.result c.requires.there c.loop-term-test.true c.term-item.is
+position_of-requires-clause-there c = term_has (IsInCone c.args.cone.now) c.args.terms.now c.loop-term.term-index c.term-item.result c.requires.there c.loop-term-test.true c.term-item.is
 
 pub loop-term-preserved : goal.loop-term-preserved
 loop-term-preserved c =

@@ -4,7 +4,7 @@ use native.Mathlib.Decide.{ℕ_discrete}
 use Rattle.modular_sums.specs.Sums.{AllTerms, coef, moved}
 use Rattle.shuffle_sums.specs.Sums.{pairs as ids_of}
 use Rattle.modular_sums.specs.PositionRows.{dense}
-use Rattle.row_sweeps.specs.Sweeps.{IsSpentAt, IsRefusal as IsSweepRefusal, IsCleared as IsSweepCleared}
+use Rattle.row_sweeps.specs.Sweeps.{IsSpentAt, IsSweepRefusal as IsSweepRefusal, IsSweepCleared as IsSweepCleared}
 use Rattle.row_sweeps.specs.declared.sweeping.SweepFail.{SweepFail}
 use Rattle.std.specs.Prelude.{Err}
 use Rattle.std.specs.Global.{Vec}

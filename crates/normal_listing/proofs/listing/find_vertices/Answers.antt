@@ -7,7 +7,7 @@ use Rattle.modular_sums.specs.Lists.{Mem}
 use Rattle.shuffle_insertions.specs.Listing.{joined_below}
 use Rattle.tree_store.specs.Stores.{tree_at}
 use Rattle.normal_listing.specs.Choices.{choices, entry}
-use Rattle.normal_listing.specs.Vertices.{passes, spelling, vertex, word_of, IsLead, IsVertex}
+use Rattle.normal_listing.specs.Vertices.{passes, spelling, vertex, word_of, IsShuffleLead, IsVertex}
 use Rattle.normal_listing.specs.Walks.{words_with}
 use Rattle.normal_listing.proofs.WordParts.{entry_any}
 use Rattle.normal_listing.proofs.listing.find_vertices.Goals as goal
@@ -44,7 +44,7 @@ choose-requires c =
     let free = c.requires.room in
     record {
       tables = c.requires.tables;
-      root = record { label = c.loop-label-test.true; generator = sizes.1; leads = subst (All (IsLead store)) (sym (leads_are at)) (c.requires.held label) };
+      root = record { label = c.loop-label-test.true; generator = sizes.1; leads = subst (All (IsShuffleLead store)) (sym (leads_are at)) (c.requires.held label) };
       set = c.requires.set;
       last = λ e. absurd (omega (arith, e, many, wide));
       words = c.loop-label.invariant.no_words ∙ ap (map (λ id. spelling labels (tree_at store id))) (sym c.loop-label.invariant.no_ids);

@@ -1,12 +1,12 @@
 use Rattle.std.proofs.Common.{rules, sym, subst, refl}
 use Rattle.division.specs.Parts.{part_at}
-use Rattle.normal_listing.specs.Vertices.{IsLead}
+use Rattle.normal_listing.specs.Vertices.{IsShuffleLead}
 use Rattle.normal_listing.proofs.Tested.{clear_of, not_clear, divided, testing_more}
 use Rattle.normal_listing.proofs.testing.is_undivided.Goals as goal
 use Rattle.normal_listing.proofs.testing.is_undivided.Goals.{After-lead-item}
 
-tried : (c : After-lead-item) → IsLead c.args.store.now c.lead-item.result
-tried c = subst (IsLead c.args.store.now) (sym c.lead-item.is) (c.requires.leads c.loop-lead.lead-index c.lead-item.result c.loop-lead-test.true)
+tried : (c : After-lead-item) → IsShuffleLead c.args.store.now c.lead-item.result
+tried c = subst (IsShuffleLead c.args.store.now) (sym c.lead-item.is) (c.requires.leads c.loop-lead.lead-index c.lead-item.result c.loop-lead-test.true)
 
 pub returns-then-divides_inputs-clause-passes : goal.returns-then-divides_inputs-clause-passes
 returns-then-divides_inputs-clause-passes c =

@@ -3,7 +3,7 @@ use mathlib.Core.List.{◌++◌}
 use Rattle.std.proofs.lemmas.List.{drop_more}
 use Rattle.labelled_trees.specs.Meaning.{tree_of}
 use Rattle.labelled_trees.specs.declared.Tree.TheViews.{the_lemmas}
-use Rattle.normal_listing.specs.Places.{IsWord, IsSymbol}
+use Rattle.normal_listing.specs.Places.{IsShortWord, IsSymbol}
 use Rattle.normal_listing.specs.Words.{symbols}
 use Rattle.normal_listing.proofs.Combining.{symbols_from, symbols-leaf, symbols-node, symbols_more, symbols_none, part_taken, part_word, first_symbol, nothing_behind}
 use Rattle.normal_listing.proofs.trees.+word_of.Goals as goal
@@ -25,7 +25,7 @@ word_of-requires t c =
     let i = c.loop-input.input-index in
     let x = c.input-item.result in
     let here : drop i items ≡ x ∷ drop (i + 1) items = drop_more items i x c.loop-input-test.true ∙ ap (λ y. y ∷ drop (i + 1) items) (sym c.input-item.is) in
-    let input : IsWord (symbols (tree_of x)) =
+    let input : IsShortWord (symbols (tree_of x)) =
     (part_word c.loop-input.word (symbols (tree_of x)) (symbols_from (i + 1) items) (symbols (tree_of c.args.tree.now))
     (ap (λ l. c.loop-input.word ++ l) (sym (symbols_more i items x c.loop-input-test.true here)) ∙ c.loop-input.invariant) c.requires.word).0 in
     search (rules, the_lemmas)

@@ -1,6 +1,6 @@
 use Rattle.std.proofs.Common.{◌+◌, ap, arith, subst, sym}
 use Rattle.certificate_text.specs.Tails.{IsReadyBlock}
-use Rattle.certificate_check.specs.Answers.{IsAnswer}
+use Rattle.certificate_check.specs.Answers.{IsBlockVerdict}
 use Rattle.operad_run.proofs.BlockChecks.{hold_more, refused_at, all_hold, accepted_holds}
 use Rattle.operad_run.proofs.checks.first_refusal.Goals as goal
 
@@ -14,7 +14,7 @@ returns-in-Refused c =
     let d = c.args.document.now in
     let b = c.block-item.result in
     refused_at d c.args.blocks.now c.loop-block.block-index b (c.loop-block.before + 1) c.in-Refused.step c.in-Refused.cause c.loop-block-test.true c.block-item.is c.loop-block.invariant.hold
-    (subst (IsAnswer d.field d.gens d.rels b.want b.steps) c.in-Refused.is c.in_ok-step.ensures.answer) (ap (λ n. n + 1) c.loop-block.invariant.before)
+    (subst (IsBlockVerdict d.field d.gens d.rels b.want b.steps) c.in-Refused.is c.in_ok-step.ensures.answer) (ap (λ n. n + 1) c.loop-block.invariant.before)
 
 pub loop-block-preserved : goal.loop-block-preserved
 loop-block-preserved c =

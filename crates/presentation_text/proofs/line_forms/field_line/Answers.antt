@@ -1,8 +1,8 @@
 use Rattle.std.proofs.Common.{◌≡◌, Ok, Some, ap, drop, false, refl, sym, true}
 use Rattle.symmetric_sums.specs.Terms.{FitsOver}
-use Rattle.presentation_text.specs.DraftForms.{AskFits, told_of}
+use Rattle.presentation_text.specs.DraftReadings.{AskFits, contents_of}
 use Rattle.presentation_text.specs.declared.document.Ask.{Ask}
-use Rattle.presentation_text.specs.LineForms.{field_line, is_prime}
+use Rattle.presentation_text.specs.LineReadings.{field_line, is_prime}
 use Rattle.presentation_text.specs.Readings.{number_in, end_in}
 use Rattle.presentation_text.specs.declared.kinds.DocKind.TheVariants.{FieldUnknown}
 use Rattle.presentation_text.proofs.LineFormsField.{prime_is, prime_isnt}
@@ -32,7 +32,7 @@ pub returns : goal.returns
 unfolding field_line
 returns c =
     let some : is_prime c.in_ok-number.number ≡ true = prime_is c.in_ok-number.number c.in-Some.ensures.listed.0 in (
-      rw (c.in_ok-number.ensures.0, some, c.in_ok-end_at.ensures) (ap (λ p. Ok (record (told_of c.args.draft) { field = Some p; section = 2 })) (sym c.in-Some.ensures.listed.1)),
+      rw (c.in_ok-number.ensures.0, some, c.in_ok-end_at.ensures) (ap (λ p. Ok (record (contents_of c.args.draft) { field = Some p; section = 2 })) (sym c.in-Some.ensures.listed.1)),
       record {
         table = c.requires.sound.table;
         no_sums = λ e. absurd cc;

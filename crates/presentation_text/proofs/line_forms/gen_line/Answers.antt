@@ -1,8 +1,8 @@
 use Rattle.std.proofs.Common.{◌≡◌, ◌+◌, ◌∙◌, ◌∷◌, ◌++◌, [], None, Ok, ap, drop, length, length-append, subst, sym}
 use Rattle.symmetric_trees.proofs.Tables.{table-push}
 use Rattle.symmetric_trees.specs.Generators.{IsTable}
-use Rattle.presentation_text.specs.DraftForms.{told_of}
-use Rattle.presentation_text.specs.LineForms.{gen_line, generator_in, prime_of}
+use Rattle.presentation_text.specs.DraftReadings.{contents_of}
+use Rattle.presentation_text.specs.LineReadings.{gen_line, generator_in, prime_of}
 use Rattle.presentation_text.proofs.FitsLonger.{asks_fit-longer, sums_fit-longer}
 use Rattle.presentation_text.proofs.LineFormsGenerators.{generator_welcome, no_refusal}
 use Rattle.presentation_text.proofs.LineFormsStops.{draft_stops, stops_on}
@@ -27,8 +27,8 @@ returns c =
     let longer : c.add.new.self ≡ old ++ generator ∷ [] = c.in-Ok.ensures.answer.0 in
     let p = prime_of c.args.draft.field in (
       rw c.in_ok-generator.ensures (
-          ap (λ generators. Ok (record (told_of c.args.draft) { generators = generators; weights = c.args.draft.weights ++ None ∷ []; section = 4 })) (sym longer)
-          ∙ ap (λ weights. Ok (record (told_of c.args.draft) { generators = c.add.new.self; weights = weights; section = 4 })) (sym c.in_ok-push.ensures.ok)
+          ap (λ generators. Ok (record (contents_of c.args.draft) { generators = generators; weights = c.args.draft.weights ++ None ∷ []; section = 4 })) (sym longer)
+          ∙ ap (λ weights. Ok (record (contents_of c.args.draft) { generators = c.add.new.self; weights = weights; section = 4 })) (sym c.in_ok-push.ensures.ok)
           ),
       record {
         table = subst IsTable (sym longer) (table-push old generator c.requires.sound.table c.in-Ok.ensures.answer.1);

@@ -1,5 +1,5 @@
 use Rattle.std.proofs.Common.{Ok, ap, drop, sym}
-use Rattle.presentation_text.specs.LineForms.{generator_in, inputs_in, named_arity_in}
+use Rattle.presentation_text.specs.LineReadings.{generator_in, inputs_in, named_arity_in}
 use Rattle.presentation_text.specs.Readings.{StopsAs}
 use Rattle.presentation_text.proofs.LineFormsStops.{part_stops, stops_on}
 use Rattle.presentation_text.proofs.line_forms.generator_at.Goals as goal

@@ -1,5 +1,5 @@
 use Rattle.std.proofs.Common.{◌≡◌, None, Some, arith, drop, false, length, nat_le, refl, sym, true}
-use Rattle.presentation_text.specs.LineForms.{is_arity, name_fault, named_arity_in}
+use Rattle.presentation_text.specs.LineReadings.{is_arity, name_fault, named_arity_in}
 use Rattle.presentation_text.specs.Readings.{StopsAs, number_in, word_in}
 use Rattle.presentation_text.specs.declared.kinds.DocKind.TheVariants.{ArityOut, TooManyGens}
 use Rattle.presentation_text.proofs.LineFormsNumbers.{arity_above, arity_below, arity_is, at_most, not_at_most}

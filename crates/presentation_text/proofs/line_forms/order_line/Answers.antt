@@ -1,5 +1,5 @@
 use Rattle.std.proofs.Common.{◌≡◌, drop, refl, sym, None, Some}
-use Rattle.presentation_text.specs.LineForms.{order_line, order_named}
+use Rattle.presentation_text.specs.LineReadings.{order_line, order_named}
 use Rattle.presentation_text.specs.Readings.{word_in, end_in}
 use Rattle.presentation_text.specs.declared.kinds.DocKind.TheVariants.{OrderUnknown}
 use Rattle.presentation_text.proofs.LineFormsStops.{draft_fails, draft_stops, stops_on}

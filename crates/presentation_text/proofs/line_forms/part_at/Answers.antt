@@ -1,5 +1,5 @@
 use Rattle.std.proofs.Common.{◌≡◌, ◌+◌, ◌==◌, ◌||◌, ap, arith, drop, false, nat_lt, refl, sym, true, None, Ok, Some}
-use Rattle.presentation_text.specs.LineForms.{part_in, part_named}
+use Rattle.presentation_text.specs.LineReadings.{part_in, part_named}
 use Rattle.presentation_text.specs.Readings.{StopsAs, number_in, word_in}
 use Rattle.presentation_text.specs.declared.kinds.DocKind.TheVariants.{PartsOut, Syntax}
 use Rattle.presentation_text.proofs.LineFormsNumbers.{size_above, size_fits, size_zero}

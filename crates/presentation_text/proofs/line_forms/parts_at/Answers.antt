@@ -1,5 +1,5 @@
 use Rattle.std.proofs.Common.{◌≡◌, ◌+◌, ◌-◌, ◌++◌, Ok, arith, drop, length, length-drop}
-use Rattle.presentation_text.specs.LineForms.{all_parts_in}
+use Rattle.presentation_text.specs.LineReadings.{all_parts_in}
 use Rattle.presentation_text.specs.Readings.{StopsAs, ◌>>=◌}
 use Rattle.presentation_text.specs.declared.kinds.DocKind.TheVariants.{PartsOut}
 use Rattle.presentation_text.proofs.LineFormsParts.{behind_none, behind_part, parts_short, parts_whole}

@@ -1,5 +1,5 @@
 use Rattle.std.proofs.Common.{◌≤◌, ◌-◌, drop, length}
-use Rattle.presentation_text.specs.LineForms.{all_parts_in}
+use Rattle.presentation_text.specs.LineReadings.{all_parts_in}
 use Rattle.presentation_text.proofs.LineFormsParts.{Behind}
 use Rattle.presentation_text.proofs.line_forms.parts_at.Given as goal
 

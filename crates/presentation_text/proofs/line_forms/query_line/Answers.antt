@@ -1,6 +1,6 @@
 use Rattle.std.proofs.Common.{drop, refl}
-use Rattle.presentation_text.specs.DraftForms.{asked_kind, told_of}
-use Rattle.presentation_text.specs.LineForms.{query_in, query_line, with_ask}
+use Rattle.presentation_text.specs.DraftReadings.{asked_kind, contents_of}
+use Rattle.presentation_text.specs.LineReadings.{query_in, query_line, with_ask}
 use Rattle.presentation_text.proofs.LineFormsStops.{draft_asked, draft_stops, stops_on}
 use Rattle.presentation_text.proofs.line_forms.query_line.Goals as goal
 
@@ -13,4 +13,4 @@ returns-in_err-kind c =
 pub returns : goal.returns
 unfolding query_line
 returns c =
-    draft_asked c.args.tokens.now _ c.with_ask.result (with_ask (told_of c.args.draft) c.args.number (asked_kind c.in_ok-kind.kind)) (rw (c.in-Some.is, c.in_ok-kind.ensures.0) refl) c.with_ask.ensures
+    draft_asked c.args.tokens.now _ c.with_ask.result (with_ask (contents_of c.args.draft) c.args.number (asked_kind c.in_ok-kind.kind)) (rw (c.in-Some.is, c.in_ok-kind.ensures.0) refl) c.with_ask.ensures

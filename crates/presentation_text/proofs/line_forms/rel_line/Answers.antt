@@ -4,12 +4,12 @@ use Rattle.std.specs.Option.{is_some}
 use Rattle.std.proofs.lemmas.List.Elements.{All-push}
 use Rattle.std.proofs.lemmas.List.{length-map, map-append}
 use Rattle.symmetric_sums.specs.Terms.{FitsOver, terms_of}
-use Rattle.presentation_text.specs.DraftForms.{told_of}
-use Rattle.presentation_text.specs.Elements.{said}
-use Rattle.presentation_text.specs.ElementForms.{element_in}
-use Rattle.presentation_text.specs.LineForms.{prime_of, rel_line}
+use Rattle.presentation_text.specs.DraftReadings.{contents_of}
+use Rattle.presentation_text.specs.Elements.{written_sum}
+use Rattle.presentation_text.specs.ElementReadings.{element_in}
+use Rattle.presentation_text.specs.LineReadings.{prime_of, rel_line}
 use Rattle.presentation_text.specs.Readings.{end_in}
-use Rattle.presentation_text.specs.TreeForms.{demands_of}
+use Rattle.presentation_text.specs.TreeReadings.{demands_of}
 use Rattle.presentation_text.specs.declared.kinds.DocKind.TheVariants.{TooManyRelations}
 use Rattle.presentation_text.proofs.LineFormsNumbers.{at_most, not_at_most}
 use Rattle.presentation_text.proofs.LineFormsStops.{draft_fails, draft_stops, stops_on}
@@ -41,8 +41,8 @@ returns c =
     let fits = FitsOver (prime_of c.args.draft.field) c.args.draft.gens in
     let room : nat_le 1000 (length (map terms_of c.args.draft.rels)) ≡ false = not_at_most 1000 _ (omega (arith, length-map c.args.draft.rels terms_of, c.len.ensures, c.if-len-ge-MOST_RELATIONS.false)) in (
       rw (room, c.in_ok-element.ensures.read.reading_is, c.in_ok-end_at.ensures)
-          (ap (λ relations. Ok (record (told_of c.args.draft) { relations = relations; section = 5 }))
-          (ap (λ relation. map terms_of c.args.draft.rels ++ relation ∷ []) (ap (λ field. said (prime_of field) c.in_ok-element.ensures.read.terms) c.in-Some.is ∙ sym c.in_ok-element.ensures.read.sum_is)
+          (ap (λ relations. Ok (record (contents_of c.args.draft) { relations = relations; section = 5 }))
+          (ap (λ relation. map terms_of c.args.draft.rels ++ relation ∷ []) (ap (λ field. written_sum (prime_of field) c.in_ok-element.ensures.read.terms) c.in-Some.is ∙ sym c.in_ok-element.ensures.read.sum_is)
           ∙ sym (ap (map terms_of) c.in_ok-push.ensures.ok ∙ map-append terms_of c.args.draft.rels (c.in_ok-element.element.sum ∷ [])))),
       record {
         table = c.requires.sound.table;

@@ -1,8 +1,8 @@
 use Rattle.std.proofs.Common.{drop, refl, None}
-use Rattle.presentation_text.specs.ElementForms.{element_in}
-use Rattle.presentation_text.specs.LineForms.{same_in}
+use Rattle.presentation_text.specs.ElementReadings.{element_in}
+use Rattle.presentation_text.specs.LineReadings.{same_in}
 use Rattle.presentation_text.specs.Readings.{end_in, mark_in}
-use Rattle.presentation_text.specs.TreeForms.{demands_of}
+use Rattle.presentation_text.specs.TreeReadings.{demands_of}
 use Rattle.presentation_text.proofs.LineFormsStops.{ask_stops, stops_on}
 use Rattle.presentation_text.proofs.line_forms.same_at.Goals as goal
 

@@ -1,5 +1,5 @@
 use Rattle.std.proofs.Common.{◌≡◌, ◌∙◌, ◌+◌, ◌++◌, ◌∷◌, [], Ok, ap, drop, refl, sym, None, Some}
-use Rattle.presentation_text.specs.LineForms.{symmetry_in, symmetry_named}
+use Rattle.presentation_text.specs.LineReadings.{symmetry_in, symmetry_named}
 use Rattle.presentation_text.specs.Readings.{StopsAs, end_in, word_in}
 use Rattle.presentation_text.specs.declared.kinds.DocKind.TheVariants.{Syntax}
 use Rattle.presentation_text.proofs.LineFormsStops.{part_fails, part_stops, stops_on}

@@ -1,10 +1,10 @@
 use Rattle.std.proofs.Common.{◌≡◌, ◌∙◌, None, Ok, Some, ap, arith, drop, false, get_or, length, nat_lt, refl, sym, true}
 use Rattle.std.specs.Option.{is_some}
 use Rattle.std.proofs.Math.ListN.{length-set}
-use Rattle.presentation_text.specs.DraftForms.{told_of}
-use Rattle.presentation_text.specs.LineForms.{is_weighed, weight_line}
+use Rattle.presentation_text.specs.DraftReadings.{contents_of}
+use Rattle.presentation_text.specs.LineReadings.{is_weighed, weight_line}
 use Rattle.presentation_text.specs.Readings.{end_in, number_in, word_in}
-use Rattle.presentation_text.specs.TreeForms.{index_of}
+use Rattle.presentation_text.specs.TreeReadings.{index_of}
 use Rattle.presentation_text.specs.declared.kinds.DocKind.TheVariants.{NameUnknown, WeightOut, WeightTaken}
 use Rattle.presentation_text.proofs.LineFormsNumbers.{below, not_below, weighed_is, weighed_set}
 use Rattle.presentation_text.proofs.LineFormsStops.{draft_fails, draft_stops, stops_on}
@@ -79,7 +79,7 @@ returns c =
     ∙ ap (λ weights. is_some (get_or weights c.in-Some.generator None)) (sym c.as_slice.ensures) ∙ sym c.if-is_some.ensures in
     let small : nat_lt 1000000 c.in_ok-weight.weight ≡ false = not_below 1000000 _ c.if-weight-gt-GREATEST_WEIGHT.false in (
       rw (c.in_ok-name.ensures.0, known, untaken, c.in_ok-weight.ensures.0, small, c.in_ok-end_at.ensures)
-          (ap (λ weights. Ok (record (told_of c.args.draft) { weights = weights; section = 4 })) (weighed_set c.in-Some.generator c.in_ok-weight.weight c.args.draft.weights ∙ sym c.set.ensures)),
+          (ap (λ weights. Ok (record (contents_of c.args.draft) { weights = weights; section = 4 })) (weighed_set c.in-Some.generator c.in_ok-weight.weight c.args.draft.weights ∙ sym c.set.ensures)),
       record {
         table = c.requires.sound.table;
         no_sums = c.requires.sound.no_sums;

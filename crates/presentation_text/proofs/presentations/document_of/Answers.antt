@@ -1,6 +1,6 @@
 use Rattle.std.proofs.Common.{get_or, subst}
 use Rattle.symmetric_sums.specs.Terms.{FitsOver}
-use Rattle.presentation_text.specs.LineForms.{prime_of}
+use Rattle.presentation_text.specs.LineReadings.{prime_of}
 use Rattle.presentation_text.proofs.presentations.document_of.Goals as goal
 
 pub returns-clause-fit : goal.returns-clause-fit

@@ -1,9 +1,9 @@
 use Rattle.std.proofs.Common.{◌∙◌}
 use Rattle.presentation_text.specs.DocumentDrafts.{tail_number}
-use Rattle.presentation_text.specs.DraftForms.{told_of}
+use Rattle.presentation_text.specs.DraftReadings.{contents_of}
 use Rattle.presentation_text.proofs.DocumentFormsRest.{is_tail, rest_joined}
 use Rattle.presentation_text.proofs.ElementsAccepted.{elements_accepted}
-use Rattle.presentation_text.proofs.ToldLines.{documents_well}
+use Rattle.presentation_text.proofs.ContentsLines.{documents_well}
 use Rattle.presentation_text.proofs.TreesAccepted.{all_accepted}
 use Rattle.presentation_text.proofs.WritableDocuments.{written_document}
 use Rattle.presentation_text.proofs.presentations.read_document.Goals as goal
@@ -14,7 +14,7 @@ returns-in-Ok-clause-document c =
     let read = c.in_ok-read.read in
     let found = c.in_ok-read.ensures in
     record {
-      whole = record { told = told_of read.draft; tail = tail_number read.left read.number };
+      whole = record { contents = contents_of read.draft; tail = tail_number read.left read.number };
       reading_is = c.in_ok-header.ensures.read ∙ found.reading_is;
       says = c.in-Ok.ensures.says;
       tail_is =
@@ -26,5 +26,5 @@ pub returns-in-Ok-clause-formed : goal.returns-in-Ok-clause-formed
 returns-in-Ok-clause-formed c =
     let read = c.in_ok-read.read in
     let found = c.in_ok-read.ensures in
-    written_document (told_of read.draft) c.in-Ok.document
-    (documents_well (elements_accepted all_accepted) c.args.bytes.now (record { told = told_of read.draft; tail = tail_number read.left read.number }) (c.in_ok-header.ensures.read ∙ found.reading_is)) c.in-Ok.ensures.says
+    written_document (contents_of read.draft) c.in-Ok.document
+    (documents_well (elements_accepted all_accepted) c.args.bytes.now (record { contents = contents_of read.draft; tail = tail_number read.left read.number }) (c.in_ok-header.ensures.read ∙ found.reading_is)) c.in-Ok.ensures.says

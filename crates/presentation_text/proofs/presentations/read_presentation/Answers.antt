@@ -1,9 +1,9 @@
 use Rattle.std.proofs.Common.{◌≡◌, ◌<◌, ◌&&◌, ◌+◌, ◌∙◌, Ok, Some, ap, arith, false, length, refl, subst, sym, true}
 use Rattle.std.specs.Option.{is_some}
 use Rattle.presentation_text.specs.DocumentDrafts.{IsBehind, StopsAtLine}
-use Rattle.presentation_text.specs.DocumentForms.{counted_line, lines_from, on_from}
-use Rattle.presentation_text.specs.DraftForms.{IsSound, told_of}
-use Rattle.presentation_text.specs.LineForms.{told_by_header}
+use Rattle.presentation_text.specs.DocumentReadings.{counted_line, lines_from, on_from}
+use Rattle.presentation_text.specs.DraftReadings.{IsSoundDraft, contents_of}
+use Rattle.presentation_text.specs.LineReadings.{contents_by_header}
 use Rattle.presentation_text.specs.Lines.{lines}
 use Rattle.presentation_text.specs.Tokens.{tokens}
 use Rattle.presentation_text.specs.declared.draft.Draft.{Draft}
@@ -17,7 +17,7 @@ use Rattle.presentation_text.proofs.presentations.read_presentation.Goals.{then-
 pub loop-line-init : goal.loop-line-init
 loop-line-init c = record {
   stands = rest_itself c.args.header.rest.now c.args.header.number;
-  read = ap (λ told. lines_from told c.args.header.number (lines c.args.header.rest.now)) (sym c.new-draft.ensures.told);
+  read = ap (λ contents. lines_from contents c.args.header.number (lines c.args.header.rest.now)) (sym c.new-draft.ensures.contents);
   sound = c.new-draft.ensures.sound;
 }
 
@@ -30,10 +30,10 @@ returns-in_err-now c =
     let number = c.loop-line.number in
     let line = c.in-Some.line.now in
     let others = lines c.in-Some.behind.now in
-    let whole = lines_from (told_by_header c.args.header.version) c.args.header.number (lines c.args.header.rest.now) in
+    let whole = lines_from (contents_by_header c.args.header.version) c.args.header.number (lines c.args.header.rest.now) in
     line_stops _ (StopsAtLine whole) c.from_residual.result c.in_err-now.field-0.0 c.from_residual.ensures.0 c.from_residual.ensures.1
-    (lines_stop (on_from number (λ now. lines_from now (number + 1) others) (told_of draft)) (counted_line (told_of draft) number (tokens line)) whole c.in_err-now.field-0.0
-    (c.loop-line.invariant.read ∙ lines_counted (told_of draft) number (lines c.loop-line.rest.now) others line c.in-Some.ensures.lines (sym c.counts.ensures ∙ c.if-counts.true))
+    (lines_stop (on_from number (λ now. lines_from now (number + 1) others) (contents_of draft)) (counted_line (contents_of draft) number (tokens line)) whole c.in_err-now.field-0.0
+    (c.loop-line.invariant.read ∙ lines_counted (contents_of draft) number (lines c.loop-line.rest.now) others line c.in-Some.ensures.lines (sym c.counts.ensures ∙ c.if-counts.true))
     c.in_err-now.ensures)
 
 pub returns-in-TailBegins : goal.returns-in-TailBegins
@@ -42,7 +42,7 @@ returns-in-TailBegins c =
     let number = c.loop-line.number in
     let rest = c.loop-line.rest.now in
     let line = c.in-Some.line.now in
-    let begins = subst (IsBehind draft (counted_line (told_of draft) number (tokens line))) c.in-TailBegins.is c.in_ok-now.ensures in
+    let begins = subst (IsBehind draft (counted_line (contents_of draft) number (tokens line))) c.in-TailBegins.is c.in_ok-now.ensures in
     let some : 0 < length rest = omega (arith, c.in-Some.ensures.shorter) in
     record {
       rest = rest;
@@ -50,9 +50,9 @@ returns-in-TailBegins c =
       stands = c.loop-line.invariant.stands;
       reading_is =
           c.loop-line.invariant.read
-          ∙ lines_tail (told_of draft) number (lines rest) (lines c.in-Some.behind.now) line c.in-Some.ensures.lines (sym c.counts.ensures ∙ c.if-counts.true) begins.0
-          ∙ ap (λ told. Ok (record { told = told; tail = Some number })) (sym begins.1)
-          ∙ ap (λ tail. Ok (record { told = told_of c.in-TailBegins.draft; tail = tail })) (sym (tail_some (length rest) number some));
+          ∙ lines_tail (contents_of draft) number (lines rest) (lines c.in-Some.behind.now) line c.in-Some.ensures.lines (sym c.counts.ensures ∙ c.if-counts.true) begins.0
+          ∙ ap (λ contents. Ok (record { contents = contents; tail = Some number })) (sym begins.1)
+          ∙ ap (λ tail. Ok (record { contents = contents_of c.in-TailBegins.draft; tail = tail })) (sym (tail_some (length rest) number some));
       sound = begins.2;
       both = begins.3;
     }
@@ -70,15 +70,15 @@ loop-line-preserved c =
     let rest = c.loop-line.rest.now in
     let line = c.in-Some.line.now in
     let others = lines c.in-Some.behind.now in
-    let Goes = λ (now : Draft). (lines_from (told_of draft) number (lines rest) ≡ lines_from (told_of now) (number + 1) others) × IsSound now in
+    let Goes = λ (now : Draft). (lines_from (contents_of draft) number (lines rest) ≡ lines_from (contents_of now) (number + 1) others) × IsSoundDraft now in
     let goes : Goes c.if-counts.draft = elim c.if-counts.branch [
       | then-counts+in_ok-now+in-GoesOn w ↦
-          let behind = subst (IsBehind draft (counted_line (told_of draft) number (tokens line))) w.in-GoesOn.is w.in_ok-now.ensures in
+          let behind = subst (IsBehind draft (counted_line (contents_of draft) number (tokens line))) w.in-GoesOn.is w.in_ok-now.ensures in
           subst Goes (sym w.draft-is)
-          (lines_go_on (told_of draft) (told_of w.in-GoesOn.now) number (lines rest) others line c.in-Some.ensures.lines (sym c.counts.ensures ∙ w.if-counts.true) behind.0, behind.1)
+          (lines_go_on (contents_of draft) (contents_of w.in-GoesOn.now) number (lines rest) others line c.in-Some.ensures.lines (sym c.counts.ensures ∙ w.if-counts.true) behind.0, behind.1)
       | else-counts w ↦
           subst Goes (sym w.draft-is)
-          (lines_passed (told_of draft) number (lines rest) others line c.in-Some.ensures.lines (sym c.counts.ensures ∙ w.if-counts.false), c.loop-line.invariant.sound)
+          (lines_passed (contents_of draft) number (lines rest) others line c.in-Some.ensures.lines (sym c.counts.ensures ∙ w.if-counts.false), c.loop-line.invariant.sound)
     ] in
     record {
       stands = rest_behind c.args.header.rest.now rest c.in-Some.behind.now c.args.header.number number line c.loop-line.invariant.stands c.in-Some.ensures.lines c.in-Some.ensures.end c.in-Some.ensures.shorter;
@@ -91,7 +91,7 @@ returns-then-not-has_both c =
     let draft = c.loop-line.draft in
     let missing : (is_some draft.field && is_some draft.order) ≡ false = sym c.has_both.ensures ∙ c.if-not-has_both.true in
     line_fails _ _ c.fail.result c.loop-line.number Missing
-    (c.loop-line.invariant.read ∙ lines_end (told_of draft) c.loop-line.number (lines c.loop-line.rest.now) (ap lines (c.in_default.ensures.none.0 refl)) ∙ end_missing (told_of draft) c.loop-line.number missing)
+    (c.loop-line.invariant.read ∙ lines_end (contents_of draft) c.loop-line.number (lines c.loop-line.rest.now) (ap lines (c.in_default.ensures.none.0 refl)) ∙ end_missing (contents_of draft) c.loop-line.number missing)
     c.fail.ensures
 
 pub returns : goal.returns
@@ -104,7 +104,7 @@ returns c =
       rest = c.loop-line.rest.now;
       left_is = sym (ap length none);
       stands = c.loop-line.invariant.stands;
-      reading_is = c.loop-line.invariant.read ∙ lines_end (told_of draft) c.loop-line.number (lines c.loop-line.rest.now) (ap lines none) ∙ end_whole (told_of draft) c.loop-line.number whole;
+      reading_is = c.loop-line.invariant.read ∙ lines_end (contents_of draft) c.loop-line.number (lines c.loop-line.rest.now) (ap lines none) ∙ end_whole (contents_of draft) c.loop-line.number whole;
       sound = c.loop-line.invariant.sound;
       both = record { field = both.0; order = both.1 };
     }

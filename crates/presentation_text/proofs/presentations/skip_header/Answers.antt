@@ -1,6 +1,6 @@
 use Rattle.std.proofs.Common.{◌≡◌, ◌+◌, ◌∙◌, None, Some, ap, arith, refl, sym}
-use Rattle.presentation_text.specs.DocumentForms.{behind_header, lines_from, read_text, version_of}
-use Rattle.presentation_text.specs.LineForms.{told_by_header}
+use Rattle.presentation_text.specs.DocumentReadings.{behind_header, lines_from, read_text, version_of}
+use Rattle.presentation_text.specs.LineReadings.{contents_by_header}
 use Rattle.presentation_text.specs.Lines.{lines}
 use Rattle.presentation_text.specs.Tokens.{tokens}
 use Rattle.presentation_text.specs.declared.kinds.DocKind.TheVariants.{Header}
@@ -18,7 +18,7 @@ returns-in_default-version_of-clause-read c =
     let none : version_of (tokens line) ≡ None = ap version_of (sym (c.as_slice.ensures.value ∙ c.in-Ok.ensures.found)) ∙ sym c.in_default-version_of.ensures in
     line_fails _ (read_text c.args.bytes.now) c.fail.result c.loop-line.number Header
     (c.loop-line.invariant.read ∙ header_counted c.loop-line.number (lines rest) (lines c.in-Some.behind.now) line c.in-Some.ensures.lines (sym c.counts.ensures ∙ c.if-counts.true)
-    ∙ ap (behind_header c.loop-line.number (λ version. lines_from (told_by_header version) (c.loop-line.number + 1) (lines c.in-Some.behind.now))) none)
+    ∙ ap (behind_header c.loop-line.number (λ version. lines_from (contents_by_header version) (c.loop-line.number + 1) (lines c.in-Some.behind.now))) none)
     c.fail.ensures
 
 pub overflow_add-result : goal.overflow_add-result
@@ -34,7 +34,7 @@ returns-then-counts-clause-read c =
     let line = c.in-Some.line.now in
     let some : version_of (tokens line) ≡ Some c.in-Some-version_of.version = ap version_of (sym (c.as_slice.ensures.value ∙ c.in-Ok.ensures.found)) ∙ sym c.in-Some-version_of.ensures in
     c.loop-line.invariant.read ∙ header_counted c.loop-line.number (lines rest) (lines c.in-Some.behind.now) line c.in-Some.ensures.lines (sym c.counts.ensures ∙ c.if-counts.true)
-    ∙ ap (behind_header c.loop-line.number (λ version. lines_from (told_by_header version) (c.loop-line.number + 1) (lines c.in-Some.behind.now))) some
+    ∙ ap (behind_header c.loop-line.number (λ version. lines_from (contents_by_header version) (c.loop-line.number + 1) (lines c.in-Some.behind.now))) some
 
 pub overflow_add-number : goal.overflow_add-number
 overflow_add-number c = omega (arith, c.loop-line.invariant.stands.few, c.in-Some.ensures.shorter, c.requires.short)

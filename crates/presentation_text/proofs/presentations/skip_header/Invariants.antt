@@ -1,6 +1,6 @@
 use Rattle.std.proofs.Common.{◌≡◌, length}
 use Rattle.presentation_text.specs.DocumentDrafts.{IsRestFrom}
-use Rattle.presentation_text.specs.DocumentForms.{document_from, read_text}
+use Rattle.presentation_text.specs.DocumentReadings.{document_from, read_text}
 use Rattle.presentation_text.specs.Lines.{lines}
 use Rattle.presentation_text.proofs.presentations.skip_header.Given as goal
 

@@ -1,8 +1,8 @@
 use Rattle.std.proofs.Common.{drop, ap, sym, ◌∙◌, ◌++◌, ◌∷◌, []}
 use Rattle.symmetric_sums.specs.Terms.{terms_of}
 use Rattle.presentation_text.specs.Elements as elements
-use Rattle.presentation_text.specs.ElementForms as spec
-use Rattle.presentation_text.specs.TreeForms.{demands_of}
+use Rattle.presentation_text.specs.ElementReadings as spec
+use Rattle.presentation_text.specs.TreeReadings.{demands_of}
 use Rattle.presentation_text.proofs.TreeFormsPlaces.{stops-on}
 use Rattle.presentation_text.proofs.ElementFormsRead.{given_on}
 use Rattle.presentation_text.proofs.ElementFormsWhole.{nothing-read, element-stops, element-reads}
@@ -31,5 +31,5 @@ returns-clause-read c =
     let first = c.in_ok-first.first in
     element-reads c.args.field c.args.table.now c.args.least c.args.arity c.args.tokens.now c.args.at from.result.0 from.result.1 (sym c.is_nothing.ensures ∙ c.if-is_nothing.false)
     from.ensures.minus from.ensures.behind first c.in_ok-first.ensures.read c.add.new.sum
-    (c.in_ok-add.ensures.says ∙ ap (λ sum. terms_of sum ++ elements.said c.args.field (spec.written first ∷ [])) c.new-sum.ensures.empty)
+    (c.in_ok-add.ensures.says ∙ ap (λ sum. terms_of sum ++ elements.written_sum c.args.field (spec.written first ∷ [])) c.new-sum.ensures.empty)
     c.further_at.result c.further_at.ensures.read

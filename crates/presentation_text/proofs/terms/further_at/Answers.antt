@@ -1,6 +1,6 @@
 use Rattle.std.proofs.Common.{◌≡◌, ◌+◌, Some, None, drop, length, sym, ◌∙◌, subst, refl}
-use Rattle.presentation_text.specs.ElementForms as spec
-use Rattle.presentation_text.specs.TreeForms.{demands_of}
+use Rattle.presentation_text.specs.ElementReadings as spec
+use Rattle.presentation_text.specs.TreeReadings.{demands_of}
 use Rattle.presentation_text.proofs.TreeFormsPlaces.{stops-on}
 use Rattle.presentation_text.proofs.ElementFormsRead.{given_on}
 use Rattle.presentation_text.proofs.ElementFormsSums.{over-fits}

@@ -1,6 +1,6 @@
 use Rattle.std.proofs.Common.{◌-◌, length}
-use Rattle.presentation_text.specs.ElementForms.{IsUnderWay}
-use Rattle.presentation_text.specs.TreeForms.{demands_of}
+use Rattle.presentation_text.specs.ElementReadings.{IsUnderWay}
+use Rattle.presentation_text.specs.TreeReadings.{demands_of}
 use Rattle.presentation_text.proofs.ElementFormsFurther.{OnTheWay}
 use Rattle.presentation_text.proofs.terms.further_at.Given as goal
 

@@ -11,7 +11,7 @@ use Rattle.presentation_text.specs.declared.kinds.DocKind.TheVariants.{InputCoun
 use Rattle.presentation_text.specs.declared.lexing.Token.TheVariants.{Word, Number}
 use Rattle.presentation_text.specs.declared.trees.TreeRead.{TreeRead}
 use Rattle.presentation_text.specs.Readings.{misfit, StopsAs}
-use Rattle.presentation_text.specs.TreeForms.{input_in, node_in, tree_in, index_of, GivesInput}
+use Rattle.presentation_text.specs.TreeReadings.{input_in, node_in, tree_in, index_of, GivesInput}
 use Rattle.presentation_text.proofs.TreeTokens.{arity_in, arity_in-get, arity_in-least}
 use Rattle.presentation_text.proofs.LineFormsStops.{part_stops}
 use Rattle.presentation_text.proofs.TreeFormsPlaces.{stops-misfit, stops-end, fault-at}

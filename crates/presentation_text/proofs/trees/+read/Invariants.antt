@@ -1,6 +1,6 @@
 use Rattle.std.proofs.Common.{◌+◌, ◌*◌, map}
 use Rattle.labelled_trees.specs.Meaning.{tree_of}
-use Rattle.presentation_text.specs.TreeForms.{tree_in}
+use Rattle.presentation_text.specs.TreeReadings.{tree_in}
 use Rattle.presentation_text.proofs.TreeFormsSteps.{IsReadSoFar}
 use Rattle.presentation_text.proofs.trees.+read.Given as goal
 

@@ -1,7 +1,7 @@
 use Rattle.std.proofs.Common.{◌≡◌, Err, Bool, drop, length, ap, sym, ◌∙◌, subst}
 use Rattle.presentation_text.specs.declared.kinds.DocKind.TheVariants.{InputCount}
 use Rattle.presentation_text.specs.Readings.{GivesBehind}
-use Rattle.presentation_text.specs.TreeForms.{before_in}
+use Rattle.presentation_text.specs.TreeReadings.{before_in}
 use Rattle.presentation_text.proofs.TreeFormsPlaces.{gives-fault}
 use Rattle.presentation_text.proofs.TreeFormsSteps.{before_in-closed, before_in-mark}
 use Rattle.presentation_text.proofs.trees.before_input.Goals as goal

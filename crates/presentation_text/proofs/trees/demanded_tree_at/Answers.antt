@@ -1,7 +1,7 @@
 use Rattle.std.proofs.Common.{◌≡◌, ◌≤◌, ◌-◌, suc, Err, Some, None, ap, sym, ◌∙◌, arith, length, drop, length-drop}
 use Rattle.labelled_trees.specs.Meaning.{tree_of}
 use Rattle.presentation_text.specs.Readings.{first_row}
-use Rattle.presentation_text.specs.TreeForms.{tree_in, whole_tree_in, against}
+use Rattle.presentation_text.specs.TreeReadings.{tree_in, whole_tree_in, against}
 use Rattle.presentation_text.proofs.TreeFormsPlaces.{stops-on, tree-fault, tree-handed_on}
 use Rattle.presentation_text.proofs.TreeFormsSteps.{whole-stops, whole-refused, whole-accepted}
 use Rattle.presentation_text.proofs.trees.demanded_tree_at.Goals as goal

@@ -1,5 +1,5 @@
 use Rattle.std.proofs.Common.{◌≡◌, None, ap, sym, ◌∙◌}
-use Rattle.presentation_text.specs.TreeForms.{index_of}
+use Rattle.presentation_text.specs.TreeReadings.{index_of}
 use Rattle.presentation_text.proofs.TreeFormsSteps.{index-none, index-some}
 use Rattle.presentation_text.proofs.trees.generator_named.Goals as goal
 

@@ -44,13 +44,13 @@ pub of-requires : goal.of-requires
 of-requires c =
     let gens = c.args.table.now in
     let all = c.as_slice-2.ensures.value ∙ c.loop-index.invariant ∙ ap (map kind_in) (take_all c.loop-index.index gens (omega (arith, c.loop-index-test.false, c.len-index-end.ensures.length))) in
-    record { few = subst (λ ks. kinds.AreFew (kinds.labels_of ks)) (sym all) (few_labels gens c.len-index-end.ensures.table) }
+    record { few = subst (λ ks. kinds.AreFew (kinds.labels_of_kinds ks)) (sym all) (few_labels gens c.len-index-end.ensures.table) }
 
 pub returns : goal.returns
 returns c =
     let gens = c.args.table.now in
     let all = c.as_slice-2.ensures.value ∙ c.loop-index.invariant ∙ ap (map kind_in) (take_all c.loop-index.index gens (omega (arith, c.loop-index-test.false, c.len-index-end.ensures.length))) in
     record {
-      labels = IfOk-weaker c.of.result (λ labels. labels ≡ kinds.labels_of c.as_slice-2.result.now) (AreLabelsOf gens)
-          (λ labels e. subst (AreLabelsOf gens) (sym (e ∙ ap kinds.labels_of all)) (are_labels gens c.len-index-end.ensures.table)) c.of.ensures.labels;
+      labels = IfOk-weaker c.of.result (λ labels. labels ≡ kinds.labels_of_kinds c.as_slice-2.result.now) (AreLabelsOf gens)
+          (λ labels e. subst (AreLabelsOf gens) (sym (e ∙ ap kinds.labels_of_kinds all)) (are_labels gens c.len-index-end.ensures.table)) c.of.ensures.labels;
     }

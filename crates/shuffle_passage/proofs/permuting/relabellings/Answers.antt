@@ -3,7 +3,7 @@ use Rattle.std.specs.List.{All, AllByRecursion}
 use Rattle.itertools.specs.Pool.{permutation_left}
 use Rattle.std.specs.Vec.{vec_len}
 use Rattle.std.proofs.lemmas.List.Elements.{All-push}
-use Rattle.shuffle_passage.specs.RelabelledSums.{IsRelabelling}
+use Rattle.shuffle_passage.specs.RelabelledSums.{IsRelabelledSum}
 use Rattle.shuffle_insertions.specs.Listing.{upto}
 use Rattle.shuffle_transfer.specs.Orderings.{orderings}
 use Rattle.shuffle_passage.specs.Words.{chosen}
@@ -71,8 +71,8 @@ loop-permutation-preserved c =
     let read = read_upto m it.pool.items k.0 c.in_ok-permutation.permutation.items c.loop-permutation.invariant.pool fit.0 k.2 in
     let answer : Relabelled = record { permutation = c.from_vec.result; sum = c.in_ok-sum.sum } in
     let slice : c.as_slice-in-loop-permutation.result.now ≡ c.from_vec.result = c.as_slice-in-loop-permutation.ensures.value ∙ sym c.from_vec.ensures in
-    let sums = All-push (λ (x : Relabelled). IsRelabelling c.args.field c.args.table.now c.args.rel.now x.permutation x.sum) c.loop-permutation.found answer c.loop-permutation.invariant.sums
-    (subst (λ v. IsRelabelling c.args.field c.args.table.now c.args.rel.now v c.in_ok-sum.sum) slice
+    let sums = All-push (λ (x : Relabelled). IsRelabelledSum c.args.field c.args.table.now c.args.rel.now x.permutation x.sum) c.loop-permutation.found answer c.loop-permutation.invariant.sums
+    (subst (λ v. IsRelabelledSum c.args.field c.args.table.now c.args.rel.now v c.in_ok-sum.sum) slice
     record { collected = c.in_ok-sum.ensures.collected; residues = c.in_ok-sum.ensures.residues; labelled = c.in_ok-sum.ensures.labelled }) in
     record {
       can = search rules;
@@ -81,7 +81,7 @@ loop-permutation-preserved c =
       choices = fit.1;
       order = order-more m (λ (x : Relabelled). x.permutation) c.loop-permutation.found c.push.new.self answer k.0 (permutation_left it) (permutation_left c.next.new.self) (orderings m) c.in_ok-push.ensures.ok k.1
           (c.from_vec.ensures ∙ read) c.loop-permutation.invariant.order;
-      sums = subst (All (λ (x : Relabelled). IsRelabelling c.args.field c.args.table.now c.args.rel.now x.permutation x.sum)) (sym c.in_ok-push.ensures.ok) sums;
+      sums = subst (All (λ (x : Relabelled). IsRelabelledSum c.args.field c.args.table.now c.args.rel.now x.permutation x.sum)) (sym c.in_ok-push.ensures.ok) sums;
     }
 
 pub returns-clause-permutations : goal.returns-clause-permutations

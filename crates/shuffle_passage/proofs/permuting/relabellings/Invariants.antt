@@ -4,7 +4,7 @@ use Rattle.itertools.specs.Pool.{permutation_left}
 use Rattle.shuffle_insertions.specs.Listing.{upto}
 use Rattle.shuffle_transfer.specs.Orderings.{orderings}
 use Rattle.shuffle_passage.specs.Words.{chosen}
-use Rattle.shuffle_passage.specs.RelabelledSums.{IsRelabelling}
+use Rattle.shuffle_passage.specs.RelabelledSums.{IsRelabelledSum}
 use Rattle.shuffle_passage.proofs.PermutedLists.{AreChoices}
 use Rattle.shuffle_passage.proofs.permuting.relabellings.Given as goal
 
@@ -15,5 +15,5 @@ invariant-loop-permutation l = record {
   pool : l.permutation-iterator.pool.items ≡ upto l.arity;
   choices : AllByRecursion (AreChoices l.arity) (permutation_left l.permutation-iterator);
   order : map (λ answer. answer.permutation) l.found ++ map (chosen 0 (upto l.arity)) (permutation_left l.permutation-iterator) ≡ orderings l.arity;
-  sums : All (λ answer. IsRelabelling l.fn.field l.table l.rel answer.permutation answer.sum) l.found;
+  sums : All (λ answer. IsRelabelledSum l.fn.field l.table l.rel answer.permutation answer.sum) l.found;
 }

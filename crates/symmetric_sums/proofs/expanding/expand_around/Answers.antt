@@ -4,7 +4,7 @@ use Rattle.labelled_trees.specs.Meaning.{tree_of}
 use Rattle.symmetric_trees.specs.Trees.{IsLabelled}
 use Rattle.labelled_trees.specs.Labelled.{IsNumbered}
 use Rattle.symmetric_sums.specs.Terms.{terms_of}
-use Rattle.symmetric_sums.specs.Instances.{IsValid, instance_element}
+use Rattle.symmetric_sums.specs.Instances.{IsValidInstance, instance_element}
 use Rattle.symmetric_sums.specs.Expanding.{HasPlace}
 use Rattle.symmetric_sums.specs.declared.term.Term.{Term}
 use Rattle.labelled_trees.proofs.Numbered.{numbered_of_labelled}
@@ -32,7 +32,7 @@ returns-then-others-own-clause-answer c n v =
     unfit-arity c.args.field c.args.table.now c.args.instance.now c.terms-term-items.result.now c.loop-term.terms c.loop-term.arity c.loop-term.term-index c.in-Some.others c.in_ok-filled.own c.term-item.result
     c.loop-term-test.true c.term-item.is c.loop-term.invariant c.in-Some.is c.if-others-own.true
     (subst (IsLabelled c.args.table.now c.in_ok-filled.own) c.in_ok-filled.ensures.1 c.in_ok-filled.ensures.2) n
-    (subst (λ ts. IsValid c.args.table.now (terms_of ts) n c.args.instance.now) (sym c.terms-term-items.ensures.terms) v)
+    (subst (λ ts. IsValidInstance c.args.table.now (terms_of ts) n c.args.instance.now) (sym c.terms-term-items.ensures.terms) v)
 
 pub loop-term-preserved : goal.loop-term-preserved
 loop-term-preserved c =
@@ -49,9 +49,9 @@ loop-term-preserved c =
     c.loop-term-test.true c.term-item.is (omega (arith, c.requires.coef)) c.loop-term.invariant same c.in_ok-filled.ensures.0 c.in_ok-filled.ensures.1 c.in_ok-filled.ensures.2 added
 
 -- what the loop leaves
-whole : (c : In-Some-arity) → IsValid c.args.table.now (terms_of c.args.element.now) c.in-Some-arity.arity c.args.instance.now × (terms_of c.loop-term.terms ≡ instance_element c.args.field (terms_of c.args.element.now) c.args.instance.now)
+whole : (c : In-Some-arity) → IsValidInstance c.args.table.now (terms_of c.args.element.now) c.in-Some-arity.arity c.args.instance.now × (terms_of c.loop-term.terms ≡ instance_element c.args.field (terms_of c.args.element.now) c.args.instance.now)
 whole c =
-    subst (λ ts. IsValid c.args.table.now (terms_of ts) c.in-Some-arity.arity c.args.instance.now × (terms_of c.loop-term.terms ≡ instance_element c.args.field (terms_of ts) c.args.instance.now)) c.terms-term-items.ensures.terms
+    subst (λ ts. IsValidInstance c.args.table.now (terms_of ts) c.in-Some-arity.arity c.args.instance.now × (terms_of c.loop-term.terms ≡ instance_element c.args.field (terms_of ts) c.args.instance.now)) c.terms-term-items.ensures.terms
     (whole-valid c.args.field c.args.table.now c.args.instance.now c.terms-term-items.result.now c.loop-term.terms c.loop-term.arity c.loop-term.term-index c.in-Some-arity.arity c.loop-term-test.false
     (subst (λ ts. HasPlace ts c.args.instance.now) (sym c.terms-term-items.ensures.terms) (c.if-not-has_place.ensures.place.0 refl)) c.loop-term.invariant c.in-Some-arity.is)
 

@@ -1,5 +1,5 @@
 use Rattle.std.proofs.Common.{◌∙◌, sym}
-use Rattle.certificate_text.specs.PlaceForms.{place_of}
+use Rattle.certificate_text.specs.PlaceReadings.{place_of}
 use Rattle.certificate_text.proofs.BlockReading.{word_cant_follow, word_may_follow, word_unknown}
 use Rattle.certificate_text.proofs.places.Place.word_fault.Goals as goal
 

@@ -1,6 +1,6 @@
 use Rattle.std.proofs.Common.{◌≡◌, ℕ, ◌+◌, ◌*◌, ◌/◌, ◌<◌, ◌≤◌, length, drop, map, slice_index, ap, ◌∙◌, sym, subst, arith}
 use mathlib.Core.Path.{ap₂}
-use Rattle.normal_listing.specs.Places.{IsWord}
+use Rattle.normal_listing.specs.Places.{IsShortWord}
 use Rattle.normal_listing.proofs.Opened.{Closes, closes}
 use Rattle.normal_listing.proofs.Renaming.{IsRenaming, IsFirst, begins, first_left, product_small, sum_small, goes_on, ends, renamed_word}
 use Rattle.normal_listing.proofs.word.SpellingWord.renamed.Goals as goal

@@ -1,5 +1,5 @@
 use Rattle.std.proofs.Common.{◌≡◌, ℕ, List, [], ◌∷◌, ◌*◌, ◌%◌, ◌^◌, drop, ap, ◌∙◌, sym}
-use Rattle.normal_listing.specs.Places.{IsWord, number_of}
+use Rattle.normal_listing.specs.Places.{IsShortWord, number_of}
 use Rattle.normal_listing.proofs.Opened.{IsOpened, Closes, opened, closes}
 use Rattle.normal_listing.proofs.Places.{rest_of, rest_word, number_none}
 use Rattle.normal_listing.proofs.word.SpellingWord.rest.Goals as goal

@@ -1,11 +1,11 @@
 use Rattle.std.proofs.Common.{ℕ, ◌<◌, ◌≡◌, ◌*◌, ◌^◌, ◌∷◌, [], ap, ◌∙◌, sym, arith}
-use Rattle.normal_listing.specs.Places.{IsWord}
+use Rattle.normal_listing.specs.Places.{IsShortWord}
 use Rattle.normal_listing.proofs.Opened.{Closes, closes}
 use Rattle.normal_listing.proofs.Places.{number_symbol}
 use Rattle.normal_listing.proofs.word.SpellingWord.symbol.Goals as goal
 
 -- one symbol is a word
-one_symbol : (s : ℕ) → 0 < s → s < 32 → IsWord (s ∷ [])
+one_symbol : (s : ℕ) → 0 < s → s < 32 → IsShortWord (s ∷ [])
 one_symbol s h g = record { few = omega arith; symbols = (record { some = h; small = g }, tt) }
 
 symbol_closes : (s x : ℕ) → x ≡ s → 0 < s → s < 32 → Closes (x * 2 ^ 120) (s ∷ [])

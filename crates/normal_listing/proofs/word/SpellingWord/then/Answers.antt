@@ -1,6 +1,6 @@
 use Rattle.std.proofs.Common.{◌≡◌, ℕ, List, length, ◌+◌, ◌*◌, ◌/◌, ◌^◌, ◌<◌, ◌≤◌, ◌++◌, ap, ◌∙◌, sym, arith}
 use mathlib.Core.Path.{ap₂}
-use Rattle.normal_listing.specs.Places.{IsWord, number_of}
+use Rattle.normal_listing.specs.Places.{IsShortWord, number_of}
 use Rattle.normal_listing.proofs.Opened.{IsOpened, Closes, opened, closes}
 use Rattle.normal_listing.proofs.Places.{number_joined, joined_word, word_small}
 use Rattle.normal_listing.proofs.word.SpellingWord.then.Goals as goal

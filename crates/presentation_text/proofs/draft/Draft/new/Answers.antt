@@ -1,7 +1,7 @@
 use Rattle.std.proofs.Common.{◌∙◌, ap, length, subst, sym}
 use Rattle.symmetric_sums.specs.Terms.{FitsOver}
 use Rattle.symmetric_trees.specs.Generators.{IsTable}
-use Rattle.presentation_text.specs.DraftForms.{AskFits}
+use Rattle.presentation_text.specs.DraftReadings.{AskFits}
 use Rattle.presentation_text.specs.declared.document.Ask.{Ask}
 use Rattle.presentation_text.proofs.LineFormsStops.{none_hold}
 use Rattle.presentation_text.proofs.LineFormsTables.{table-empty}

@@ -10,11 +10,11 @@ use Rattle.symmetric_sums.specs.Terms.{FitsOver, HaveResidues, terms_of}
 use Rattle.symmetric_sums.specs.declared.instance.Instance.{Instance}
 use Rattle.symmetric_sums.specs.declared.term.Term.{Term}
 use Rattle.presentation_text.specs.Accepted.{IsDemanded}
-use Rattle.presentation_text.specs.PrintedElements.{IsSaidTerm}
-use Rattle.presentation_text.specs.TreeForms.{any_arity}
+use Rattle.presentation_text.specs.PrintedElements.{IsWrittenTerm}
+use Rattle.presentation_text.specs.TreeReadings.{any_arity}
 use Rattle.certificate_text.specs.Plain.{plain_block, plain_step, plain_use}
-use Rattle.certificate_text.specs.Tails.{IsReadyBlock, IsReadyStep}
-use Rattle.certificate_text.specs.Writable.{IsSaidSum, IsWritable, IsWritableStep, IsWritableUse}
+use Rattle.certificate_text.specs.Tails.{IsReadyBlock, IsCheckableStep}
+use Rattle.certificate_text.specs.Writable.{IsWrittenSum, IsWritableBlock, IsWritableStep, IsWritableUse}
 use Rattle.certificate_text.specs.declared.block.Block.{Block}
 use Rattle.certificate_text.specs.declared.block.Step.{Step}
 
@@ -24,12 +24,12 @@ of_image P Q f more [] h = All-nil Q
 of_image P Q f more (x ∷ xs) h = All-cons Q x xs (more x (All-head P (f x) (map f xs) h)) (of_image P Q f more xs (All-tail P (f x) (map f xs) h))
 
 module _ (p : ℕ) (generators : List Generator) where
-  pub said_residues : (terms : List Term) → IsSaidSum p generators (terms_of terms) → HaveResidues p terms
-  said_residues terms h = of_image (IsSaidTerm p generators h.0) (λ term. term.coef < p) (λ term. (term.coef, tree_of term.tree)) (λ term said. said.residue) terms h.1
+  pub said_residues : (terms : List Term) → IsWrittenSum p generators (terms_of terms) → HaveResidues p terms
+  said_residues terms h = of_image (IsWrittenTerm p generators h.0) (λ term. term.coef < p) (λ term. (term.coef, tree_of term.tree)) (λ term said. said.residue) terms h.1
 
-  pub said_trees : (terms : List Term) → IsSaidSum p generators (terms_of terms) → All (λ term. Fits generators (tree_of term.tree)) terms
+  pub said_trees : (terms : List Term) → IsWrittenSum p generators (terms_of terms) → All (λ term. Fits generators (tree_of term.tree)) terms
   said_trees terms h =
-      of_image (IsSaidTerm p generators h.0) (λ term. Fits generators (tree_of term.tree)) (λ term. (term.coef, tree_of term.tree)) (λ term said. said.tree.labelled.fits) terms h.1
+      of_image (IsWrittenTerm p generators h.0) (λ term. Fits generators (tree_of term.tree)) (λ term. (term.coef, tree_of term.tree)) (λ term said. said.tree.labelled.fits) terms h.1
 
   pub inputs_fit : (inputs : List program.Tree) → All (IsDemanded generators (any_arity true)) (map tree_of inputs) → All (λ tree. Fits generators (tree_of tree)) inputs
   inputs_fit inputs h = of_image (IsDemanded generators (any_arity true)) (λ tree. Fits generators (tree_of tree)) tree_of (λ tree demanded. demanded.fits) inputs h
@@ -42,18 +42,18 @@ module _ (p : ℕ) (generators : List Generator) where
 
   -- ---- what a checker asks
 
-  sum_fits : (terms : List Term) → IsSaidSum p generators (terms_of terms) → FitsOver p generators terms
+  sum_fits : (terms : List Term) → IsWrittenSum p generators (terms_of terms) → FitsOver p generators terms
   sum_fits terms h = record { residues = said_residues terms h; trees = said_trees terms h }
 
-  step_ready : (step : Step) → IsWritableStep p generators (plain_step step) → IsReadyStep p generators step
+  step_ready : (step : Step) → IsWritableStep p generators (plain_step step) → IsCheckableStep p generators step
   step_ready step h = record {
     element = sum_fits step.element h.element;
     coefs = of_image (IsWritableUse p generators) (λ item. item.coef < p) plain_use (λ item writable. writable.coef) step.uses h.uses;
   }
 
-  pub block_ready : (block : Block) → length block.steps < 2 ^ 32 - 1 → IsWritable p generators (plain_block block) → IsReadyBlock p generators block
+  pub block_ready : (block : Block) → length block.steps < 2 ^ 32 - 1 → IsWritableBlock p generators (plain_block block) → IsReadyBlock p generators block
   block_ready block few h = record {
     want = sum_fits block.want h.want;
     few = few;
-    steps = of_image (IsWritableStep p generators) (IsReadyStep p generators) plain_step step_ready block.steps h.steps;
+    steps = of_image (IsWritableStep p generators) (IsCheckableStep p generators) plain_step step_ready block.steps h.steps;
   }

@@ -3,9 +3,9 @@ use Rattle.std.proofs.Common.{◌≡◌, ℕ, suc, ◌+◌, ◌*◌, ◌^◌, �
 use mathlib.Core.Path.{ap₂}
 use mathlib.Core.List.{◌++◌}
 use native.Mathlib.Decide.{dec_lt, ℕ_discrete}
-use Rattle.modular_sums.specs.Residues.{Alike}
+use Rattle.modular_sums.specs.Residues.{IsCongruent}
 use Rattle.modular_sums.specs.Lists.{Mem}
-use Rattle.modular_sums.specs.Sums.{hit, coef, scale, expand, Member, moved, AllTerms}
+use Rattle.modular_sums.specs.Sums.{hit, coef, scale, expand, IsLinearCombination, moved, AllTerms}
 use Rattle.modular_sums.proofs.Residues.{alike_drop, alike_mul}
 use Rattle.modular_sums.proofs.Sums.{Member-append, Member-scale, Member-same, coef-append, coef-scale}
 use Rattle.modular_sums.proofs.Images.{moved-append, moved-scale, Same-moved}
@@ -40,7 +40,7 @@ use Rattle.shuffle_transfer.proofs.Orderings.{entry_within}
 use Rattle.shuffle_transfer.proofs.FormGrafts.{form-graft, turns-graft}
 use Rattle.shuffle_transfer.proofs.FormContexts.{form_ctx}
 use Rattle.shuffle_transfer.proofs.Forms.{occurs-form, sum-form}
-use Rattle.shuffle_transfer.proofs.Back.{Back}
+use Rattle.shuffle_transfer.proofs.TreesOfShuffleTrees.{Back}
 use Rattle.shuffle_transfer.proofs.Signs.{twist}
 use Rattle.shuffle_transfer.proofs.Spelling.{labelled, back_of, spelled_is}
 use Rattle.shuffle_transfer.proofs.Turned.{turns_of, turned, sign_alike}
@@ -75,7 +75,7 @@ module _ (p : Presentation) (n : ℕ) where
   Returned s = Back (arity_of p) (label p.generators) (twist (parts p) (label p.generators)) (gen p.generators) (word p.generators) (labelled p.generators) s
 
   abbrev InSpan : List (ℕ × Tree ℕ) → Type 0
-  InSpan e = Member tree_discrete (hole_element p n) p.q e
+  InSpan e = IsLinearCombination tree_discrete (hole_element p n) p.q e
 
   single : (t : Tree ℕ) → Shuffles t → (i : ℕ) → occurs i t ≤ 1
   single t h i = go (dec_lt 0 (occurs i t))
@@ -289,7 +289,7 @@ module _ (p : Presentation) (n : ℕ) where
       (near_form x.1 h.0))
       (kernel e h.1))
     where
-      adds_up : (t : Tree ℕ) → Alike q (hit (tree_discrete x.1 t) x.0 + coef tree_discrete (e ++ ((q * (x.0 * q ^ turns_of p x.1), S (F x.1)) ∷ scale q (back_sum e))) t)
+      adds_up : (t : Tree ℕ) → IsCongruent q (hit (tree_discrete x.1 t) x.0 + coef tree_discrete (e ++ ((q * (x.0 * q ^ turns_of p x.1), S (F x.1)) ∷ scale q (back_sum e))) t)
           (hit (tree_discrete x.1 t) (x.0 * 1) + (hit (tree_discrete (S (F x.1)) t) (x.0 * (q * q ^ turns_of p x.1)) + coef tree_discrete (e ++ scale q (back_sum e)) t))
       adds_up t =
           let one : x.0 * 1 ≡ x.0 = omega arith in
@@ -300,11 +300,11 @@ module _ (p : Presentation) (n : ℕ) where
           let b : coef tree_discrete (e ++ scale q (back_sum e)) t ≡ coef tree_discrete e t + coef tree_discrete (scale q (back_sum e)) t = coef-append tree_discrete e (scale q (back_sum e)) t in
           rw (one, two, a, b) (sums (hit (tree_discrete x.1 t) x.0) (coef tree_discrete e t) (hit (tree_discrete (S (F x.1)) t) (q * (x.0 * q ^ turns_of p x.1))) (coef tree_discrete (scale q (back_sum e)) t))
         where
-          sums : (u v w z : ℕ) → Alike q (u + (v + (w + z))) (u + (w + (v + z)))
+          sums : (u v w z : ℕ) → IsCongruent q (u + (v + (w + z))) (u + (w + (v + z)))
           sums u v w z = let k : u + (v + (w + z)) ≡ u + (w + (v + z)) = omega arith in ap (λ m. m % suc q) k
 
   -- minus 1 twice
-  twice : (a b : ℕ) → Alike q b (a + q * (a + q * b))
+  twice : (a b : ℕ) → IsCongruent q b (a + q * (a + q * b))
   twice a b =
       let k : a + q * (a + q * b) + (b + q * b) ≡ b + (a + q * b + q * (a + q * b)) = omega arith in
       sym (alike_drop q b (a + q * b)) ∙ ap (λ m. m % suc q) (sym k) ∙ alike_drop q (a + q * (a + q * b)) b
@@ -349,7 +349,7 @@ module _ (p : Presentation) (n : ℕ) where
         (Member-scale tree_discrete (hole_element p n) q x.0 {e = moved S (slot_inserted p n x.1)} (lifts_one x.1)) (lifts_all l))
 
     -- an element whose shuffle form is a sum of insertions is a sum of instances
-    pub backward : (e : List (ℕ × Tree ℕ)) → AllTerms e (IsLabelled arity n) → Member tree_discrete (slot_inserted p n) q (turned p e) → InSpan e
+    pub backward : (e : List (ℕ × Tree ℕ)) → AllTerms e (IsLabelled arity n) → IsLinearCombination tree_discrete (slot_inserted p n) q (turned p e) → InSpan e
     backward e h k =
         let b : InSpan (back_sum e) = Member-same tree_discrete (hole_element p n) q {e = back_sum e} {f = moved S (expand (slot_inserted p n) k.uses)}
         (Same-moved tree_discrete tree_discrete q S (turned p e) (expand (slot_inserted p n) k.uses) k.adds_up) (lifts_all k.uses) in
@@ -358,5 +358,5 @@ module _ (p : Presentation) (n : ℕ) where
         (gone (coef tree_discrete e t) (coef tree_discrete (back_sum e) t)))
         (Member-append tree_discrete (hole_element p n) q {e = e ++ scale q (back_sum e)} {f = back_sum e} (kernel e h) b)
       where
-        gone : (a b : ℕ) → Alike q a (a + q * b + b)
+        gone : (a b : ℕ) → IsCongruent q a (a + q * b + b)
         gone a b = let k : a + q * b + b ≡ a + (b + q * b) = omega arith in rw k (sym (alike_drop q a b))

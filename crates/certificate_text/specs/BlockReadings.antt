@@ -9,14 +9,14 @@ use Rattle.presentation_text.specs.declared.kinds.DocKind.{DocKind}
 use Rattle.presentation_text.specs.declared.kinds.DocKind.TheVariants.{Directive, Block, Syntax}
 use Rattle.presentation_text.specs.declared.lexing.Token.{Token}
 use Rattle.presentation_text.specs.declared.lexing.Token.TheVariants.{Word}
-use Rattle.presentation_text.specs.DocumentForms.{LineFault}
-use Rattle.presentation_text.specs.ElementForms.{behind_one, element_in}
-use Rattle.presentation_text.specs.Elements.{said}
-use Rattle.presentation_text.specs.LineForms.{is, is_unknown, known}
+use Rattle.presentation_text.specs.DocumentReadings.{LineFault}
+use Rattle.presentation_text.specs.ElementReadings.{behind_one, element_in}
+use Rattle.presentation_text.specs.Elements.{written_sum}
+use Rattle.presentation_text.specs.LineReadings.{is, is_unknown, known}
 use Rattle.presentation_text.specs.Lines.{counts, lines}
 use Rattle.presentation_text.specs.Readings.{Fault, Reading, ◌>>=◌, first_row, misfit, mark_in, end_in, number_in, word_in}
 use Rattle.presentation_text.specs.Tokens.{tokens}
-use Rattle.presentation_text.specs.TreeForms.{begins_with, any_arity, demands_of, whole_tree_in}
+use Rattle.presentation_text.specs.TreeReadings.{begins_with, any_arity, demands_of, whole_tree_in}
 use Rattle.certificate_text.specs.Plain.{PlainUse, PlainStep, PlainBlock}
 use Rattle.certificate_text.specs.UseText.{signed_residue, cited_rule}
 
@@ -70,24 +70,24 @@ unfoldable pub sum_in : ℕ → List Generator → List Token → Result (List (
 sum_in p generators ts = do
   e ← element_in generators (demands_of 1 None) ts
   _ ← end_in e.1
-  Ok (said p e.0)
+  Ok (written_sum p e.0)
 
 -- ---- where a line stands
 
 -- between blocks; in a block behind its wanted element, or behind whole steps; or in a step of a block
-pub data Place : Type 0 where
-  between : Place
-  in_block : PlainBlock → Place
-  in_step : PlainBlock → PlainStep → Place
+pub data LinePlace : Type 0 where
+  between : LinePlace
+  in_block : PlainBlock → LinePlace
+  in_step : PlainBlock → PlainStep → LinePlace
 
 -- the word may follow there
-abbrev pub may_follow : Place → List ℕ → Bool
+abbrev pub may_follow : LinePlace → List ℕ → Bool
 may_follow between w = is w (codes "want")
 may_follow (in_block block) w = is w (codes "step") || is w (codes "end")
 may_follow (in_step block step) w = is w (codes "use") || is w (codes "step") || is w (codes "end")
 
 -- what stands against the word of a line of a tail
-unfoldable pub tail_word_fault : ℕ → Place → List ℕ → Option DocKind
+unfoldable pub tail_word_fault : ℕ → LinePlace → List ℕ → Option DocKind
 tail_word_fault version place w = first_row (
     (is_unknown version w, Directive) ∷
     (not (may_follow place w), Block) ∷ [])
@@ -96,7 +96,7 @@ tail_word_fault version place w = first_row (
 
 -- the place behind a line, and the whole blocks by then
 abbrev pub Follow : Type 0
-Follow = Place × List PlainBlock
+Follow = LinePlace × List PlainBlock
 
 abbrev pub with_step : PlainBlock → PlainStep → PlainBlock
 with_step block step = record { want = block.want; steps = block.steps ++ step ∷ [] }
@@ -128,7 +128,7 @@ step_line p generators block step blocks w ts =
       Ok (in_step block (with_use step item), blocks))
     else block_line p generators (with_step block step) blocks w ts
 
-abbrev pub rest_of_tail_line : ℕ → List Generator → Place → List PlainBlock → List ℕ → List Token → Result Follow Fault
+abbrev pub rest_of_tail_line : ℕ → List Generator → LinePlace → List PlainBlock → List ℕ → List Token → Result Follow Fault
 rest_of_tail_line p generators between blocks w ts = want_line p generators blocks ts
 rest_of_tail_line p generators (in_block block) blocks w ts = block_line p generators block blocks w ts
 rest_of_tail_line p generators (in_step block step) blocks w ts = step_line p generators block step blocks w ts
@@ -166,7 +166,7 @@ tail_line base now number (token ∷ rest) = begun_tail_line base now number tok
 -- ---- all lines
 
 -- at the end of the text no block may be open
-abbrev pub at_end : Place → List PlainBlock → ℕ → Result (List PlainBlock) LineFault
+abbrev pub at_end : LinePlace → List PlainBlock → ℕ → Result (List PlainBlock) LineFault
 at_end between blocks number = Ok blocks
 at_end (in_block block) blocks number = Err (number, Block)
 at_end (in_step block step) blocks number = Err (number, Block)

@@ -6,7 +6,7 @@ use Rattle.presentation_text.specs.declared.kinds.DocKind.TheVariants.{Header, D
 use Rattle.presentation_text.specs.declared.lexing.Token.{Token}
 use Rattle.presentation_text.specs.declared.lexing.Token.TheVariants.{Word, Number}
 use Rattle.presentation_text.specs.Lines.{counts, lines}
-use Rattle.presentation_text.specs.LineForms.{Told, told_by_header, is, section_of, word_fault, rest_of_line}
+use Rattle.presentation_text.specs.LineReadings.{Contents, contents_by_header, is, section_of, word_fault, rest_of_line}
 use Rattle.presentation_text.specs.Readings.{Fault}
 use Rattle.presentation_text.specs.Tokens.{tokens}
 
@@ -16,18 +16,18 @@ LineFault = ℕ × DocKind
 
 -- What the lines of a presentation say, and the number of the tail's first line, if there is a tail.
 pub record Whole : Type 0 where
-  pub told : Told
+  pub contents : Contents
   pub tail : Option ℕ
 
 -- ---- one line
 
 -- the presentation goes on, or the tail begins
 pub data Behind : Type 0 where
-  goes_on : Told → Behind
+  goes_on : Contents → Behind
   tail_begins : Behind
 
-abbrev pub refused_at : ℕ → Result Told Fault → Result Behind LineFault
-refused_at number (Ok told) = Ok (goes_on told)
+abbrev pub refused_at : ℕ → Result Contents Fault → Result Behind LineFault
+refused_at number (Ok contents) = Ok (goes_on contents)
 refused_at number (Err fault) = Err (number, fault.1)
 
 abbrev pub unless_word : ℕ → Option DocKind → Result Behind LineFault → Result Behind LineFault
@@ -35,40 +35,40 @@ unless_word number None behind = behind
 unless_word number (Some kind) behind = Err (number, kind)
 
 -- a line that begins with a word: what stands against the word comes first
-unfoldable pub word_line : Told → ℕ → List ℕ → List Token → Result Behind LineFault
-word_line told number w rest =
-    unless_word number (word_fault told w) (if section_of told.version w == 7 then Ok tail_begins else refused_at number (rest_of_line told number w rest))
+unfoldable pub word_line : Contents → ℕ → List ℕ → List Token → Result Behind LineFault
+word_line contents number w rest =
+    unless_word number (word_fault contents w) (if section_of contents.version w == 7 then Ok tail_begins else refused_at number (rest_of_line contents number w rest))
 
-abbrev pub begun_line : Told → ℕ → Token → List Token → Result Behind LineFault
-begun_line told number (Word w) rest = word_line told number w rest
-begun_line told number token rest = Err (number, Directive)
+abbrev pub begun_line : Contents → ℕ → Token → List Token → Result Behind LineFault
+begun_line contents number (Word w) rest = word_line contents number w rest
+begun_line contents number token rest = Err (number, Directive)
 
 -- a line that counts, by its number and its tokens
-abbrev pub counted_line : Told → ℕ → List Token → Result Behind LineFault
-counted_line told number [] = Err (number, Directive)
-counted_line told number (token ∷ rest) = begun_line told number token rest
+abbrev pub counted_line : Contents → ℕ → List Token → Result Behind LineFault
+counted_line contents number [] = Err (number, Directive)
+counted_line contents number (token ∷ rest) = begun_line contents number token rest
 
 -- ---- all lines
 
 -- at the end of the text a field and an order must stand
-abbrev pub at_end : Told → ℕ → Result Whole LineFault
-at_end told number = if is_some told.field && is_some told.order then Ok (record { told = told; tail = None }) else Err (number, Missing)
+abbrev pub at_end : Contents → ℕ → Result Whole LineFault
+at_end contents number = if is_some contents.field && is_some contents.order then Ok (record { contents = contents; tail = None }) else Err (number, Missing)
 
-abbrev pub on_from : ℕ → (Told → Result Whole LineFault) → Told → Behind → Result Whole LineFault
-on_from number on before (goes_on told) = on told
-on_from number on before tail_begins = Ok (record { told = before; tail = Some number })
+abbrev pub on_from : ℕ → (Contents → Result Whole LineFault) → Contents → Behind → Result Whole LineFault
+on_from number on before (goes_on contents) = on contents
+on_from number on before tail_begins = Ok (record { contents = before; tail = Some number })
 
 abbrev pub unless_refused : (Behind → Result Whole LineFault) → Result Behind LineFault → Result Whole LineFault
 unless_refused on (Ok behind) = on behind
 unless_refused on (Err fault) = Err fault
 
 -- the lines behind those that say this, whose numbers go from `number` on; lines that don't count are passed over
-unfoldable pub lines_from : Told → ℕ → List (List ℕ) → Result Whole LineFault
-lines_from told number [] = at_end told number
-lines_from told number (line ∷ others) =
+unfoldable pub lines_from : Contents → ℕ → List (List ℕ) → Result Whole LineFault
+lines_from contents number [] = at_end contents number
+lines_from contents number (line ∷ others) =
     if counts line
-    then unless_refused (on_from number (λ now. lines_from now (suc number) others) told) (counted_line told number (tokens line))
-    else lines_from told (suc number) others
+    then unless_refused (on_from number (λ now. lines_from now (suc number) others) contents) (counted_line contents number (tokens line))
+    else lines_from contents (suc number) others
 
 -- ---- the header
 
@@ -102,7 +102,7 @@ unfoldable pub document_from : ℕ → List (List ℕ) → Result Whole LineFaul
 document_from number [] = Err (number, Header)
 document_from number (line ∷ others) =
     if counts line
-    then behind_header number (λ version. lines_from (told_by_header version) (suc number) others) (version_of (tokens line))
+    then behind_header number (λ version. lines_from (contents_by_header version) (suc number) others) (version_of (tokens line))
     else document_from (suc number) others
 
 -- what a text says, or its first fault

@@ -2,9 +2,9 @@
 use Rattle.std.specs.Prelude.{◌≡◌, List, map, Result, Ok, Err}
 use Rattle.presentation_text.specs.declared.kinds.PartFail.{PartFail}
 use Rattle.presentation_text.specs.declared.lexing.Token.{Token}
-use Rattle.presentation_text.specs.DocumentForms.{LineFault}
+use Rattle.presentation_text.specs.DocumentReadings.{LineFault}
 use Rattle.presentation_text.specs.Readings.{Fault, StopsAs}
-use Rattle.certificate_text.specs.BlockForms as plain
+use Rattle.certificate_text.specs.BlockReadings as plain
 use Rattle.certificate_text.specs.Plain.{plain_block, plain_step}
 use Rattle.certificate_text.specs.declared.cert_fail.ReadCertFail.{ReadCertFail}
 use Rattle.certificate_text.specs.declared.cert_fail.ReadCertFail.TheVariants.{At, NoMemory}
@@ -13,7 +13,7 @@ use Rattle.certificate_text.specs.declared.places.Place.{Place}
 use Rattle.certificate_text.specs.declared.places.Place.TheVariants.{Between, InBlock, InStep}
 
 -- the place in plain blocks and steps
-abbrev pub place_of : Place → plain.Place
+abbrev pub place_of : Place → plain.LinePlace
 place_of Between = plain.between
 place_of (InBlock block) = plain.in_block (plain_block block)
 place_of (InStep block step) = plain.in_step (plain_block block) (plain_step step)
@@ -27,6 +27,6 @@ GivesFollow tokens reading (Ok next) = reading ≡ Ok (follow_of next)
 GivesFollow tokens reading (Err fail) = StopsAs tokens reading fail
 
 -- the function stops at the line, and for the reason, for which reading stops
-abbrev pub StopsAtLine : {X : Type 0} → Result X LineFault → ReadCertFail → Type 0
-StopsAtLine reading (At fail) = reading ≡ Err (fail.line, fail.kind)
-StopsAtLine reading NoMemory = Unit {0}
+abbrev pub StopsAtBlockLine : {X : Type 0} → Result X LineFault → ReadCertFail → Type 0
+StopsAtBlockLine reading (At fail) = reading ≡ Err (fail.line, fail.kind)
+StopsAtBlockLine reading NoMemory = Unit {0}

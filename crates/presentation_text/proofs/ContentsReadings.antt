@@ -11,13 +11,13 @@ use Rattle.symmetric_trees.specs.Generators.{IsTable}
 use Rattle.symmetric_trees.specs.declared.generators.Generator.{Generator}
 use Rattle.symmetric_trees.proofs.Tables.{table-push}
 use Rattle.presentation_text.specs.Accepted.{ElementsAreAccepted}
-use Rattle.presentation_text.specs.ElementForms.{arity_of_first, element_in}
-use Rattle.presentation_text.specs.Elements.{Written, said}
-use Rattle.presentation_text.specs.LineForms.{Asked, Told, field_line, gen_line, generator_in, inputs_in, is, is_prime, known, order_line, order_named, prime_of, query, query_in, query_line, rel_line, same, same_in, same_line, told_by_header, weighed, weight_line, is_weighed, with_ask, with_generator}
+use Rattle.presentation_text.specs.ElementReadings.{arity_of_first, element_in}
+use Rattle.presentation_text.specs.Elements.{Written, written_sum}
+use Rattle.presentation_text.specs.LineReadings.{Asked, Contents, field_line, gen_line, generator_in, inputs_in, is, is_prime, known, order_line, order_named, prime_of, query, query_in, query_line, rel_line, same, same_in, same_line, contents_by_header, weighed, weight_line, is_weighed, with_ask, with_generator}
 use Rattle.presentation_text.specs.Readings.{end_in, first_row, mark_in, number_in, refused, word_in}
 use Rattle.presentation_text.specs.Tokens.{IsWord}
-use Rattle.presentation_text.specs.TreeForms.{demands_of, index_of}
-use Rattle.presentation_text.specs.WellFormed.{AreAsks, AreRelations, IsAsked, IsGeneratorName, IsSaid, IsWellFormed}
+use Rattle.presentation_text.specs.TreeReadings.{demands_of, index_of}
+use Rattle.presentation_text.specs.WellFormed.{AreAsks, AreRelations, IsAsked, IsGeneratorName, IsWrittenAs, AreWellFormed}
 use Rattle.presentation_text.specs.declared.document.OrderName.{OrderName}
 use Rattle.presentation_text.specs.declared.document.OrderName.TheVariants.{Path, PathShort, LeafPath, WeightPath}
 use Rattle.presentation_text.specs.declared.kinds.DocKind.TheVariants as kind
@@ -32,16 +32,16 @@ use Rattle.presentation_text.proofs.DocumentFormsOnce.{same_value}
 -- ---- presentations so far
 
 -- a presentation so far is well formed, and its questions stand before a line
-pub record StandsBefore (number : ℕ) (told : Told) : Type 0 where
-  pub well : IsWellFormed told
-  pub below : All (λ (ask : ℕ × Asked). ask.0 < number) told.asks
+pub record StandsBefore (number : ℕ) (contents : Contents) : Type 0 where
+  pub well : AreWellFormed contents
+  pub below : All (λ (ask : ℕ × Asked). ask.0 < number) contents.asks
 
 -- each word among tokens is one
 abbrev pub HasWords : List Token → Type 0
 HasWords ts = (w : List ℕ) → Mem (Word w) ts → IsWord w
 
 no_relations : (p : ℕ) (generators : List Generator) (relations : List (List (ℕ × Tree ℕ))) → relations ≡ [] → AreRelations p generators relations
-no_relations p generators relations e = subst (AreRelations p generators) (sym e) (record { few = omega arith; said_so = All-nil (IsSaid p generators 2 None) })
+no_relations p generators relations e = subst (AreRelations p generators) (sym e) (record { few = omega arith; written_so = All-nil (IsWrittenAs p generators 2 None) })
 
 no_asks : (p : ℕ) (generators : List Generator) (asks : List (ℕ × Asked)) → asks ≡ [] → AreAsks p generators asks
 no_asks p generators asks e =
@@ -51,11 +51,11 @@ below_more : (number : ℕ) (asks : List (ℕ × Asked)) → All (λ (ask : ℕ 
 below_more number asks h k d l = let before = h k d l in omega arith
 
 -- a line that is passed over
-pub later : (number : ℕ) (told : Told) → StandsBefore number told → StandsBefore (suc number) told
-later number told h = record { well = h.well; below = subst (λ n. All (λ (ask : ℕ × Asked). ask.0 < n) told.asks) (add-one number) (below_more number told.asks h.below) }
+pub later : (number : ℕ) (contents : Contents) → StandsBefore number contents → StandsBefore (suc number) contents
+later number contents h = record { well = h.well; below = subst (λ n. All (λ (ask : ℕ × Asked). ask.0 < n) contents.asks) (add-one number) (below_more number contents.asks h.below) }
 
 -- what a header says
-pub header_stands : (number version : ℕ) → (version ≡ 1) ⊎ (version ≡ 2) → StandsBefore number (told_by_header version)
+pub header_stands : (number version : ℕ) → (version ≡ 1) ⊎ (version ≡ 2) → StandsBefore number (contents_by_header version)
 header_stands number version v = record {
   well = record {
     version_is = v;
@@ -88,18 +88,18 @@ prime_told p e =
     (λ x. inr (inr (inr (inr (inl (equal_told p 32003 x)))))))
     (λ x. inr (inr (inr (inr (inr (inl (equal_told p 65537 x)))))))
 
-field_read : (told now : Told) (ts : List Token) → field_line told ts ≡ Ok now → (p : ℕ) × (is_prime p ≡ true) × (now ≡ record told { field = Some p; section = 2 })
+field_read : (contents now : Contents) (ts : List Token) → field_line contents ts ≡ Ok now → (p : ℕ) × (is_prime p ≡ true) × (now ≡ record contents { field = Some p; section = 2 })
 unfolding field_line
-field_read told now ts e =
+field_read contents now ts e =
     let number = both_read (number_in ts) _ now e in
     let end = both_read (refused (suc (length (number.0).1)) (first_row ((not (is_prime (number.0).0), kind.FieldUnknown) ∷ [])) (end_in (number.0).1)) _ now number.2 in
     let out = not_refused (suc (length (number.0).1)) (not (is_prime (number.0).0)) kind.FieldUnknown (end_in (number.0).1) end.0 end.1 in
-    let whole : Told = record told { field = Some (number.0).0; section = 2 } in
+    let whole : Contents = record contents { field = Some (number.0).0; section = 2 } in
     ((number.0).0, not_false_told (is_prime (number.0).0) out.0, sym (one_value (Ok whole) whole now refl end.2))
 
-pub field_stands : (number : ℕ) (told now : Told) (ts : List Token) → StandsBefore number told → told.section ≤ 2 → field_line told ts ≡ Ok now → StandsBefore (number + 1) now
-field_stands number told now ts h l e =
-    let read = field_read told now ts e in
+pub field_stands : (number : ℕ) (contents now : Contents) (ts : List Token) → StandsBefore number contents → contents.section ≤ 2 → field_line contents ts ≡ Ok now → StandsBefore (number + 1) now
+field_stands number contents now ts h l e =
+    let read = field_read contents now ts e in
     let well = h.well in
     let sections = well.sections in
     subst (StandsBefore (number + 1)) (sym read.2) (record {
@@ -109,8 +109,8 @@ field_stands number told now ts h l e =
         order_is = well.order_is;
         generators = well.generators;
         weights = well.weights;
-        relations = no_relations read.0 told.generators told.relations (sections.no_relations (omega arith));
-        asks = no_asks read.0 told.generators told.asks (sections.no_asks (omega arith));
+        relations = no_relations read.0 contents.generators contents.relations (sections.no_relations (omega arith));
+        asks = no_asks read.0 contents.generators contents.asks (sections.no_asks (omega arith));
         sections = record {
           last = omega arith;
           no_field = λ k. absurd (omega arith);
@@ -120,7 +120,7 @@ field_stands number told now ts h l e =
           no_asks = λ k. sections.no_asks (omega arith);
         };
       };
-      below = below_more number told.asks h.below;
+      below = below_more number contents.asks h.below;
     })
 
 weighted_order : (a b c d : Bool) (version : ℕ) → cond a (Some Path) (cond b (Some PathShort) (cond c (Some LeafPath) (cond (version == 2 && d) (Some WeightPath) None))) ≡ Some WeightPath → version ≡ 2
@@ -133,19 +133,19 @@ weighted_order false false false d version e = two (version == 2) d version refl
     two true t v f g = equal_told v 2 f
     two false t v f g = absurd cc
 
-order_read : (told now : Told) (ts : List Token) → order_line told ts ≡ Ok now
-    → (order : OrderName) × (w : List ℕ) × (order_named told.version w ≡ Some order) × (now ≡ record told { order = Some order; section = 3 })
+order_read : (contents now : Contents) (ts : List Token) → order_line contents ts ≡ Ok now
+    → (order : OrderName) × (w : List ℕ) × (order_named contents.version w ≡ Some order) × (now ≡ record contents { order = Some order; section = 3 })
 unfolding order_line
-order_read told now ts e =
+order_read contents now ts e =
     let word = both_read (word_in ts) _ now e in
-    let order = both_read (known (suc (length (word.0).1)) kind.OrderUnknown (order_named told.version (word.0).0)) _ now word.2 in
+    let order = both_read (known (suc (length (word.0).1)) kind.OrderUnknown (order_named contents.version (word.0).0)) _ now word.2 in
     let end = both_read (end_in (word.0).1) _ now order.2 in
-    let whole : Told = record told { order = Some order.0; section = 3 } in
-    (order.0, (word.0).0, was_known (suc (length (word.0).1)) kind.OrderUnknown (order_named told.version (word.0).0) order.0 order.1, sym (one_value (Ok whole) whole now refl end.2))
+    let whole : Contents = record contents { order = Some order.0; section = 3 } in
+    (order.0, (word.0).0, was_known (suc (length (word.0).1)) kind.OrderUnknown (order_named contents.version (word.0).0) order.0 order.1, sym (one_value (Ok whole) whole now refl end.2))
 
-pub order_stands : (number : ℕ) (told now : Told) (ts : List Token) → StandsBefore number told → told.section ≤ 3 → order_line told ts ≡ Ok now → StandsBefore (number + 1) now
-order_stands number told now ts h l e =
-    let read = order_read told now ts e in
+pub order_stands : (number : ℕ) (contents now : Contents) (ts : List Token) → StandsBefore number contents → contents.section ≤ 3 → order_line contents ts ≡ Ok now → StandsBefore (number + 1) now
+order_stands number contents now ts h l e =
+    let read = order_read contents now ts e in
     let well = h.well in
     let sections = well.sections in
     let w = read.1 in
@@ -153,7 +153,7 @@ order_stands number told now ts h l e =
       well = record {
         version_is = well.version_is;
         field_is = well.field_is;
-        order_is = λ f. weighted_order (is w (codes "path")) (is w (codes "pathshort")) (is w (codes "leafpath")) (is w (codes "weightpath")) told.version (read.2 ∙ f);
+        order_is = λ f. weighted_order (is w (codes "path")) (is w (codes "pathshort")) (is w (codes "leafpath")) (is w (codes "weightpath")) contents.version (read.2 ∙ f);
         generators = well.generators;
         weights = well.weights;
         relations = well.relations;
@@ -167,27 +167,27 @@ order_stands number told now ts h l e =
           no_asks = λ k. sections.no_asks (omega arith);
         };
       };
-      below = below_more number told.asks h.below;
+      below = below_more number contents.asks h.below;
     })
 
 -- ---- generators and weights
 
-gen_read : (told now : Told) (ts : List Token) → gen_line told ts ≡ Ok now → (generator : Generator) × (generator_in told.version told.generators ts ≡ Ok generator) × (now ≡ with_generator told generator)
+gen_read : (contents now : Contents) (ts : List Token) → gen_line contents ts ≡ Ok now → (generator : Generator) × (generator_in contents.version contents.generators ts ≡ Ok generator) × (now ≡ with_generator contents generator)
 unfolding gen_line
-gen_read told now ts e =
-    let generator = both_read (generator_in told.version told.generators ts) _ now e in
-    let whole : Told = with_generator told generator.0 in
+gen_read contents now ts e =
+    let generator = both_read (generator_in contents.version contents.generators ts) _ now e in
+    let whole : Contents = with_generator contents generator.0 in
     (generator.0, generator.1, sym (one_value (Ok whole) whole now refl generator.2))
 
-pub gen_stands : (number : ℕ) (told now : Told) (ts : List Token) → HasWords ts → StandsBefore number told → told.section ≤ 4 → gen_line told ts ≡ Ok now → StandsBefore (number + 1) now
-gen_stands number told now ts words h l e =
-    let read = gen_read told now ts e in
+pub gen_stands : (number : ℕ) (contents now : Contents) (ts : List Token) → HasWords ts → StandsBefore number contents → contents.section ≤ 4 → gen_line contents ts ≡ Ok now → StandsBefore (number + 1) now
+gen_stands number contents now ts words h l e =
+    let read = gen_read contents now ts e in
     let well = h.well in
     let sections = well.sections in
     let generator = read.0 in
-    let made = generator_read told.version told.generators ts generator read.1 in
-    let p = prime_of told.field in
-    let gens = told.generators ++ generator ∷ [] in
+    let made = generator_read contents.version contents.generators ts generator read.1 in
+    let p = prime_of contents.field in
+    let gens = contents.generators ++ generator ∷ [] in
     let first : Mem (Word generator.name) ts = subst (Mem (Word generator.name)) (sym made.named.tokens_are) (inl refl) in
     subst (StandsBefore (number + 1)) (sym read.2) (record {
       well = record {
@@ -195,19 +195,19 @@ gen_stands number told now ts words h l e =
         field_is = well.field_is;
         order_is = well.order_is;
         generators = record {
-          table = table-push told.generators generator well.generators.table (generator_welcome told.version told.generators ts generator read.1);
-          names = All-push (λ (g : Generator). IsGeneratorName g.name) told.generators generator well.generators.names (record { word = words generator.name first; short = made.named.short });
+          table = table-push contents.generators generator well.generators.table (generator_welcome contents.version contents.generators ts generator read.1);
+          names = All-push (λ (g : Generator). IsGeneratorName g.name) contents.generators generator well.generators.names (record { word = words generator.name first; short = made.named.short });
           one_part = λ one.
               let parts = subst (λ version. inputs_in version generator.arity made.rest ≡ Ok generator.parts) one made.parts in
-              All-push (λ (g : Generator). length g.parts ≡ 1) told.generators generator (well.generators.one_part one) (ap length (symmetry_read generator.arity made.rest generator.parts parts).1);
+              All-push (λ (g : Generator). length g.parts ≡ 1) contents.generators generator (well.generators.one_part one) (ap length (symmetry_read generator.arity made.rest generator.parts parts).1);
         };
         weights = record {
-          places = omega (arith, well.weights.places, length-append told.weights (None ∷ []), length-append told.generators (generator ∷ []));
-          small = All-push (λ (w : Option ℕ). (n : ℕ) → w ≡ Some n → n ≤ 1000000) told.weights None well.weights.small (λ n f. absurd cc);
-          unweighed = λ one. All-push (λ (w : Option ℕ). w ≡ None) told.weights None (well.weights.unweighed one) refl;
+          places = omega (arith, well.weights.places, length-append contents.weights (None ∷ []), length-append contents.generators (generator ∷ []));
+          small = All-push (λ (w : Option ℕ). (n : ℕ) → w ≡ Some n → n ≤ 1000000) contents.weights None well.weights.small (λ n f. absurd cc);
+          unweighed = λ one. All-push (λ (w : Option ℕ). w ≡ None) contents.weights None (well.weights.unweighed one) refl;
         };
-        relations = no_relations p gens told.relations (sections.no_relations (omega arith));
-        asks = no_asks p gens told.asks (sections.no_asks (omega arith));
+        relations = no_relations p gens contents.relations (sections.no_relations (omega arith));
+        asks = no_asks p gens contents.asks (sections.no_asks (omega arith));
         sections = record {
           last = omega arith;
           no_field = λ k. absurd (omega arith);
@@ -217,23 +217,23 @@ gen_stands number told now ts words h l e =
           no_asks = λ k. sections.no_asks (omega arith);
         };
       };
-      below = below_more number told.asks h.below;
+      below = below_more number contents.asks h.below;
     })
 
-weight_read : (told now : Told) (ts : List Token) → weight_line told ts ≡ Ok now → (g : ℕ) × (n : ℕ) × (n ≤ 1000000) × (now ≡ record told { weights = weighed g n told.weights; section = 4 })
+weight_read : (contents now : Contents) (ts : List Token) → weight_line contents ts ≡ Ok now → (g : ℕ) × (n : ℕ) × (n ≤ 1000000) × (now ≡ record contents { weights = weighed g n contents.weights; section = 4 })
 unfolding weight_line
-weight_read told now ts e =
+weight_read contents now ts e =
     let word = both_read (word_in ts) _ now e in
-    let g = both_read (known (suc (length (word.0).1)) kind.NameUnknown (index_of (word.0).0 told.generators)) _ now word.2 in
-    let n = both_read (refused (suc (length (word.0).1)) (first_row ((is_weighed g.0 told.weights, kind.WeightTaken) ∷ [])) (number_in (word.0).1)) _ now g.2 in
+    let g = both_read (known (suc (length (word.0).1)) kind.NameUnknown (index_of (word.0).0 contents.generators)) _ now word.2 in
+    let n = both_read (refused (suc (length (word.0).1)) (first_row ((is_weighed g.0 contents.weights, kind.WeightTaken) ∷ [])) (number_in (word.0).1)) _ now g.2 in
     let end = both_read (refused (suc (length (n.0).1)) (first_row ((nat_lt 1000000 (n.0).0, kind.WeightOut) ∷ [])) (end_in (n.0).1)) _ now n.2 in
     let out = not_refused (suc (length (n.0).1)) (nat_lt 1000000 (n.0).0) kind.WeightOut (end_in (n.0).1) end.0 end.1 in
-    let whole : Told = record told { weights = weighed g.0 (n.0).0 told.weights; section = 4 } in
+    let whole : Contents = record contents { weights = weighed g.0 (n.0).0 contents.weights; section = 4 } in
     (g.0, (n.0).0, not_below_told 1000000 (n.0).0 out.0, sym (one_value (Ok whole) whole now refl end.2))
 
-pub weight_stands : (number : ℕ) (told now : Told) (ts : List Token) → (told.version ≡ 1 → ⊥) → StandsBefore number told → told.section ≤ 4 → weight_line told ts ≡ Ok now → StandsBefore (number + 1) now
-weight_stands number told now ts two h l e =
-    let read = weight_read told now ts e in
+pub weight_stands : (number : ℕ) (contents now : Contents) (ts : List Token) → (contents.version ≡ 1 → ⊥) → StandsBefore number contents → contents.section ≤ 4 → weight_line contents ts ≡ Ok now → StandsBefore (number + 1) now
+weight_stands number contents now ts two h l e =
+    let read = weight_read contents now ts e in
     let well = h.well in
     let sections = well.sections in
     let g = read.0 in
@@ -246,8 +246,8 @@ weight_stands number told now ts two h l e =
         order_is = well.order_is;
         generators = well.generators;
         weights = record {
-          places = ap length (weighed_set g n told.weights) ∙ length-set told.weights g (Some n) ∙ well.weights.places;
-          small = subst (All Small) (sym (weighed_set g n told.weights)) (All-set Small told.weights g (Some n) (λ m f. subst (λ k. k ≤ 1000000) (same_value (Some n) n m refl f) read.2) well.weights.small);
+          places = ap length (weighed_set g n contents.weights) ∙ length-set contents.weights g (Some n) ∙ well.weights.places;
+          small = subst (All Small) (sym (weighed_set g n contents.weights)) (All-set Small contents.weights g (Some n) (λ m f. subst (λ k. k ≤ 1000000) (same_value (Some n) n m refl f) read.2) well.weights.small);
           unweighed = λ one. absurd (two one);
         };
         relations = well.relations;
@@ -261,30 +261,30 @@ weight_stands number told now ts two h l e =
           no_asks = λ k. sections.no_asks (omega arith);
         };
       };
-      below = below_more number told.asks h.below;
+      below = below_more number contents.asks h.below;
     })
 
 -- ---- relations and questions
 
-rel_read : (told now : Told) (ts : List Token) → rel_line told ts ≡ Ok now
-    → (e : List Written × List Token) × (length told.relations < 1000) × (element_in told.generators (demands_of 2 None) ts ≡ Ok e)
-    × (now ≡ record told { relations = told.relations ++ said (prime_of told.field) e.0 ∷ []; section = 5 })
+rel_read : (contents now : Contents) (ts : List Token) → rel_line contents ts ≡ Ok now
+    → (e : List Written × List Token) × (length contents.relations < 1000) × (element_in contents.generators (demands_of 2 None) ts ≡ Ok e)
+    × (now ≡ record contents { relations = contents.relations ++ written_sum (prime_of contents.field) e.0 ∷ []; section = 5 })
 unfolding rel_line
-rel_read told now ts e =
-    let out = not_refused (suc (length ts)) (nat_le 1000 (length told.relations)) kind.TooManyRelations _ now e in
-    let element = both_read (element_in told.generators (demands_of 2 None) ts) _ now out.1 in
+rel_read contents now ts e =
+    let out = not_refused (suc (length ts)) (nat_le 1000 (length contents.relations)) kind.TooManyRelations _ now e in
+    let element = both_read (element_in contents.generators (demands_of 2 None) ts) _ now out.1 in
     let end = both_read (end_in (element.0).1) _ now element.2 in
-    let whole : Told = record told { relations = told.relations ++ said (prime_of told.field) (element.0).0 ∷ []; section = 5 } in
-    (element.0, not_at_most_told 1000 (length told.relations) out.0, element.1, sym (one_value (Ok whole) whole now refl end.2))
+    let whole : Contents = record contents { relations = contents.relations ++ written_sum (prime_of contents.field) (element.0).0 ∷ []; section = 5 } in
+    (element.0, not_at_most_told 1000 (length contents.relations) out.0, element.1, sym (one_value (Ok whole) whole now refl end.2))
 
-pub rel_stands : ElementsAreAccepted → (number : ℕ) (told now : Told) (ts : List Token) → StandsBefore number told → told.section ≤ 5 → rel_line told ts ≡ Ok now → StandsBefore (number + 1) now
-rel_stands accepted number told now ts h l e =
-    let read = rel_read told now ts e in
+pub rel_stands : ElementsAreAccepted → (number : ℕ) (contents now : Contents) (ts : List Token) → StandsBefore number contents → contents.section ≤ 5 → rel_line contents ts ≡ Ok now → StandsBefore (number + 1) now
+rel_stands accepted number contents now ts h l e =
+    let read = rel_read contents now ts e in
     let well = h.well in
     let sections = well.sections in
-    let p = prime_of told.field in
+    let p = prime_of contents.field in
     let terms = (read.0).0 in
-    let demanded = ((accepted told.generators well.generators.table 2 None ts (read.0).1 terms).0 read.2).1 in
+    let demanded = ((accepted contents.generators well.generators.table 2 None ts (read.0).1 terms).0 read.2).1 in
     subst (StandsBefore (number + 1)) (sym read.3) (record {
       well = record {
         version_is = well.version_is;
@@ -293,9 +293,9 @@ rel_stands accepted number told now ts h l e =
         generators = well.generators;
         weights = well.weights;
         relations = record {
-          few = omega (arith, read.1, length-append told.relations (said p terms ∷ []));
-          said_so =
-              All-push (IsSaid p told.generators 2 None) told.relations (said p terms) well.relations.said_so
+          few = omega (arith, read.1, length-append contents.relations (written_sum p terms ∷ []));
+          written_so =
+              All-push (IsWrittenAs p contents.generators 2 None) contents.relations (written_sum p terms) well.relations.written_so
               (record { terms = terms; sum_is = refl; demanded = demanded });
         };
         asks = well.asks;
@@ -308,14 +308,14 @@ rel_stands accepted number told now ts h l e =
           no_asks = λ k. sections.no_asks (omega arith);
         };
       };
-      below = below_more number told.asks h.below;
+      below = below_more number contents.asks h.below;
     })
 
-ask_stands : (number : ℕ) (told : Told) (ask : Asked) → IsAsked (prime_of told.field) told.generators ask → StandsBefore number told → StandsBefore (number + 1) (with_ask told number ask)
-ask_stands number told ask asked h =
+ask_stands : (number : ℕ) (contents : Contents) (ask : Asked) → IsAsked (prime_of contents.field) contents.generators ask → StandsBefore number contents → StandsBefore (number + 1) (with_ask contents number ask)
+ask_stands number contents ask asked h =
     let well = h.well in
     let sections = well.sections in
-    let p = prime_of told.field in
+    let p = prime_of contents.field in
     record {
       well = record {
         version_is = well.version_is;
@@ -325,8 +325,8 @@ ask_stands number told ask asked h =
         weights = well.weights;
         relations = well.relations;
         asks = record {
-          asked_so = All-push (λ (a : ℕ × Asked). IsAsked p told.generators a.1) told.asks (number, ask) well.asks.asked_so asked;
-          rising = all_pairs_push (λ (one other : ℕ × Asked). one.0 < other.0) told.asks (number, ask) well.asks.rising h.below;
+          asked_so = All-push (λ (a : ℕ × Asked). IsAsked p contents.generators a.1) contents.asks (number, ask) well.asks.asked_so asked;
+          rising = all_pairs_push (λ (one other : ℕ × Asked). one.0 < other.0) contents.asks (number, ask) well.asks.rising h.below;
         };
         sections = record {
           last = omega arith;
@@ -337,7 +337,7 @@ ask_stands number told ask asked h =
           no_asks = λ k. absurd (omega arith);
         };
       };
-      below = All-push (λ (a : ℕ × Asked). a.0 < number + 1) told.asks (number, ask) (below_more number told.asks h.below) (omega arith);
+      below = All-push (λ (a : ℕ × Asked). a.0 < number + 1) contents.asks (number, ask) (below_more number contents.asks h.below) (omega arith);
     }
 
 query_told : ElementsAreAccepted → (p : ℕ) (generators : List Generator) (table : IsTable generators) (ts : List Token) (ask : Asked) → query_in p generators ts ≡ Ok ask → IsAsked p generators ask
@@ -346,7 +346,7 @@ query_told accepted p generators table ts ask e =
     let element = both_read (element_in generators (demands_of 1 None) ts) _ ask e in
     let end = both_read (end_in (element.0).1) _ ask element.2 in
     let terms = (element.0).0 in
-    subst (IsAsked p generators) (one_value (Ok (query (said p terms))) (query (said p terms)) ask refl end.2)
+    subst (IsAsked p generators) (one_value (Ok (query (written_sum p terms))) (query (written_sum p terms)) ask refl end.2)
     (record { terms = terms; sum_is = refl; demanded = ((accepted generators table 1 None ts (element.0).1 terms).0 element.1).1 })
 
 same_told : ElementsAreAccepted → (p : ℕ) (generators : List Generator) (table : IsTable generators) (ts : List Token) (ask : Asked) → same_in p generators ts ≡ Ok ask → IsAsked p generators ask
@@ -358,23 +358,23 @@ same_told accepted p generators table ts ask e =
     let end = both_read (end_in (right.0).1) _ ask right.2 in
     let terms = (left.0).0 in
     let others = (right.0).0 in
-    subst (IsAsked p generators) (one_value (Ok (same (said p terms) (said p others))) (same (said p terms) (said p others)) ask refl end.2) (record {
+    subst (IsAsked p generators) (one_value (Ok (same (written_sum p terms) (written_sum p others))) (same (written_sum p terms) (written_sum p others)) ask refl end.2) (record {
       first = record { terms = terms; sum_is = refl; demanded = ((accepted generators table 1 None ts (left.0).1 terms).0 left.1).1 };
       second = record { terms = others; sum_is = refl; demanded = ((accepted generators table 1 (arity_of_first terms) rest.0 (right.0).1 others).0 right.1).1 };
     })
 
-pub query_stands : ElementsAreAccepted → (number : ℕ) (told now : Told) (ts : List Token) → StandsBefore number told → query_line told number ts ≡ Ok now → StandsBefore (number + 1) now
+pub query_stands : ElementsAreAccepted → (number : ℕ) (contents now : Contents) (ts : List Token) → StandsBefore number contents → query_line contents number ts ≡ Ok now → StandsBefore (number + 1) now
 unfolding query_line
-query_stands accepted number told now ts h e =
-    let ask = both_read (query_in (prime_of told.field) told.generators ts) _ now e in
-    let whole : Told = with_ask told number ask.0 in
+query_stands accepted number contents now ts h e =
+    let ask = both_read (query_in (prime_of contents.field) contents.generators ts) _ now e in
+    let whole : Contents = with_ask contents number ask.0 in
     subst (StandsBefore (number + 1)) (one_value (Ok whole) whole now refl ask.2)
-    (ask_stands number told ask.0 (query_told accepted (prime_of told.field) told.generators h.well.generators.table ts ask.0 ask.1) h)
+    (ask_stands number contents ask.0 (query_told accepted (prime_of contents.field) contents.generators h.well.generators.table ts ask.0 ask.1) h)
 
-pub same_stands : ElementsAreAccepted → (number : ℕ) (told now : Told) (ts : List Token) → StandsBefore number told → same_line told number ts ≡ Ok now → StandsBefore (number + 1) now
+pub same_stands : ElementsAreAccepted → (number : ℕ) (contents now : Contents) (ts : List Token) → StandsBefore number contents → same_line contents number ts ≡ Ok now → StandsBefore (number + 1) now
 unfolding same_line
-same_stands accepted number told now ts h e =
-    let ask = both_read (same_in (prime_of told.field) told.generators ts) _ now e in
-    let whole : Told = with_ask told number ask.0 in
+same_stands accepted number contents now ts h e =
+    let ask = both_read (same_in (prime_of contents.field) contents.generators ts) _ now e in
+    let whole : Contents = with_ask contents number ask.0 in
     subst (StandsBefore (number + 1)) (one_value (Ok whole) whole now refl ask.2)
-    (ask_stands number told ask.0 (same_told accepted (prime_of told.field) told.generators h.well.generators.table ts ask.0 ask.1) h)
+    (ask_stands number contents ask.0 (same_told accepted (prime_of contents.field) contents.generators h.well.generators.table ts ask.0 ask.1) h)

@@ -10,7 +10,7 @@ use Rattle.presentation_text.specs.declared.document.AskKind.TheVariants.{Query,
 use Rattle.presentation_text.specs.declared.draft.Draft.{Draft}
 use Rattle.presentation_text.specs.declared.kinds.PartFail.{PartFail}
 use Rattle.presentation_text.specs.declared.lexing.Token.{Token}
-use Rattle.presentation_text.specs.LineForms.{Told, Asked, query, same, prime_of}
+use Rattle.presentation_text.specs.LineReadings.{Contents, Asked, query, same, prime_of}
 use Rattle.presentation_text.specs.Readings.{Fault, StopsAs}
 
 -- what is asked
@@ -23,8 +23,8 @@ abbrev pub asked : Ask → ℕ × Asked
 asked ask = (ask.line, asked_kind ask.kind)
 
 -- what the lines behind a draft say
-abbrev pub told_of : Draft → Told
-told_of draft = record {
+abbrev pub contents_of : Draft → Contents
+contents_of draft = record {
   version = draft.version;
   field = draft.field;
   order = draft.order;
@@ -42,7 +42,7 @@ AskFits p generators (Same left right) = FitsOver p generators left × FitsOver 
 
 -- A draft holds together: its generators are a table, its sums fit its field and the table, it has none before it has a field,
 -- and it has one place for a weight for each generator.
-pub record IsSound (draft : Draft) : Type 0 where
+pub record IsSoundDraft (draft : Draft) : Type 0 where
   pub table : IsTable draft.gens
   pub no_sums : draft.field ≡ None → (draft.rels ≡ []) × (draft.asks ≡ [])
   pub relations : All (FitsOver (prime_of draft.field) draft.gens) draft.rels
@@ -50,8 +50,8 @@ pub record IsSound (draft : Draft) : Type 0 where
   pub weights : length draft.weights ≡ length draft.gens
 
 -- The draft that a function gave says what the line adds, or the function stops as reading the line does.
-abbrev pub GivesDraft : List Token → Result Told Fault → Result Draft PartFail → Type 0
-GivesDraft tokens reading (Ok draft) = (reading ≡ Ok (told_of draft)) × IsSound draft
+abbrev pub GivesDraft : List Token → Result Contents Fault → Result Draft PartFail → Type 0
+GivesDraft tokens reading (Ok draft) = (reading ≡ Ok (contents_of draft)) × IsSoundDraft draft
 GivesDraft tokens reading (Err fail) = StopsAs tokens reading fail
 
 -- the question that a function gave is as reading gives it, and its sums fit; or the function stops as reading does

@@ -12,10 +12,10 @@ use Rattle.presentation_text.specs.declared.document.OrderName.TheVariants.{Path
 use Rattle.presentation_text.specs.declared.kinds.DocKind.{DocKind}
 use Rattle.presentation_text.specs.declared.kinds.DocKind.TheVariants.{Directive, Missing, FieldUnknown, OrderUnknown, NameBad, NameTaken, ArityOut, PartsOut, TooManyGens, Syntax, NameUnknown, TooManyRelations, Block, WeightTaken, WeightOut}
 use Rattle.presentation_text.specs.declared.lexing.Token.{Token}
-use Rattle.presentation_text.specs.Elements.{said}
-use Rattle.presentation_text.specs.ElementForms.{element_in, arity_of_first}
+use Rattle.presentation_text.specs.Elements.{written_sum}
+use Rattle.presentation_text.specs.ElementReadings.{element_in, arity_of_first}
 use Rattle.presentation_text.specs.Readings.{Fault, Reading, ◌>>=◌, first_row, refused, misfit, mark_in, end_in, number_in, word_in}
-use Rattle.presentation_text.specs.TreeForms.{index_of, demands_of}
+use Rattle.presentation_text.specs.TreeReadings.{index_of, demands_of}
 
 -- ---- what the lines so far say
 
@@ -26,7 +26,7 @@ pub data Asked : Type 0 where
 
 -- What the lines of a presentation say: the version, the field and the order if they stand already, the generators, the weight of
 -- each that has one, the relations, the questions with the numbers of their lines, and the section of the last line.
-pub record Told : Type 0 where
+pub record Contents : Type 0 where
   pub version : ℕ
   pub field : Option ℕ
   pub order : Option OrderName
@@ -37,8 +37,8 @@ pub record Told : Type 0 where
   pub section : ℕ
 
 -- what the header says
-abbrev pub told_by_header : ℕ → Told
-told_by_header version = record { version = version; field = None; order = None; generators = []; weights = []; relations = []; asks = []; section = 1 }
+abbrev pub contents_by_header : ℕ → Contents
+contents_by_header version = record { version = version; field = None; order = None; generators = []; weights = []; relations = []; asks = []; section = 1 }
 
 -- ---- the word of a line
 
@@ -62,23 +62,23 @@ abbrev pub is_unknown : ℕ → List ℕ → Bool
 is_unknown version w = (section_of version w == 0) && not (is_inside_tail w)
 
 -- no field stands yet, and the word isn't `field`; or one stands and no order, and the word is neither
-abbrev pub is_missing : Told → List ℕ → Bool
-is_missing told w =
-    (not (is_some told.field) && not (is w (codes "field")))
-    || (is_some told.field && not (is_some told.order) && not (is w (codes "order")) && not (is w (codes "field")))
+abbrev pub is_missing : Contents → List ℕ → Bool
+is_missing contents w =
+    (not (is_some contents.field) && not (is w (codes "field")))
+    || (is_some contents.field && not (is_some contents.order) && not (is w (codes "order")) && not (is w (codes "field")))
 
 -- the word's section is before that of the last line, or it is `field` or `order` a second time
-abbrev pub is_out_of_order : Told → List ℕ → Bool
-is_out_of_order told w =
-    (nat_lt 0 (section_of told.version w) && nat_lt (section_of told.version w) told.section)
-    || (is w (codes "field") && is_some told.field) || (is w (codes "order") && is_some told.order)
+abbrev pub is_out_of_order : Contents → List ℕ → Bool
+is_out_of_order contents w =
+    (nat_lt 0 (section_of contents.version w) && nat_lt (section_of contents.version w) contents.section)
+    || (is w (codes "field") && is_some contents.field) || (is w (codes "order") && is_some contents.order)
 
 -- what stands against the word of a line
-unfoldable pub word_fault : Told → List ℕ → Option DocKind
-word_fault told w = first_row (
-    (is_unknown told.version w, Directive) ∷
-    (is_missing told w, Missing) ∷
-    (is_out_of_order told w, Directive) ∷
+unfoldable pub word_fault : Contents → List ℕ → Option DocKind
+word_fault contents w = first_row (
+    (is_unknown contents.version w, Directive) ∷
+    (is_missing contents w, Missing) ∷
+    (is_out_of_order contents w, Directive) ∷
     (is_inside_tail w, Block) ∷ [])
 
 -- ---- the field and the order
@@ -96,19 +96,19 @@ order_named version w =
     else (if version == 2 && is w (codes "weightpath") then Some WeightPath else None)))
 
 -- `field P`
-unfoldable pub field_line : Told → List Token → Result Told Fault
-field_line told ts = do
+unfoldable pub field_line : Contents → List Token → Result Contents Fault
+field_line contents ts = do
   p ← number_in ts
   _ ← refused (suc (length p.1)) (first_row ((not (is_prime p.0), FieldUnknown) ∷ [])) (end_in p.1)
-  Ok (record told { field = Some p.0; section = 2 })
+  Ok (record contents { field = Some p.0; section = 2 })
 
 -- `order NAME`
-unfoldable pub order_line : Told → List Token → Result Told Fault
-order_line told ts = do
+unfoldable pub order_line : Contents → List Token → Result Contents Fault
+order_line contents ts = do
   w ← word_in ts
-  order ← known (suc (length w.1)) OrderUnknown (order_named told.version w.0)
+  order ← known (suc (length w.1)) OrderUnknown (order_named contents.version w.0)
   _ ← end_in w.1
-  Ok (record told { order = Some order; section = 3 })
+  Ok (record contents { order = Some order; section = 3 })
 
 -- ---- generators and weights
 
@@ -179,14 +179,14 @@ generator_in version generators ts = do
   Ok (record { name = (named.0).0; arity = (named.0).1; parts = parts })
 
 -- a generator without a weight joins the others
-abbrev pub with_generator : Told → Generator → Told
-with_generator told generator = record told { generators = told.generators ++ generator ∷ []; weights = told.weights ++ None ∷ []; section = 4 }
+abbrev pub with_generator : Contents → Generator → Contents
+with_generator contents generator = record contents { generators = contents.generators ++ generator ∷ []; weights = contents.weights ++ None ∷ []; section = 4 }
 
 -- `gen GENERATOR`
-unfoldable pub gen_line : Told → List Token → Result Told Fault
-gen_line told ts = do
-  generator ← generator_in told.version told.generators ts
-  Ok (with_generator told generator)
+unfoldable pub gen_line : Contents → List Token → Result Contents Fault
+gen_line contents ts = do
+  generator ← generator_in contents.version contents.generators ts
+  Ok (with_generator contents generator)
 
 -- whether generator g has a weight already
 abbrev pub is_weighed : ℕ → List (Option ℕ) → Bool
@@ -201,13 +201,13 @@ weighed zero weight (w ∷ ws) = Some weight ∷ ws
 weighed (suc g) weight (w ∷ ws) = w ∷ weighed g weight ws
 
 -- `weight NAME W`
-unfoldable pub weight_line : Told → List Token → Result Told Fault
-weight_line told ts = do
+unfoldable pub weight_line : Contents → List Token → Result Contents Fault
+weight_line contents ts = do
   w ← word_in ts
-  g ← known (suc (length w.1)) NameUnknown (index_of w.0 told.generators)
-  n ← refused (suc (length w.1)) (first_row ((is_weighed g told.weights, WeightTaken) ∷ [])) (number_in w.1)
+  g ← known (suc (length w.1)) NameUnknown (index_of w.0 contents.generators)
+  n ← refused (suc (length w.1)) (first_row ((is_weighed g contents.weights, WeightTaken) ∷ [])) (number_in w.1)
   _ ← refused (suc (length n.1)) (first_row ((nat_lt 1000000 n.0, WeightOut) ∷ [])) (end_in n.1)
-  Ok (record told { weights = weighed g n.0 told.weights; section = 4 })
+  Ok (record contents { weights = weighed g n.0 contents.weights; section = 4 })
 
 -- ---- relations and questions
 
@@ -216,18 +216,18 @@ prime_of None = 3
 prime_of (Some p) = p
 
 -- `rel ELEMENT`
-unfoldable pub rel_line : Told → List Token → Result Told Fault
-rel_line told ts = refused (suc (length ts)) (first_row ((nat_le 1000 (length told.relations), TooManyRelations) ∷ [])) (do
-  e ← element_in told.generators (demands_of 2 None) ts
+unfoldable pub rel_line : Contents → List Token → Result Contents Fault
+rel_line contents ts = refused (suc (length ts)) (first_row ((nat_le 1000 (length contents.relations), TooManyRelations) ∷ [])) (do
+  e ← element_in contents.generators (demands_of 2 None) ts
   _ ← end_in e.1
-  Ok (record told { relations = told.relations ++ said (prime_of told.field) e.0 ∷ []; section = 5 }))
+  Ok (record contents { relations = contents.relations ++ written_sum (prime_of contents.field) e.0 ∷ []; section = 5 }))
 
 -- one element to the end of the line
 unfoldable pub query_in : ℕ → List Generator → List Token → Result Asked Fault
 query_in p generators ts = do
   e ← element_in generators (demands_of 1 None) ts
   _ ← end_in e.1
-  Ok (query (said p e.0))
+  Ok (query (written_sum p e.0))
 
 -- two elements with '=' between them, of one arity, to the end of the line
 unfoldable pub same_in : ℕ → List Generator → List Token → Result Asked Fault
@@ -236,29 +236,29 @@ same_in p generators ts = do
   rest ← mark_in 61 e.1
   f ← element_in generators (demands_of 1 (arity_of_first e.0)) rest
   _ ← end_in f.1
-  Ok (same (said p e.0) (said p f.0))
+  Ok (same (written_sum p e.0) (written_sum p f.0))
 
 -- a question joins the others
-abbrev pub with_ask : Told → ℕ → Asked → Told
-with_ask told number ask = record told { asks = told.asks ++ (number, ask) ∷ []; section = 6 }
+abbrev pub with_ask : Contents → ℕ → Asked → Contents
+with_ask contents number ask = record contents { asks = contents.asks ++ (number, ask) ∷ []; section = 6 }
 
 -- `query ELEMENT`
-unfoldable pub query_line : Told → ℕ → List Token → Result Told Fault
-query_line told number ts = do
-  ask ← query_in (prime_of told.field) told.generators ts
-  Ok (with_ask told number ask)
+unfoldable pub query_line : Contents → ℕ → List Token → Result Contents Fault
+query_line contents number ts = do
+  ask ← query_in (prime_of contents.field) contents.generators ts
+  Ok (with_ask contents number ask)
 
 -- `same ELEMENT = ELEMENT`
-unfoldable pub same_line : Told → ℕ → List Token → Result Told Fault
-same_line told number ts = do
-  ask ← same_in (prime_of told.field) told.generators ts
-  Ok (with_ask told number ask)
+unfoldable pub same_line : Contents → ℕ → List Token → Result Contents Fault
+same_line contents number ts = do
+  ask ← same_in (prime_of contents.field) contents.generators ts
+  Ok (with_ask contents number ask)
 
 -- ---- a line
 
 -- the rest of a line behind its word, which may stand there and begins no tail
-abbrev pub rest_of_line : Told → ℕ → List ℕ → List Token → Result Told Fault
-rest_of_line told number w ts =
-    if is w (codes "field") then field_line told ts else (if is w (codes "order") then order_line told ts
-    else (if is w (codes "gen") then gen_line told ts else (if is w (codes "weight") then weight_line told ts
-    else (if is w (codes "rel") then rel_line told ts else (if is w (codes "query") then query_line told number ts else same_line told number ts)))))
+abbrev pub rest_of_line : Contents → ℕ → List ℕ → List Token → Result Contents Fault
+rest_of_line contents number w ts =
+    if is w (codes "field") then field_line contents ts else (if is w (codes "order") then order_line contents ts
+    else (if is w (codes "gen") then gen_line contents ts else (if is w (codes "weight") then weight_line contents ts
+    else (if is w (codes "rel") then rel_line contents ts else (if is w (codes "query") then query_line contents number ts else same_line contents number ts)))))

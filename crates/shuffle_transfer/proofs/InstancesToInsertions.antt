@@ -4,7 +4,7 @@ use mathlib.Core.Path.{ap₂}
 use native.Mathlib.Decide.{ℕ_discrete}
 use Rattle.std.proofs.lemmas.Nat.{pow-add}
 use Rattle.modular_sums.specs.Lists.{Mem}
-use Rattle.modular_sums.specs.Sums.{scale, expand, Member, moved, AllTerms}
+use Rattle.modular_sums.specs.Sums.{scale, expand, IsLinearCombination, moved, AllTerms}
 use Rattle.modular_sums.proofs.Sums.{Member-scale, Member-same}
 use Rattle.modular_sums.proofs.Images.{moved_eq}
 use Rattle.labelled_trees.specs.Trees.{Tree, leaf, graft}
@@ -33,7 +33,7 @@ use Rattle.shuffle_transfer.proofs.FormGrafts.{form-graft, turns-graft}
 use Rattle.shuffle_transfer.proofs.FormContexts.{FormCtx, form_ctx}
 use Rattle.shuffle_transfer.proofs.Forms.{form_rises, occurs-form}
 use Rattle.shuffle_transfer.proofs.Signs.{twist}
-use Rattle.shuffle_transfer.proofs.Forth.{forth}
+use Rattle.shuffle_transfer.proofs.ShuffleFormsFit.{forth}
 use Rattle.shuffle_transfer.proofs.Turned.{turns_of, turned, Same-turned, member_turned}
 use Rattle.shuffle_transfer.proofs.Vanish.{symmetry_gone}
 use Rattle.shuffle_transfer.proofs.SlotInsertions.{SlotInsertion, slot_inserted}
@@ -59,7 +59,7 @@ module _ (p : Presentation) (n : ℕ) where
   Shuffles = IsShuffleTree (inputs_of p.generators) n
 
   abbrev InSpan : List (ℕ × Tree ℕ) → Type 0
-  InSpan e = Member tree_discrete (slot_inserted p n) p.q e
+  InSpan e = IsLinearCombination tree_discrete (slot_inserted p n) p.q e
 
   -- a relation of arity m with the first term x0, in a context with inputs
   module _ (m : ℕ) (x0 : Tree ℕ) (c : Ctx ℕ) (s : ℕ → Tree ℕ) (h0 : IsLabelled arity m x0) (v0 : IsLabelled arity n (fill c (graft x0 s))) where
@@ -195,7 +195,7 @@ module _ (p : Presentation) (n : ℕ) where
             (symmetry_gone p n g j s h i.context i.inputs v.0) (member_zero tree_discrete (slot_inserted p n) p.q)
 
     -- the shuffle form of a sum of instances
-    pub forward : (e : List (ℕ × Tree ℕ)) → Member tree_discrete (hole_element p n) p.q e → InSpan (turned p e)
+    pub forward : (e : List (ℕ × Tree ℕ)) → IsLinearCombination tree_discrete (hole_element p n) p.q e → InSpan (turned p e)
     forward e h = Member-same tree_discrete (slot_inserted p n) p.q {e = turned p e} {f = turned p (expand (hole_element p n) h.uses)}
         (Same-turned p e (expand (hole_element p n) h.uses) h.adds_up)
         (member_turned p (hole_element p n) (slot_inserted p n) instance_moves h.uses)

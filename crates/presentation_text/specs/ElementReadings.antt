@@ -13,9 +13,9 @@ use Rattle.presentation_text.specs.declared.lexing.Token.TheVariants.{Number, By
 use Rattle.presentation_text.specs.declared.terms.ElementAt.{ElementAt}
 use Rattle.presentation_text.specs.declared.terms.TermRead.{TermRead}
 use Rattle.presentation_text.specs.declared.trees.Demands.{Demands}
-use Rattle.presentation_text.specs.Elements.{Written, said}
+use Rattle.presentation_text.specs.Elements.{Written, written_sum}
 use Rattle.presentation_text.specs.Readings.{Reading, ◌>>=◌, StopsAs}
-use Rattle.presentation_text.specs.TreeForms.{begins_with, whole_tree_in}
+use Rattle.presentation_text.specs.TreeReadings.{begins_with, whole_tree_in}
 
 -- ---- the front of tokens
 
@@ -133,7 +133,7 @@ pub record GoesOn (p : ℕ) (tokens : List Token) (reading : Reading (List Writt
   pub terms : List Written
   pub reading_is : reading ≡ Ok (terms, drop found.next tokens)
   pub within : found.next ≤ length tokens
-  pub sum_is : terms_of found.sum ≡ terms_of before.sum ++ said p terms
+  pub sum_is : terms_of found.sum ≡ terms_of before.sum ++ written_sum p terms
   pub arity_is : found.arity ≡ before.arity
 
 -- a function went on with the element as reading does, or it stops as reading does
@@ -142,14 +142,14 @@ GivesFurther p tokens reading before (Ok found) = GoesOn p tokens reading before
 GivesFurther p tokens reading before (Err fail) = StopsAs tokens reading fail
 
 -- The element says the written terms modulo p, and has the arity of the first one.
-pub record IsElementOf (p : ℕ) (tokens : List Token) (reading : Reading (List Written)) (found : ElementAt) : Type 0 where
+pub record IsElementAsRead (p : ℕ) (tokens : List Token) (reading : Reading (List Written)) (found : ElementAt) : Type 0 where
   pub terms : List Written
   pub reading_is : reading ≡ Ok (terms, drop found.next tokens)
   pub within : found.next ≤ length tokens
-  pub sum_is : terms_of found.sum ≡ said p terms
+  pub sum_is : terms_of found.sum ≡ written_sum p terms
   pub arity_is : found.arity ≡ arity_of_first terms
 
 -- The element that a function gave for the tokens from a place on is as reading gives it, or it stops as reading does.
 abbrev pub GivesElement : ℕ → List Token → Reading (List Written) → Result ElementAt PartFail → Type 0
-GivesElement p tokens reading (Ok found) = IsElementOf p tokens reading found
+GivesElement p tokens reading (Ok found) = IsElementAsRead p tokens reading found
 GivesElement p tokens reading (Err fail) = StopsAs tokens reading fail
