@@ -4,8 +4,8 @@ use mathlib.Core.List.{◌++◌}
 use mathlib.Core.Path.{ap₂}
 use Rattle.modular_sums.specs.Residues.{IsCongruent}
 use Rattle.modular_sums.specs.Sums.{coef, scale, Same, expand, IsLinearCombination, AllTerms}
-use Rattle.modular_sums.proofs.Residues.{alike_add, alike_mul}
-use Rattle.modular_sums.proofs.Sums.{coef-append, coef-scale, coef-expand_append, coef-expand_scale, Member-append, Member-scale, Member-same, AllTerms-append, AllTerms-scale}
+use Rattle.modular_sums.proofs.Residues.{congruent_add, congruent_mul}
+use Rattle.modular_sums.proofs.Sums.{coef-append, coef-scale, coef-expand_append, coef-expand_scale, combination-append, combination-scale, combination-same, AllTerms-append, AllTerms-scale}
 use Rattle.modular_sums.proofs.Images.{same_sum, sum_over-append, sum_over-scale}
 use Rattle.modular_sums.proofs.Replacements.{sum_over, sum_over_ext}
 use Rattle.modular_sums.proofs.Differences.{same_gone, same_forms_apart}
@@ -52,20 +52,20 @@ module _ {M I : Type 0} (dec : Discrete M) (value : I → List (ℕ × M)) (q : 
 
   -- two sums that are congruent to one
   pub congruent_both : (d f g : List (ℕ × M)) → Congruent d f → Congruent d g → Congruent f g
-  congruent_both d f g a b = Member-same dec value q {e = f ++ scale q g} {f = (scale q (d ++ scale q f) ++ (d ++ scale q d)) ++ (d ++ scale q g)} (same_forms_apart dec q d d f g)
-      (Member-append dec value q {e = scale q (d ++ scale q f) ++ (d ++ scale q d)} {f = d ++ scale q g}
-      (Member-append dec value q {e = scale q (d ++ scale q f)} {f = d ++ scale q d} (Member-scale dec value q q {e = d ++ scale q f} a)
-      (Member-same dec value q {e = d ++ scale q d} {f = []} (same_gone dec q d) (member_zero dec value q))) b)
+  congruent_both d f g a b = combination-same dec value q {e = f ++ scale q g} {f = (scale q (d ++ scale q f) ++ (d ++ scale q d)) ++ (d ++ scale q g)} (same_forms_apart dec q d d f g)
+      (combination-append dec value q {e = scale q (d ++ scale q f) ++ (d ++ scale q d)} {f = d ++ scale q g}
+      (combination-append dec value q {e = scale q (d ++ scale q f)} {f = d ++ scale q d} (combination-scale dec value q q {e = d ++ scale q f} a)
+      (combination-same dec value q {e = d ++ scale q d} {f = []} (same_gone dec q d) (member_zero dec value q))) b)
 
   pub congruent_same : (d e f g : List (ℕ × M)) → Same dec q d e → Same dec q f g → Congruent e g → Congruent d f
-  congruent_same d e f g a b h = Member-same dec value q {e = d ++ scale q f} {f = e ++ scale q g} same h
+  congruent_same d e f g a b h = combination-same dec value q {e = d ++ scale q f} {f = e ++ scale q g} same h
     where
       same : Same dec q (d ++ scale q f) (e ++ scale q g)
       same t = rw (coef-append dec d (scale q f) t, coef-append dec e (scale q g) t, coef-scale dec q f t, coef-scale dec q g t)
-          (alike_add q _ _ _ _ (a t) (alike_mul q q q _ _ refl (b t)))
+          (congruent_add q _ _ _ _ (a t) (congruent_mul q q q _ _ refl (b t)))
 
   pub congruent_refl : (e : List (ℕ × M)) → Congruent e e
-  congruent_refl e = Member-same dec value q {e = e ++ scale q e} {f = []} (same_gone dec q e) (member_zero dec value q)
+  congruent_refl e = combination-same dec value q {e = e ++ scale q e} {f = []} (same_gone dec q e) (member_zero dec value q)
 
   pub congruent_turned : (e f : List (ℕ × M)) → Congruent e f → Congruent f e
   congruent_turned e f h = congruent_both e f e h (congruent_refl e)
@@ -74,8 +74,8 @@ module _ {M I : Type 0} (dec : Discrete M) (value : I → List (ℕ × M)) (q : 
   congruent_then e f g h k = congruent_both f e g (congruent_turned e f h) k
 
   congruent_step : (c : ℕ) (a b e f : List (ℕ × M)) → Congruent a b → Congruent e f → Congruent (scale c a ++ e) (scale c b ++ f)
-  congruent_step c a b e f h k = Member-same dec value q {e = (scale c a ++ e) ++ scale q (scale c b ++ f)} {f = scale c (a ++ scale q b) ++ (e ++ scale q f)} same
-      (Member-append dec value q {e = scale c (a ++ scale q b)} {f = e ++ scale q f} (Member-scale dec value q c {e = a ++ scale q b} h) k)
+  congruent_step c a b e f h k = combination-same dec value q {e = (scale c a ++ e) ++ scale q (scale c b ++ f)} {f = scale c (a ++ scale q b) ++ (e ++ scale q f)} same
+      (combination-append dec value q {e = scale c (a ++ scale q b)} {f = e ++ scale q f} (combination-scale dec value q c {e = a ++ scale q b} h) k)
     where
       same : Same dec q ((scale c a ++ e) ++ scale q (scale c b ++ f)) (scale c (a ++ scale q b) ++ (e ++ scale q f))
       same t = rw (
@@ -108,7 +108,7 @@ module _ {M I : Type 0} (dec : Discrete M) (value : I → List (ℕ × M)) (q : 
 pub congruent_kept : {M N I J : Type 0} (decm : Discrete M) (decn : Discrete N) (q : ℕ) (value : I → List (ℕ × M)) (other : J → List (ℕ × N)) (image : M → List (ℕ × N))
     → KeepsSpans decn q value other image → (e f : List (ℕ × M)) → Congruent decm value q e f → Congruent decn other q (expand image e) (expand image f)
 congruent_kept {M} {N} decm decn q value other image keeps e f h =
-    Member-same decn other q {e = expand image e ++ scale q (expand image f)} {f = expand (λ i. expand image (value i)) h.uses} same
+    combination-same decn other q {e = expand image e ++ scale q (expand image f)} {f = expand (λ i. expand image (value i)) h.uses} same
     (member_expand decn q (λ i. expand image (value i)) other keeps h.uses)
   where
     parts : (t : N) → coef decn (expand image e ++ scale q (expand image f)) t ≡ coef decn (expand image (e ++ scale q f)) t

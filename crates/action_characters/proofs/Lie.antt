@@ -4,7 +4,7 @@ use mathlib.Core.List.{◌++◌}
 use native.Mathlib.Decide.{ℕ_discrete}
 use Rattle.modular_sums.specs.Lists.{Mem}
 use Rattle.modular_sums.specs.Sums.{coef, scale, moved, Same, AllTerms}
-use Rattle.modular_sums.proofs.Sums.{Member-scale, Member-same, AllTerms-scale}
+use Rattle.modular_sums.proofs.Sums.{combination-scale, combination-same, AllTerms-scale}
 use Rattle.modular_sums.proofs.Images.{AllTerms-imp}
 use Rattle.modular_sums.proofs.Sameness.{same_if_agree}
 use Rattle.labelled_trees.specs.Trees.{Tree}
@@ -56,8 +56,8 @@ normal = subst (HasNormalTrees lie (compare lie.generators by_path) 3) two_norma
 
 -- what has the shuffle form of a multiple of the relation is in the ideal
 in_ideal : (c : ℕ) (e : List (ℕ × Tree ℕ)) → AllTerms e (IsLabelled (arity_of lie) 3) → Same tree_discrete 100 (shuffled lie e) (scale c (shuffled lie jacobi_relation.terms)) → InIdeal lie 3 e
-in_ideal c e h s = (lie_transfer e h).1 (Member-same tree_discrete (inserted_relation lie 3) 100 {e = shuffled lie e} {f = scale c (shuffled lie jacobi_relation.terms)} s
-    (Member-scale tree_discrete (inserted_relation lie 3) 100 c {e = shuffled lie jacobi_relation.terms} ((lie_transfer jacobi_relation.terms (sound jacobi_relation (inl refl))).0 relation_in_ideal)))
+in_ideal c e h s = (lie_transfer e h).1 (combination-same tree_discrete (inserted_relation lie 3) 100 {e = shuffled lie e} {f = scale c (shuffled lie jacobi_relation.terms)} s
+    (combination-scale tree_discrete (inserted_relation lie 3) 100 c {e = shuffled lie jacobi_relation.terms} ((lie_transfer jacobi_relation.terms (sound jacobi_relation (inl refl))).0 relation_in_ideal)))
 
 -- ---- the rows
 
@@ -182,8 +182,8 @@ free t m = ((all_listed (labels lie.generators) brackets (are_labels lie wide) c
 
 -- what is a multiple of the relation's shuffle form is in the span
 in_span : (c : ℕ) (e : List (ℕ × Tree ℕ)) → Same tree_discrete 100 e (scale c (shuffled lie (relabelled (1 ∷ (2 ∷ (3 ∷ []))) jacobi_relation.terms))) → InSpan brackets 3 e
-in_span c e s = Member-same tree_discrete value_of 100 {e = e} {f = scale c (shuffled lie (relabelled (1 ∷ (2 ∷ (3 ∷ []))) jacobi_relation.terms))} s
-    (Member-scale tree_discrete value_of 100 c {e = shuffled lie (relabelled (1 ∷ (2 ∷ (3 ∷ []))) jacobi_relation.terms)}
+in_span c e s = combination-same tree_discrete value_of 100 {e = e} {f = scale c (shuffled lie (relabelled (1 ∷ (2 ∷ (3 ∷ []))) jacobi_relation.terms))} s
+    (combination-scale tree_discrete value_of 100 c {e = shuffled lie (relabelled (1 ∷ (2 ∷ (3 ∷ []))) jacobi_relation.terms)}
     (certified.relations jacobi_relation (inl refl) (omega arith) (1 ∷ (2 ∷ (3 ∷ []))) (inl refl)))
 
 shuffle_rows : AreShuffleRows lie 3 (type_permutation three) brackets trees three_rows

@@ -4,7 +4,7 @@ use Rattle.std.specs.Prelude.{flat_map}
 use mathlib.Core.Path.{ap₂}
 use mathlib.Core.List.{◌++◌}
 use Rattle.modular_sums.specs.Sums.{scale, expand, IsLinearCombination}
-use Rattle.modular_sums.proofs.Sums.{Member-append, Member-same}
+use Rattle.modular_sums.proofs.Sums.{combination-append, combination-same}
 use Rattle.modular_sums.proofs.Links.{member_zero, member_one}
 use Rattle.labelled_trees.specs.Trees.{Tree}
 use Rattle.labelled_trees.specs.Equality.{tree_discrete}
@@ -24,10 +24,10 @@ module _ (p : Presentation) (n : ℕ) where
 
   span_elements : (l : List (Instance p n)) → InSpan (flat_map (element p n) l)
   span_elements [] = member_zero tree_discrete (element p n) p.q
-  span_elements (i ∷ l) = Member-append tree_discrete (element p n) p.q {e = element p n i} {f = flat_map (element p n) l} (member_one tree_discrete (element p n) p.q i) (span_elements l)
+  span_elements (i ∷ l) = combination-append tree_discrete (element p n) p.q {e = element p n i} {f = flat_map (element p n) l} (member_one tree_discrete (element p n) p.q i) (span_elements l)
 
   pub in_span : (e : List (ℕ × Tree ℕ)) → InIdeal p n e → InSpan e
-  in_span e h = Member-same tree_discrete (element p n) p.q {e = e} {f = flat_map (element p n) h.instances} h.adds_up (span_elements h.instances)
+  in_span e h = combination-same tree_discrete (element p n) p.q {e = e} {f = flat_map (element p n) h.instances} h.adds_up (span_elements h.instances)
 
   ideal_elements : (l : List (ℕ × Instance p n)) → InIdeal p n (expand (element p n) l)
   unfolding expand

@@ -5,7 +5,7 @@ use Rattle.std.specs.List.{sum_by}
 use Rattle.modular_sums.specs.Residues.{IsCongruent}
 use Rattle.modular_sums.specs.Lists.{Mem}
 use Rattle.modular_sums.specs.Sums.{coef, scale, Same, expand}
-use Rattle.modular_sums.proofs.Residues.{alike_add}
+use Rattle.modular_sums.proofs.Residues.{congruent_add}
 use Rattle.modular_sums.proofs.Coefficients.{coef_nothing, coef_first}
 use Rattle.modular_sums.proofs.Differences.{same_gone}
 use Rattle.action_characters.specs.ModularTraces.{IsFormOn, IsLinearTrace}
@@ -138,7 +138,7 @@ module _ (p : Presentation) (n : ℕ) (w : List ℕ) (l : List (Tree ℕ)) (free
   diagonal_alike forms [] h rows k = refl
   diagonal_alike forms (t ∷ trees) h [] k = absurd k
   diagonal_alike forms (t ∷ trees) h (f ∷ rows) k =
-      alike_add p.q (coef tree_discrete f t) (coef tree_discrete (forms t) t) (diagonal trees rows) (total (λ u. coef tree_discrete (forms u) u) trees)
+      congruent_add p.q (coef tree_discrete f t) (coef tree_discrete (forms t) t) (diagonal trees rows) (total (λ u. coef tree_discrete (forms u) u) trees)
       (one_form (Tree ℕ) (Instance p n) tree_discrete (element p n) p.q l (free_list p n l free) (image p n w t) f (forms t) (as_form p n l (image p n w t) f k.0) (as_form p n l (image p n w t) (forms t) (h t (inl refl))) t)
       (diagonal_alike forms trees (λ u m. h u (inr m)) rows k.1)
 

@@ -5,9 +5,9 @@ use Rattle.std.specs.Prelude.{flat_map}
 use mathlib.Core.List.{◌++◌}
 use native.Mathlib.Decide.{ℕ_discrete}
 use Rattle.modular_sums.specs.Residues.{IsCongruent}
-use Rattle.modular_sums.specs.Lists.{Mem, Distinct}
-use Rattle.modular_sums.specs.Sums.{hit, coef, scale, Same, moved, AllTerms}
-use Rattle.modular_sums.proofs.Sums.{hit-no, AllTerms-append, AllTerms-scale}
+use Rattle.modular_sums.specs.Lists.{Mem, Distinct, choose}
+use Rattle.modular_sums.specs.Sums.{coef, scale, Same, moved, AllTerms}
+use Rattle.modular_sums.proofs.Sums.{AllTerms-append, AllTerms-scale}
 use Rattle.modular_sums.proofs.Coefficients.{coef_absent}
 use Rattle.modular_sums.proofs.Differences.{same_gone}
 use Rattle.modular_sums.proofs.Images.{AllTerms-imp}
@@ -26,6 +26,7 @@ use Rattle.action_characters.specs.Traces.{IsTrace}
 use Rattle.action_characters.specs.Actions.{acted}
 use Rattle.action_characters.proofs.Actions.{acted-upto}
 use Rattle.action_characters.proofs.Lie.{trees, basis}
+use Rattle.modular_sums.proofs.Choices.{choose-no}
 
 -- ---- an element of the ideal has the coefficient 0 at a tree that isn't labelled
 
@@ -69,9 +70,9 @@ unfolding others coef
 others_coef t ne [] = refl
 others_coef t ne (x ∷ e) = go (tree_discrete x.1 (leaf 0)) (others_coef t ne e)
   where
-    go : (d : Dec (x.1 ≡ leaf 0)) → coef tree_discrete (others e) t ≡ coef tree_discrete e t → coef tree_discrete (kept d x (others e)) t ≡ hit (tree_discrete x.1 t) x.0 + coef tree_discrete e t
-    go (yes s) ih = let z : hit (tree_discrete x.1 t) x.0 ≡ 0 = hit-no (tree_discrete x.1 t) x.0 (λ k. ne (sym k ∙ s)) in omega (arith, z, ih)
-    go (no f) ih = ap (λ k. hit (tree_discrete x.1 t) x.0 + k) ih
+    go : (d : Dec (x.1 ≡ leaf 0)) → coef tree_discrete (others e) t ≡ coef tree_discrete e t → coef tree_discrete (kept d x (others e)) t ≡ choose (tree_discrete x.1 t) x.0 0 + coef tree_discrete e t
+    go (yes s) ih = let z : choose (tree_discrete x.1 t) x.0 0 ≡ 0 = choose-no (tree_discrete x.1 t) x.0 0 (λ k. ne (sym k ∙ s)) in omega (arith, z, ih)
+    go (no f) ih = ap (λ k. choose (tree_discrete x.1 t) x.0 0 + k) ih
 
 none_there : (e : List (ℕ × Tree ℕ)) → AllTerms (others e) (λ x. x ≡ leaf 0 → ⊥)
 unfolding others

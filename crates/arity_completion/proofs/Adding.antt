@@ -3,7 +3,7 @@ use Rattle.std.proofs.Common.{◌≡◌, ℕ, suc, ◌-◌, ◌*◌, ◌%◌, �
 use Rattle.std.proofs.lemmas.List.Elements.{All-append, All-from_recursion, recursion_from_All}
 use Rattle.modular_sums.specs.Residues.{IsCongruent}
 use Rattle.modular_sums.specs.Sums.{coef, scale, Same}
-use Rattle.modular_sums.proofs.Residues.{alike_mul}
+use Rattle.modular_sums.proofs.Residues.{congruent_mul}
 use Rattle.modular_sums.proofs.Sums.{coef-append, coef-scale}
 use Rattle.labelled_trees.specs.Trees.{Tree}
 use Rattle.labelled_trees.specs.Equality.{tree_discrete}
@@ -22,7 +22,7 @@ use Rattle.arity_completion.specs.Uses.{AddUpTo}
 -- multiples of sums that are the same, by alike factors
 pub same_multiples : (q a b : ℕ) (l : List (ℕ × Tree ℕ)) → IsCongruent q a b → Same tree_discrete q (scale a l) (scale b l)
 same_multiples q a b l h t =
-    ap (λ n. n % suc q) (coef-scale tree_discrete a l t) ∙ alike_mul q a b (coef tree_discrete l t) (coef tree_discrete l t) h refl
+    ap (λ n. n % suc q) (coef-scale tree_discrete a l t) ∙ congruent_mul q a b (coef tree_discrete l t) (coef tree_discrete l t) h refl
     ∙ ap (λ n. n % suc q) (sym (coef-scale tree_discrete b l t))
 
 -- multiples of two lists, one behind the other

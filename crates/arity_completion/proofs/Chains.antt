@@ -3,7 +3,7 @@ use Rattle.std.proofs.Common.{◌≡◌, ℕ, suc, ◌+◌, ◌*◌, ◌-◌, �
 use Rattle.std.proofs.lemmas.List.Elements.{All-nil}
 use Rattle.modular_sums.specs.Residues.{IsCongruent}
 use Rattle.modular_sums.specs.Sums.{coef, scale, Same}
-use Rattle.modular_sums.proofs.Residues.{alike_add, alike_drop}
+use Rattle.modular_sums.proofs.Residues.{congruent_add, congruent_drop}
 use Rattle.modular_sums.proofs.Sums.{coef-append, coef-scale}
 use Rattle.labelled_trees.specs.Trees.{Tree}
 use Rattle.labelled_trees.specs.Equality.{tree_discrete}
@@ -54,8 +54,8 @@ turned q row more last h z t =
     let zero_more : q * coef tree_discrete more t + 0 ≡ q * coef tree_discrete more t = omega arith in
     let turn : q * coef tree_discrete more t + (coef tree_discrete row t + coef tree_discrete more t) ≡ coef tree_discrete row t + (coef tree_discrete more t + q * coef tree_discrete more t) = omega arith in
     ap (λ c. c % suc q) (coef-scale tree_discrete q more t ∙ sym zero_more)
-    ∙ alike_add q (q * coef tree_discrete more t) (q * coef tree_discrete more t) 0 (coef tree_discrete row t + coef tree_discrete more t) refl (sym gone)
-    ∙ ap (λ c. c % suc q) turn ∙ alike_drop q (coef tree_discrete row t) (coef tree_discrete more t)
+    ∙ congruent_add q (q * coef tree_discrete more t) (q * coef tree_discrete more t) 0 (coef tree_discrete row t + coef tree_discrete more t) refl (sym gone)
+    ∙ ap (λ c. c % suc q) turn ∙ congruent_drop q (coef tree_discrete row t) (coef tree_discrete more t)
 
 pub differences_law : DifferencesAreKept
 differences_law m generators rels earlier shelf numbers cofactors entry positive uses fits reduced compare elements n order monic entries steps of row last stands chain none =

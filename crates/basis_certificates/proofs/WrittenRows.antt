@@ -8,7 +8,7 @@ use Rattle.std.specs.declared.cmp.Ordering.TheVariants.{Less}
 use Rattle.modular_sums.specs.Lists.{Mem, nth}
 use Rattle.modular_sums.specs.Sums.{coef, scale, moved, expand, Same, AllTerms}
 use Rattle.modular_sums.specs.Laws.{SumLaw}
-use Rattle.modular_sums.proofs.Residues.{alike_mul}
+use Rattle.modular_sums.proofs.Residues.{congruent_mul}
 use Rattle.modular_sums.proofs.Sums.{coef-scale}
 use Rattle.modular_sums.proofs.Laws.{sum_law}
 use Rattle.modular_sums.proofs.Images.{Same-moved}
@@ -131,7 +131,7 @@ module _ {C : Type 0} (p : Presentation) (cmp : Tree ℕ → Tree ℕ → Orderi
           = subst (λ l. Same tree_discrete p.q (insertion_of p elems r.number r.tree r.set) (inserted u.1.of u.1.tree l)) h.0.set
           (same_insertion n r.number u.1.of h.0.number u.1.tree u.1.valid r.tree h.0.tree r.set) in
           rw (coef-scale tree_discrete u.0 (value_of u.1) t, coef-scale tree_discrete r.coefficient (insertion_of p elems r.number r.tree r.set) t)
-          (alike_mul p.q u.0 r.coefficient (coef tree_discrete (value_of u.1) t) (coef tree_discrete (insertion_of p elems r.number r.tree r.set) t) (sym h.0.coefficient) (sym (a t)))
+          (congruent_mul p.q u.0 r.coefficient (coef tree_discrete (value_of u.1) t) (coef tree_discrete (insertion_of p elems r.number r.tree r.set) t) (sym h.0.coefficient) (sym (a t)))
 
   -- ---- rows
 

@@ -5,7 +5,7 @@ use Rattle.std.proofs.lemmas.List.{length-map}
 use Rattle.std.proofs.lemmas.List.Sums.{sum_by-cons}
 use mathlib.Core.List.{◌++◌}
 use native.Mathlib.Decide.{ℕ_discrete}
-use Rattle.modular_sums.specs.Lists.{Mem, holds, Nth}
+use Rattle.modular_sums.specs.Lists.{Mem, Nth, choose}
 use Rattle.modular_sums.proofs.Lists.{mem_left, mem_right, mem_map, mem_flat}
 use Rattle.labelled_trees.specs.Trees.{Tree}
 use Rattle.shuffle_insertions.specs.ShuffleTrees.{IsShuffleTree}
@@ -70,14 +70,14 @@ module _ {X : Type 0} (test : X → Bool) where
 passes_relation : (n : ℕ) (r : Relation) → r.arity ≡ n → is_empty r.terms ≡ false → counts_relation n r ≡ true
 passes_relation n r e f = rw f (go (ℕ_discrete r.arity n))
   where
-    go : (c : Dec (r.arity ≡ n)) → holds c false ≡ true
+    go : (c : Dec (r.arity ≡ n)) → choose c true false ≡ true
     go (yes _) = refl
     go (no g) = absurd (g e)
 
 passes_question : (n : ℕ) (e : Question) → e.arity ≡ n → counts_question n e ≡ true
 passes_question n e f = go (ℕ_discrete e.arity n)
   where
-    go : (c : Dec (e.arity ≡ n)) → holds c false ≡ true
+    go : (c : Dec (e.arity ≡ n)) → choose c true false ≡ true
     go (yes _) = refl
     go (no g) = absurd (g f)
 

@@ -13,8 +13,8 @@ use Rattle.std.proofs.Math.ListN.{length-map}
 use Rattle.std.proofs.lemmas.List.FromFn.{length-range_with_len}
 use Rattle.std.proofs.lemmas.List.Sorted.{length_permutation}
 use Rattle.shuffle_sums.proofs.RisingBlocks.{position_within}
-use Rattle.modular_sums.specs.Sums.{hit, AllTerms, Same, coef, moved}
-use Rattle.modular_sums.proofs.Sums.{AllTerms-append, coef-append, hit-yes, hit-no}
+use Rattle.modular_sums.specs.Sums.{AllTerms, Same, coef, moved}
+use Rattle.modular_sums.proofs.Sums.{AllTerms-append, coef-append}
 use Rattle.modular_sums.proofs.Images.{moved-append, moved-moved, moved_eq}
 use Rattle.labelled_trees.specs.Trees.{Tree, leaf}
 use Rattle.shuffle_insertions.proofs.Comparing.{nat_less}
@@ -37,6 +37,8 @@ use Rattle.shuffle_reductions.proofs.SweptThrough.{swept}
 use Rattle.division.specs.Cones.{trees_of, IsCone, IsConeOver}
 use Rattle.division.specs.Rows.{id_at, LeadsTo, IsSumAtPlaces}
 use Rattle.division.specs.declared.cones.Cone.{Cone}
+use Rattle.modular_sums.specs.Lists.{choose}
+use Rattle.modular_sums.proofs.Choices.{choose-yes, choose-no}
 
 -- ---- positions and ids
 
@@ -124,7 +126,7 @@ module _ (given : List ℕ) (cone : Cone) (c : IsCone given cone) (s : Setting) 
         let last : on_trees there rest ≡ moved (tree_at trees) ids = over_ids rest rest_within ∙ ap (moved (tree_at trees)) (sym e) in
         subst (IsStopped s) last (law.stopped rest (in_trees rest rest_within) (subst (λ q. IsStoppedThere q cone.table.rules rest) h.prime f))
 
-lone_coef : (c p t : ℕ) → coef ℕ_discrete ((c, p) ∷ []) t ≡ hit (ℕ_discrete p t) c + 0
+lone_coef : (c p t : ℕ) → coef ℕ_discrete ((c, p) ∷ []) t ≡ choose (ℕ_discrete p t) c 0 + 0
 unfolding coef
 lone_coef c p t = refl
 
@@ -149,20 +151,20 @@ fill_more size row placed i x at number h lt is few pos low num = record {
         = ap pairs (take_more placed i x lt) ∙ map-append (λ (y : Term). (y.coef, y.position)) (take i placed) (get_or placed i x ∷ []) ∙ ap (λ (y : Term). pairs (take i placed) ++ ((y.coef, y.position) ∷ [])) (sym is) in
         ap (λ l. coef ℕ_discrete l t) e ∙ coef-append ℕ_discrete (pairs (take i placed)) ((x.coef, x.position) ∷ []) t
 
-    one : (t : ℕ) → coef ℕ_discrete ((x.coef, x.position) ∷ []) t ≡ hit (ℕ_discrete x.position t) x.coef + 0
+    one : (t : ℕ) → coef ℕ_discrete ((x.coef, x.position) ∷ []) t ≡ choose (ℕ_discrete x.position t) x.coef 0 + 0
     one t = lone_coef x.coef x.position t
 
     by : (t : ℕ) → Dec (at ≡ t) → slice_index (set row at number) t ≡ coef ℕ_discrete (pairs (take i placed)) t + coef ℕ_discrete ((x.coef, x.position) ∷ []) t
     by t (yes e) =
         let a = get_or-set_at row at t number 0 (sym e) low in
-        let b = hit-yes (ℕ_discrete x.position t) x.coef (sym pos ∙ e) in
+        let b = choose-yes (ℕ_discrete x.position t) x.coef 0 (sym pos ∙ e) in
         let r = h.are t in
         let o = one t in
         let there : slice_index row at ≡ slice_index row t = ap (slice_index row) e in
         omega (arith, a, b, r, o, there, num)
     by t (no n) =
         let a = get_or-set_other row at t number 0 (λ e. n (sym e)) in
-        let b = hit-no (ℕ_discrete x.position t) x.coef (λ e. n (pos ∙ e)) in
+        let b = choose-no (ℕ_discrete x.position t) x.coef 0 (λ e. n (pos ∙ e)) in
         let r = h.are t in
         let o = one t in
         omega (arith, a, b, r, o)

@@ -4,19 +4,12 @@ use mathlib.Core.Path.{ap₂}
 use native.Mathlib.Decide.{dec_lt}
 use Rattle.std.proofs.Common.{◌≡◌, ℕ, ◌<◌, ◌≤◌, refl, sym, ◌∙◌, ap, arith}
 use Rattle.labelled_trees.specs.Trees.{Tree, Row, leaf, node, none, more, graft, graft_row, join}
-use Rattle.labelled_trees.specs.Leaves.{AllLeaves, choose, occurs, occurs_row}
+use Rattle.labelled_trees.specs.Leaves.{AllLeaves, occurs, occurs_row}
 use Rattle.labelled_trees.proofs.Contexts.{node-eq, more-eq}
 use Rattle.labelled_trees.proofs.Grafts.{graft_assoc}
 use Rattle.labelled_trees.proofs.GraftLeaves.{graft_row_ext, graft_ext, agree}
 use Rattle.labelled_trees.proofs.Leaves.{by_row, by_leaf, at_leaf}
-
-pub choose-yes : {B C : Type 0} (d : Dec C) (x y : B) → C → choose d x y ≡ x
-choose-yes (yes _) x y c = refl
-choose-yes (no f) x y c = absurd (f c)
-
-pub choose-no : {B C : Type 0} (d : Dec C) (x y : B) → ¬ C → choose d x y ≡ y
-choose-no (yes c) x y f = absurd (f c)
-choose-no (no _) x y f = refl
+use Rattle.modular_sums.specs.Lists.{choose}
 
 -- the choice at a row: the first tree's where the number occurs there
 unfoldable pub both_ways : {B : Type 0} (t : Tree ℕ) (f g : ℕ → B) → ℕ → B

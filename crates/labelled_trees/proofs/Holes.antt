@@ -4,11 +4,12 @@ use mathlib.Core.Path.{ap₂}
 use native.Mathlib.Decide.{ℕ_discrete, dec_lt}
 use Rattle.labelled_trees.specs.Trees.{Tree, Row, leaf, node, none, more, graft, graft_row}
 use Rattle.labelled_trees.specs.Contexts.{Ctx, RowCtx, hole, inside, here, past, fill, fill_row, graft_ctx, graft_row_ctx}
-use Rattle.labelled_trees.specs.Leaves.{one_if, choose, occurs, occurs_row}
+use Rattle.labelled_trees.specs.Leaves.{one_if, occurs, occurs_row}
 use Rattle.labelled_trees.proofs.Contexts.{graft-fill, node-eq, more-eq}
 use Rattle.labelled_trees.proofs.GraftLeaves.{graft_ext, graft_row_ext}
 use Rattle.labelled_trees.proofs.Leaves.{by_leaf, by_row, occurs_self}
-use Rattle.labelled_trees.proofs.Factors.{choose-yes, choose-no}
+use Rattle.modular_sums.specs.Lists.{choose}
+use Rattle.modular_sums.proofs.Choices.{choose-yes, choose-no}
 
 mutual
   pub occurs_in_fill : (c : Ctx ℕ) (k : ℕ) → 0 < occurs k (fill c (leaf k))

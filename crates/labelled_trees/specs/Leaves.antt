@@ -2,6 +2,7 @@
 use Rattle.std.specs.Prelude.{ℕ, ◌+◌, List, [], ◌∷◌}
 use native.Mathlib.Decide.{ℕ_discrete}
 use Rattle.labelled_trees.specs.Trees.{Tree, Row, leaf, node, none, more}
+use Rattle.modular_sums.specs.Lists.{choose}
 
 -- the sum of f over the leaves
 abbrev mutual
@@ -25,13 +26,7 @@ abbrev mutual
 
 -- 1 where a decided fact holds, else 0
 abbrev pub one_if : {A : Type 0} → Dec A → ℕ
-one_if (yes _) = 1
-one_if (no _) = 0
-
--- v where a decided fact holds, else w
-abbrev pub choose : {A B : Type 0} → Dec A → B → B → B
-choose (yes _) v w = v
-choose (no _) v w = w
+one_if d = choose d 1 0
 
 -- how often a thing stands in a list
 abbrev pub times : {X : Type 0} → Discrete X → X → List X → ℕ

@@ -2,25 +2,26 @@
 use Rattle.std.proofs.Common.{◌≡◌, ℕ, suc, ◌+◌, ◌*◌, ◌%◌, List, [], ◌∷◌, refl, sym, ap, ◌∙◌, arith, append_assoc}
 use mathlib.Core.List.{◌++◌}
 use mathlib.Core.Path.{ap₂}
-use Rattle.modular_sums.specs.Sums.{hit, coef, scale, Same, expand, moved, AllTerms}
-use Rattle.modular_sums.proofs.Sums.{hit-mul, AllTerms-append, AllTerms-scale, scale-scale}
+use Rattle.modular_sums.specs.Sums.{coef, scale, Same, expand, moved, AllTerms}
+use Rattle.modular_sums.proofs.Sums.{choose-mul, AllTerms-append, AllTerms-scale, scale-scale}
 use Rattle.modular_sums.proofs.Replacements.{sum_over}
 use Rattle.modular_sums.proofs.Images.{sum_over-append, sum_over-scale, same_sum}
+use Rattle.modular_sums.specs.Lists.{choose}
 
 -- two sums count alike
 abbrev pub CountAlike : {M : Type 0} → List (ℕ × M) → List (ℕ × M) → Type 0
 CountAlike {M} d e = (h : M → ℕ) → sum_over d h ≡ sum_over e h
 
 -- a coefficient is a count
-pub coef-count : {M : Type 0} (dec : Discrete M) (e : List (ℕ × M)) (t : M) → coef dec e t ≡ sum_over e (λ x. hit (dec x t) 1)
+pub coef-count : {M : Type 0} (dec : Discrete M) (e : List (ℕ × M)) (t : M) → coef dec e t ≡ sum_over e (λ x. choose {B = ℕ} (dec x t) 1 0)
 unfolding coef
 coef-count dec [] t = refl
 coef-count dec (x ∷ e) t =
     let o : x.0 * 1 ≡ x.0 = omega arith in
-    ap₂ (λ m n. m + n) (sym (ap (hit (dec x.1 t)) o) ∙ hit-mul (dec x.1 t) x.0 1) (coef-count dec e t)
+    ap₂ (λ m n. m + n) (sym (ap (λ c. choose (dec x.1 t) c 0) o) ∙ choose-mul (dec x.1 t) x.0 1) (coef-count dec e t)
 
 pub same-count : {M : Type 0} (dec : Discrete M) (q : ℕ) (d e : List (ℕ × M)) → CountAlike d e → Same dec q d e
-same-count dec q d e h t = ap (λ n. n % suc q) (coef-count dec d t ∙ h (λ x. hit (dec x t) 1) ∙ sym (coef-count dec e t))
+same-count dec q d e h t = ap (λ n. n % suc q) (coef-count dec d t ∙ h (λ x. choose {B = ℕ} (dec x t) 1 0) ∙ sym (coef-count dec e t))
 
 -- ---- counts of sums that are made of others
 
@@ -68,6 +69,6 @@ expand-scale value c (x ∷ l) = ap₂ (λ a b. a ++ b) (scale-scale c x.0 (valu
 -- what is put for each monomial depends on the coefficients alone
 pub same-expand : {I M : Type 0} (deci : Discrete I) (decm : Discrete M) (q : ℕ) (value : I → List (ℕ × M)) (k l : List (ℕ × I)) → Same deci q k l → Same decm q (expand value k) (expand value l)
 same-expand {I} deci decm q value k l h t =
-    ap (λ n. n % suc q) (coef-count decm (expand value k) t ∙ count-expand value k (λ x. hit (decm x t) 1))
-    ∙ same_sum I deci q k l (λ i. sum_over (value i) (λ x. hit (decm x t) 1)) h
-    ∙ sym (ap (λ n. n % suc q) (coef-count decm (expand value l) t ∙ count-expand value l (λ x. hit (decm x t) 1)))
+    ap (λ n. n % suc q) (coef-count decm (expand value k) t ∙ count-expand value k (λ x. choose {B = ℕ} (decm x t) 1 0))
+    ∙ same_sum I deci q k l (λ i. sum_over (value i) (λ x. choose {B = ℕ} (decm x t) 1 0)) h
+    ∙ sym (ap (λ n. n % suc q) (coef-count decm (expand value l) t ∙ count-expand value l (λ x. choose {B = ℕ} (decm x t) 1 0)))

@@ -4,7 +4,7 @@ use mathlib.Core.List.{◌++◌}
 use native.Mathlib.Decide.{dec_lt, ℕ_discrete}
 use Rattle.modular_sums.specs.Residues.{IsCongruent}
 use Rattle.modular_sums.specs.Sums.{coef, scale, Same, expand}
-use Rattle.modular_sums.proofs.Residues.{alike_add, alike_mul, alike_drop}
+use Rattle.modular_sums.proofs.Residues.{congruent_add, congruent_mul, congruent_drop}
 use Rattle.modular_sums.proofs.Sums.{AllTerms-scale, AllTerms-append, coef-append, coef-scale, coef-expand, coef-expand_append, coef-expand_scale}
 use Rattle.modular_sums.specs.Diamond.{Meet, HaveLeadingTerms, LeadsBelow, Led}
 
@@ -33,10 +33,10 @@ module _ (M : Type 0) (dec : Discrete M) (rank : M → ℕ) (q : ℕ) where
       low_coef n [] t h le = refl
       low_coef n (x ∷ l) t h le =
           let ne : t ≢ lead x.1 = λ e. let r : rank t ≡ rank (lead x.1) = ap rank e in omega arith in
-          let a : IsCongruent q (x.0 * coef dec (value x.1) t) (x.0 * 0) = alike_mul q x.0 x.0 _ 0 refl (monic.above x.1 t ne (omega arith)) in
+          let a : IsCongruent q (x.0 * coef dec (value x.1) t) (x.0 * 0) = congruent_mul q x.0 x.0 _ 0 refl (monic.above x.1 t ne (omega arith)) in
           let z : x.0 * 0 + 0 ≡ 0 = omega arith in
           rw (coef-append dec (scale x.0 (value x.1)) (expand value l) t, coef-scale dec x.0 (value x.1) t)
-          (rw z at (alike_add q _ _ _ _ a (low_coef n l t h.1 le)))
+          (rw z at (congruent_add q _ _ _ _ a (low_coef n l t h.1 le)))
 
       record Lower (n : ℕ) (l : List (ℕ × I)) : Type 0 where
         uses : List (ℕ × I)
@@ -56,7 +56,7 @@ module _ (M : Type 0) (dec : Discrete M) (rank : M → ℕ) (q : ℕ) where
       cons_low n x l lt (inl r) = inl record {
         uses = x ∷ r.uses;
         lower = (lt, r.lower);
-        same = λ t. rw (coef-expand dec value x l t, coef-expand dec value x r.uses t) (alike_add q _ _ _ _ refl (r.same t));
+        same = λ t. rw (coef-expand dec value x l t, coef-expand dec value x r.uses t) (congruent_add q _ _ _ _ refl (r.same t));
       }
       cons_low n x l lt (inr r) = inr record {
         by = r.by;
@@ -69,7 +69,7 @@ module _ (M : Type 0) (dec : Discrete M) (rank : M → ℕ) (q : ℕ) where
             let b = coef dec (value r.top) t in
             let u = coef dec (expand value r.uses) t in
             let e : r.by * b + (x.0 * a + u) ≡ x.0 * a + (r.by * b + u) = omega arith in
-            rw (coef-expand dec value x l t, coef-expand dec value x r.uses t, e) (alike_add q _ _ _ _ refl (r.same t));
+            rw (coef-expand dec value x l t, coef-expand dec value x r.uses t, e) (congruent_add q _ _ _ _ refl (r.same t));
       }
 
       -- one more use whose host has rank n
@@ -80,7 +80,7 @@ module _ (M : Type 0) (dec : Discrete M) (rank : M → ℕ) (q : ℕ) where
         is_at = at;
         uses = r.uses;
         lower = r.lower;
-        same = λ t. rw (coef-expand dec value x l t) (alike_add q _ _ _ _ refl (r.same t));
+        same = λ t. rw (coef-expand dec value x l t) (congruent_add q _ _ _ _ refl (r.same t));
       }
       cons_top n x l at (inr r) =
           record {
@@ -107,11 +107,11 @@ module _ (M : Type 0) (dec : Discrete M) (rank : M → ℕ) (q : ℕ) where
           top_sum : (c d a b m u l lhs rhs : ℕ) → lhs ≡ c * a + l → rhs ≡ c * m + u → IsCongruent q (a + q * b) m → IsCongruent q l (d * b + u)
               → IsCongruent q lhs ((c + d) * b + rhs)
           top_sum c d a b m u l lhs rhs el er h k =
-              let s1 : IsCongruent q (c * (a + q * b) + l) (c * m + (d * b + u)) = alike_add q _ _ _ _ (alike_mul q c c _ _ refl h) k in
-              let s2 : IsCongruent q (c * (a + q * b) + l + c * b) (c * m + (d * b + u) + c * b) = alike_add q _ _ _ _ s1 refl in
+              let s1 : IsCongruent q (c * (a + q * b) + l) (c * m + (d * b + u)) = congruent_add q _ _ _ _ (congruent_mul q c c _ _ refl h) k in
+              let s2 : IsCongruent q (c * (a + q * b) + l + c * b) (c * m + (d * b + u) + c * b) = congruent_add q _ _ _ _ s1 refl in
               let e1 : c * (a + q * b) + l + c * b ≡ c * a + l + (c * b + q * (c * b)) = omega arith in
               let e2 : c * m + (d * b + u) + c * b ≡ (c + d) * b + (c * m + u) = omega arith in
-              rw (el, er) (sym (alike_drop q (c * a + l) (c * b)) ∙ (rw (e1, e2) at s2))
+              rw (el, er) (sym (congruent_drop q (c * a + l) (c * b)) ∙ (rw (e1, e2) at s2))
 
       place : (n : ℕ) (x : ℕ × I) (l : List (ℕ × I)) → rank (lead x.1) < suc n → Dec (rank (lead x.1) < n) → Lower n l ⊎ Split n l → Lower n (x ∷ l) ⊎ Split n (x ∷ l)
       place n x l h (yes lt) r = cons_low n x l lt r
@@ -126,7 +126,7 @@ module _ (M : Type 0) (dec : Discrete M) (rank : M → ℕ) (q : ℕ) where
         where
           gone : (c a u : ℕ) → IsCongruent q c 0 → IsCongruent q (c * a + u) u
           gone c a u z =
-              let k : IsCongruent q (c * a + u) (0 * a + u) = alike_add q _ _ u u (alike_mul q c 0 a a z refl) refl in
+              let k : IsCongruent q (c * a + u) (0 * a + u) = congruent_add q _ _ u u (congruent_mul q c 0 a a z refl) refl in
               let e : 0 * a + u ≡ u = omega arith in
               rw e at k
 
@@ -142,13 +142,13 @@ module _ (M : Type 0) (dec : Discrete M) (rank : M → ℕ) (q : ℕ) where
             where
               one : (c a u : ℕ) → IsCongruent q a 1 → IsCongruent q u 0 → IsCongruent q (c * a + u) 0 → IsCongruent q c 0
               one c a u ha hu h =
-                  let k : IsCongruent q (c * a + u) (c * 1 + 0) = alike_add q _ _ _ _ (alike_mul q c c _ _ refl ha) hu in
+                  let k : IsCongruent q (c * a + u) (c * 1 + 0) = congruent_add q _ _ _ _ (congruent_mul q c c _ _ refl ha) hu in
                   let e : c * 1 + 0 ≡ c = omega arith in
                   sym (rw e at k) ∙ h
 
               none : (c a u : ℕ) → IsCongruent q a 0 → IsCongruent q u 0 → IsCongruent q (c * a + u) 0
               none c a u ha hu =
-                  let k : IsCongruent q (c * a + u) (c * 0 + 0) = alike_add q _ _ _ _ (alike_mul q c c _ _ refl ha) hu in
+                  let k : IsCongruent q (c * a + u) (c * 0 + 0) = congruent_add q _ _ _ _ (congruent_mul q c c _ _ refl ha) hu in
                   let e : c * 0 + 0 ≡ 0 = omega arith in
                   rw e at k
 

@@ -3,7 +3,7 @@ use Rattle.std.proofs.Common.{◌≡◌, ℕ, suc, ◌+◌, ◌*◌, ◌%◌, Li
 use mathlib.Core.List.{◌++◌}
 use Rattle.modular_sums.specs.Residues.{IsCongruent}
 use Rattle.modular_sums.specs.Sums.{coef, scale, Same}
-use Rattle.modular_sums.proofs.Residues.{alike_drop, alike_of_gone, less_alike}
+use Rattle.modular_sums.proofs.Residues.{congruent_drop, congruent_of_gone, less_alike}
 use Rattle.modular_sums.proofs.Sums.{coef-append, coef-scale, Same-cancelled}
 use Rattle.modular_sums.proofs.Coefficients.{coef_nothing, coef_times}
 
@@ -12,7 +12,7 @@ module _ (q : ℕ) where
   negated : (h l f : ℕ) → IsCongruent q (h + q * (q * f)) (h + l + q * (l + q * f))
   negated h l f =
       let e : h + l + q * (l + q * f) ≡ h + q * (q * f) + (l + q * l) = omega arith in
-      sym (ap (λ n. n % suc q) e ∙ alike_drop q (h + q * (q * f)) l)
+      sym (ap (λ n. n % suc q) e ∙ congruent_drop q (h + q * (q * f)) l)
 
   -- c h + e - (c f + g) is c (h - f) + (e - g)
   added : (c h e f g : ℕ) → IsCongruent q (c * h + e + q * (c * f + g)) (c * (h + q * f) + (e + q * g))
@@ -25,8 +25,8 @@ module _ (q : ℕ) where
   forms_apart d e f g =
       let a : q * (d + q * f) + (d + q * e) + (e + q * g) ≡ q * (q * f) + q * g + (d + q * d) + (e + q * e) = omega arith in
       let b : q * (q * f) + q * g + (f + q * f) ≡ f + q * g + (q * f + q * (q * f)) = omega arith in
-      rw a (sym (alike_drop q (q * (q * f) + q * g + (d + q * d)) e ∙ alike_drop q (q * (q * f) + q * g) d
-      ∙ sym (alike_drop q (q * (q * f) + q * g) f) ∙ ap (λ n. n % suc q) b ∙ alike_drop q (f + q * g) (q * f)))
+      rw a (sym (congruent_drop q (q * (q * f) + q * g + (d + q * d)) e ∙ congruent_drop q (q * (q * f) + q * g) d
+      ∙ sym (congruent_drop q (q * (q * f) + q * g) f) ∙ ap (λ n. n % suc q) b ∙ congruent_drop q (f + q * g) (q * f)))
 
 module _ {M : Type 0} (dec : Discrete M) (q : ℕ) where
   abbrev co : List (ℕ × M) → M → ℕ
@@ -96,5 +96,5 @@ module _ {M : Type 0} (dec : Discrete M) (q : ℕ) where
       (less_alike q (co d t) (co e t) (co f t) (co g t) (h t))
 
   pub same_of_zero : (f g : List (ℕ × M)) → Same dec q (f ++ scale q g) [] → Same dec q f g
-  same_of_zero f g z t = alike_of_gone q (co f t) (co g t)
+  same_of_zero f g z t = congruent_of_gone q (co f t) (co g t)
       (ap (λ c. c % suc q) (sym (coef-append dec f (scale q g) t ∙ ap (λ c. co f t + c) (coef-scale dec q g t))) ∙ z t ∙ ap (λ c. c % suc q) (coef_nothing dec t))

@@ -1,14 +1,15 @@
 -- The laws with premises, met by numbers as monomials.
 use Rattle.std.proofs.Common.{Bool, true, false, inl, inr, ◌<◌, ◌*◌, ◌≡◌, ◌≢◌, ℕ, suc, ◌+◌, ◌%◌, sym, ◌∙◌, ◌≤◌, List, [], ◌∷◌, refl, ap, arith, ◌⊎◌}
 use native.Mathlib.Decide.{ℕ_discrete, dec_lt}
-use Rattle.modular_sums.specs.Lists.{Mem, holds}
+use Rattle.modular_sums.specs.Lists.{Mem, choose}
 use Rattle.modular_sums.specs.Ranks.{count_less}
 use Rattle.modular_sums.specs.Residues.{IsCongruent}
-use Rattle.modular_sums.specs.Sums.{hit, coef, scale, Same, expand, IsLinearCombination, moved}
+use Rattle.modular_sums.specs.Sums.{coef, scale, Same, expand, IsLinearCombination, moved}
 use Rattle.modular_sums.specs.Diamond.{HaveLeadingTerms, Meet, Led}
-use Rattle.modular_sums.proofs.Sums.{hit-no, Same-cancelled}
+use Rattle.modular_sums.proofs.Sums.{Same-cancelled}
 use Rattle.modular_sums.proofs.Sameness.{same_if_agree}
 use Rattle.modular_sums.proofs.Laws.{diamond_law, rank_law, image_law}
+use Rattle.modular_sums.proofs.Choices.{choose-no}
 
 -- 3 + 99 is 1 modulo 101
 one_again : IsCongruent 100 (3 + 99) 1
@@ -34,9 +35,9 @@ at_five = refl
 nothing_above : (t : ℕ) → t ≢ 5 → 5 ≤ t → IsCongruent 100 (coef ℕ_discrete (value tt) t) 0
 unfolding coef
 nothing_above t ne le =
-    let a = hit-no (ℕ_discrete 5 t) 1 (λ e. absurd (ne (sym e))) in
-    let b = hit-no (ℕ_discrete 3 t) 100 (λ e. absurd (omega (arith, e, le))) in
-    let z : hit (ℕ_discrete 5 t) 1 + (hit (ℕ_discrete 3 t) 100 + 0) ≡ 0 = omega (arith, a, b) in
+    let a = choose-no {B = ℕ} (ℕ_discrete 5 t) 1 0 (λ e. absurd (ne (sym e))) in
+    let b = choose-no {B = ℕ} (ℕ_discrete 3 t) 100 0 (λ e. absurd (omega (arith, e, le))) in
+    let z : choose {B = ℕ} (ℕ_discrete 5 t) 1 0 + (choose {B = ℕ} (ℕ_discrete 3 t) 100 0 + 0) ≡ 0 = omega (arith, a, b) in
     ap (λ n. n % suc 100) z
 
 hosts : HaveLeadingTerms ℕ_discrete (λ t. t) 100 value lead
@@ -56,13 +57,13 @@ led_by_five uses = diamond_law ℕ (Unit {0}) ℕ_discrete (λ t. t) 100 value l
 -- ---- numbers in a list, ranked by how many are less
 
 is_below : ℕ → ℕ → Bool
-is_below x y = holds (dec_lt x y) false
+is_below x y = choose (dec_lt x y) true false
 
 below_of : (x y : ℕ) → is_below x y ≡ true → x < y
 unfolding is_below
 below_of x y e = go (dec_lt x y) e
   where
-    go : (d : Dec (x < y)) → holds d false ≡ true → x < y
+    go : (d : Dec (x < y)) → choose d true false ≡ true → x < y
     go (yes h) e = h
     go (no f) e = absurd (cc e)
 
@@ -70,7 +71,7 @@ of_below : (x y : ℕ) → x < y → is_below x y ≡ true
 unfolding is_below
 of_below x y h = go (dec_lt x y)
   where
-    go : (d : Dec (x < y)) → holds d false ≡ true
+    go : (d : Dec (x < y)) → choose d true false ≡ true
     go (yes k) = refl
     go (no f) = absurd (f h)
 

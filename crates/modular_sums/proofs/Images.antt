@@ -3,10 +3,11 @@ use Rattle.std.proofs.Common.{◌≡◌, ◌≢◌, ℕ, zero, suc, ◌+◌, ◌
 use mathlib.Core.List.{◌++◌}
 use mathlib.Core.Path.{ap₂}
 use Rattle.modular_sums.specs.Residues.{IsCongruent}
-use Rattle.modular_sums.specs.Sums.{hit, coef, scale, Same, expand, moved, AllTerms}
-use Rattle.modular_sums.proofs.Residues.{alike_add, alike_mul, alike_gone, alike_of_gone}
+use Rattle.modular_sums.specs.Sums.{coef, scale, Same, expand, moved, AllTerms}
+use Rattle.modular_sums.proofs.Residues.{congruent_add, congruent_mul, congruent_gone, congruent_of_gone}
 use Rattle.modular_sums.proofs.Sums.{coef-append, coef-scale}
 use Rattle.modular_sums.proofs.Replacements.{sum_over, coef-moved}
+use Rattle.modular_sums.specs.Lists.{choose}
 
 abbrev keep : {X C : Type 0} → Dec C → X → List X → List X
 keep (yes _) x l = l
@@ -65,7 +66,7 @@ module _ (M : Type 0) (dec : Discrete M) (q : ℕ) where
   without_size m (x ∷ e) = omega (arith, keep_size x (x.1 ≡ m) (dec x.1 m) (without m e), without_size m e)
 
   kept_sum : (m : M) (x : ℕ × M) (d : Dec (x.1 ≡ m)) (l : List (ℕ × M)) (f : M → ℕ) (c s : ℕ) → s ≡ c * f m + sum_over l f
-      → x.0 * f x.1 + s ≡ (hit d x.0 + c) * f m + sum_over (keep d x l) f
+      → x.0 * f x.1 + s ≡ (choose d x.0 0 + c) * f m + sum_over (keep d x l) f
   kept_sum m x (yes e) l f c s h = rw (e, h) (omega arith)
   kept_sum m x (no n) l f c s h = omega arith
 
@@ -79,7 +80,7 @@ module _ (M : Type 0) (dec : Discrete M) (q : ℕ) where
   kept_same m x (yes e) l h = h
   kept_same m x (no n) l h = go (dec x.1 m)
     where
-      go : (d : Dec (x.1 ≡ m)) → hit d x.0 + coef dec l m ≡ 0
+      go : (d : Dec (x.1 ≡ m)) → choose d x.0 0 + coef dec l m ≡ 0
       go (yes e) = absurd (n e)
       go (no _) = omega arith
 
@@ -88,14 +89,14 @@ module _ (M : Type 0) (dec : Discrete M) (q : ℕ) where
   without_same m [] = refl
   without_same m (x ∷ e) = kept_same m x (dec x.1 m) (without m e) (without_same m e)
 
-  kept_other : (m t : M) → (t ≢ m) → (x : ℕ × M) (d : Dec (x.1 ≡ m)) (l : List (ℕ × M)) (c : ℕ) → coef dec l t ≡ c → coef dec (keep d x l) t ≡ hit (dec x.1 t) x.0 + c
+  kept_other : (m t : M) → (t ≢ m) → (x : ℕ × M) (d : Dec (x.1 ≡ m)) (l : List (ℕ × M)) (c : ℕ) → coef dec l t ≡ c → coef dec (keep d x l) t ≡ choose (dec x.1 t) x.0 0 + c
   unfolding coef
   kept_other m t ne x (yes e) l c h = go (dec x.1 t)
     where
-      go : (d : Dec (x.1 ≡ t)) → coef dec l t ≡ hit d x.0 + c
+      go : (d : Dec (x.1 ≡ t)) → coef dec l t ≡ choose d x.0 0 + c
       go (yes f) = absurd (ne (sym f ∙ e))
       go (no _) = omega arith
-  kept_other m t ne x (no n) l c h = ap (λ k. hit (dec x.1 t) x.0 + k) h
+  kept_other m t ne x (no n) l c h = ap (λ k. choose (dec x.1 t) x.0 0 + k) h
 
   without_other : (m t : M) → (t ≢ m) → (e : List (ℕ × M)) → coef dec (without m e) t ≡ coef dec e t
   unfolding without coef
@@ -106,7 +107,7 @@ module _ (M : Type 0) (dec : Discrete M) (q : ℕ) where
   unfolding coef
   head_other x e t ne = go (dec x.1 t)
     where
-      go : (d : Dec (x.1 ≡ t)) → hit d x.0 + coef dec e t ≡ coef dec e t
+      go : (d : Dec (x.1 ≡ t)) → choose d x.0 0 + coef dec e t ≡ coef dec e t
       go (yes f) = absurd (ne (sym f))
       go (no _) = omega arith
 
@@ -114,7 +115,7 @@ module _ (M : Type 0) (dec : Discrete M) (q : ℕ) where
   unfolding coef
   head_sum x e f = go (dec x.1 x.1)
     where
-      go : (d : Dec (x.1 ≡ x.1)) → x.0 * f x.1 + sum_over e f ≡ (hit d x.0 + coef dec e x.1) * f x.1 + sum_over (without x.1 e) f
+      go : (d : Dec (x.1 ≡ x.1)) → x.0 * f x.1 + sum_over e f ≡ (choose d x.0 0 + coef dec e x.1) * f x.1 + sum_over (without x.1 e) f
       go (yes _) = omega (arith, sum_without x.1 e f)
       go (no n) = absurd (n refl)
 
@@ -124,7 +125,7 @@ module _ (M : Type 0) (dec : Discrete M) (q : ℕ) where
   sums_zero (suc n) (x ∷ e) f le h =
       let k : IsCongruent q (sum_over (without x.1 e) f) 0 = sums_zero n (without x.1 e) f (omega (arith, without_size x.1 e, le)) (λ t. at t (dec t x.1)) in
       let z : 0 * f x.1 + 0 ≡ 0 = omega arith in
-      rw (head_sum x e f) (rw z at (alike_add q (coef dec (x ∷ e) x.1 * f x.1) (0 * f x.1) _ _ (alike_mul q (coef dec (x ∷ e) x.1) 0 (f x.1) (f x.1) (h x.1) refl) k))
+      rw (head_sum x e f) (rw z at (congruent_add q (coef dec (x ∷ e) x.1 * f x.1) (0 * f x.1) _ _ (congruent_mul q (coef dec (x ∷ e) x.1) 0 (f x.1) (f x.1) (h x.1) refl) k))
     where
       at : (t : M) → Dec (t ≡ x.1) → IsCongruent q (coef dec (without x.1 e) t) 0
       at t (yes p) = rw p (rw (without_same x.1 e) refl)
@@ -135,16 +136,16 @@ module _ (M : Type 0) (dec : Discrete M) (q : ℕ) where
   same_sum e g f h =
       let z : IsCongruent q (sum_over (e ++ scale q g) f) 0 = sums_zero (length (e ++ scale q g)) (e ++ scale q g) f (omega arith) gone in
       let s : IsCongruent q (sum_over e f + q * sum_over g f) 0 = rw (sum_over-append e (scale q g) f, sum_over-scale q g f) at z in
-      alike_of_gone q (sum_over e f) (sum_over g f) s
+      congruent_of_gone q (sum_over e f) (sum_over g f) s
     where
       gone : (t : M) → IsCongruent q (coef dec (e ++ scale q g) t) 0
       gone t =
-          let a : IsCongruent q (coef dec e t + q * coef dec g t) (coef dec g t + q * coef dec g t) = alike_add q (coef dec e t) (coef dec g t) _ _ (h t) refl in
-          rw (coef-append dec e (scale q g) t, coef-scale dec q g t) (a ∙ alike_gone q (coef dec g t))
+          let a : IsCongruent q (coef dec e t + q * coef dec g t) (coef dec g t + q * coef dec g t) = congruent_add q (coef dec e t) (coef dec g t) _ _ (h t) refl in
+          rw (coef-append dec e (scale q g) t, coef-scale dec q g t) (a ∙ congruent_gone q (coef dec g t))
 
 -- the images of one sum are one sum
 pub Same-moved : {M N : Type 0} (dec : Discrete M) (decn : Discrete N) (q : ℕ) (f : M → N) (e g : List (ℕ × M)) → Same dec q e g → Same decn q (moved f e) (moved f g)
-Same-moved {M} dec decn q f e g h t = rw (coef-moved decn f e t, coef-moved decn f g t) (same_sum M dec q e g (λ x. hit (decn (f x) t) 1) h)
+Same-moved {M} dec decn q f e g h t = rw (coef-moved decn f e t, coef-moved decn f g t) (same_sum M dec q e g (λ x. choose {B = ℕ} (decn (f x) t) 1 0) h)
 
 pub moved-scale : {M N : Type 0} (f : M → N) (c : ℕ) (e : List (ℕ × M)) → moved f (scale c e) ≡ scale c (moved f e)
 unfolding scale

@@ -4,8 +4,8 @@ use mathlib.Core.List.{append-nil}
 use Rattle.modular_sums.specs.Residues.{IsCongruent}
 use Rattle.modular_sums.specs.Sums.{coef, scale, Same, expand, moved}
 use Rattle.modular_sums.specs.Laws.{Residues, Sums, Spans, Images, Ranks, AbstractDiamondLemma, Replacements}
-use Rattle.modular_sums.proofs.Residues.{alike_add, alike_mul, alike_drop, alike_cancel}
-use Rattle.modular_sums.proofs.Sums.{coef-append, coef-scale, Member-append, Member-scale, Member-same}
+use Rattle.modular_sums.proofs.Residues.{congruent_add, congruent_mul, congruent_drop, congruent_cancel}
+use Rattle.modular_sums.proofs.Sums.{coef-append, coef-scale, combination-append, combination-scale, combination-same}
 use Rattle.modular_sums.proofs.Images.{Same-moved, moved-expand}
 use Rattle.modular_sums.proofs.Ranks.{rank_lt, rank_one}
 use Rattle.modular_sums.proofs.Diamond.{diamond}
@@ -16,10 +16,10 @@ residue_law q = record {
   reflexive = λ a. refl;
   symmetric = λ a b h. sym h;
   transitive = λ a b c h k. h ∙ k;
-  sums = alike_add q;
-  products = alike_mul q;
-  negative = λ a. let e : a + q * a ≡ 0 + (a + q * a) = omega arith in rw e (alike_drop q 0 a);
-  cancelled = alike_cancel q;
+  sums = congruent_add q;
+  products = congruent_mul q;
+  negative = λ a. let e : a + q * a ≡ 0 + (a + q * a) = omega arith in rw e (congruent_drop q 0 a);
+  cancelled = congruent_cancel q;
 }
 
 pub sum_law : (M : Type 0) → Sums M
@@ -29,8 +29,8 @@ sum_law M dec q = record {
   reflexive = λ e t. refl;
   symmetric = λ e f h t. sym (h t);
   transitive = λ e f g h k t. h t ∙ k t;
-  same_added = λ e f g h a b t. rw (coef-append dec e g t, coef-append dec f h t) (alike_add q (coef dec e t) (coef dec f t) (coef dec g t) (coef dec h t) (a t) (b t));
-  same_scaled = λ c e f a t. rw (coef-scale dec c e t, coef-scale dec c f t) (alike_mul q c c (coef dec e t) (coef dec f t) refl (a t));
+  same_added = λ e f g h a b t. rw (coef-append dec e g t, coef-append dec f h t) (congruent_add q (coef dec e t) (coef dec f t) (coef dec g t) (coef dec h t) (a t) (b t));
+  same_scaled = λ c e f a t. rw (coef-scale dec c e t, coef-scale dec c f t) (congruent_mul q c c (coef dec e t) (coef dec f t) refl (a t));
 }
 
 module _ (M I : Type 0) (dec : Discrete M) (value : I → List (ℕ × M)) (q : ℕ) where
@@ -47,9 +47,9 @@ pub span_law : (M I : Type 0) → Spans M I
 span_law M I dec value q = record {
   instances = λ i. record { uses = (1, i) ∷ []; adds_up = instance_of M I dec value q i };
   none = record { uses = []; adds_up = nothing_of M I dec value q };
-  added = λ e f. Member-append dec value q;
-  scaled = λ c e. Member-scale dec value q c;
-  same = λ e f. Member-same dec value q;
+  added = λ e f. combination-append dec value q;
+  scaled = λ c e. combination-scale dec value q c;
+  same = λ e f. combination-same dec value q;
 }
 
 pub image_law : (M N I J : Type 0) → Images M N I J

@@ -1,3 +1,4 @@
+pub mod Choices
 pub mod Coefficients
 pub mod Counted
 pub mod Diamond

@@ -4,7 +4,7 @@ use Rattle.std.specs.Prelude.{flat_map}
 use mathlib.Core.List.{◌++◌}
 use mathlib.Core.Path.{ap₂}
 use native.Mathlib.Decide.{ℕ_discrete}
-use Rattle.modular_sums.specs.Lists.{Mem, Distinct, Rises, holds, has_by, has}
+use Rattle.modular_sums.specs.Lists.{Mem, Distinct, Rises, has_by, has, choose}
 
 pub tail_same : {A : Type 0} (x y : A) (k l : List A) → x ∷ k ≡ y ∷ l → (x ≡ y) × (k ≡ l)
 tail_same x y k l e = (cc, cc)
@@ -65,7 +65,7 @@ pub has_by_mem : {X : Type 0} (dec : Discrete X) (l : List X) (v : X) → has_by
 has_by_mem dec [] v e = absurd (cc e)
 has_by_mem dec (x ∷ l) v e = go (dec v x) (λ h. has_by_mem dec l v h) e
   where
-    go : (d : Dec (v ≡ x)) → (has_by dec l v ≡ true → Mem v l) → holds d (has_by dec l v) ≡ true → (v ≡ x) ⊎ Mem v l
+    go : (d : Dec (v ≡ x)) → (has_by dec l v ≡ true → Mem v l) → choose d true (has_by dec l v) ≡ true → (v ≡ x) ⊎ Mem v l
     go (yes h) ih e = inl h
     go (no _) ih e = inr (ih e)
 
@@ -73,7 +73,7 @@ pub mem_has_by : {X : Type 0} (dec : Discrete X) (l : List X) (v : X) → Mem v 
 mem_has_by dec [] v h = absurd h
 mem_has_by dec (x ∷ l) v h = go (dec v x) (λ m. mem_has_by dec l v m) h
   where
-    go : (d : Dec (v ≡ x)) → (Mem v l → has_by dec l v ≡ true) → (v ≡ x) ⊎ Mem v l → holds d (has_by dec l v) ≡ true
+    go : (d : Dec (v ≡ x)) → (Mem v l → has_by dec l v ≡ true) → (v ≡ x) ⊎ Mem v l → choose d true (has_by dec l v) ≡ true
     go (yes _) ih h = refl
     go (no f) ih (inl e) = absurd (f e)
     go (no f) ih (inr m) = ih m

@@ -4,11 +4,12 @@ use mathlib.Core.List.{◌++◌}
 use Rattle.std.specs.declared.cmp.Ordering.{Ordering}
 use Rattle.std.specs.declared.cmp.Ordering.TheVariants.{Less}
 use Rattle.modular_sums.specs.Residues.{IsCongruent}
-use Rattle.modular_sums.specs.Sums.{hit, coef, scale, Same}
+use Rattle.modular_sums.specs.Sums.{coef, scale, Same}
 use Rattle.modular_sums.proofs.Sums.{coef-append, coef-scale}
-use Rattle.modular_sums.proofs.Residues.{alike_add}
+use Rattle.modular_sums.proofs.Residues.{congruent_add}
 use Rattle.modular_sums.specs.Falling.{IsAbove, Falls, AreNonzeroResidues, IsFalling}
 use Rattle.modular_sums.specs.Merging.{unless_zero, IsMerging}
+use Rattle.modular_sums.specs.Lists.{choose}
 
 module _ {M : Type 0} (compare : M → M → Ordering) where
   -- what is behind the front falls too
@@ -43,19 +44,19 @@ module _ {M : Type 0} (compare : M → M → Ordering) where
 
 -- ---- coefficients
 
-alike_hit : {A : Type 0} (q : ℕ) (d : Dec A) (r a b c : ℕ) → IsCongruent q r (a + c * b) → IsCongruent q (hit d r) (hit d a + c * hit d b)
-alike_hit q (yes _) r a b c h = h
-alike_hit q (no _) r a b c h = let e : 0 + c * 0 ≡ 0 = omega arith in rw e refl
+congruent_choose : {A : Type 0} (q : ℕ) (d : Dec A) (r a b c : ℕ) → IsCongruent q r (a + c * b) → IsCongruent q (choose d r 0) (choose d a 0 + c * choose d b 0)
+congruent_choose q (yes _) r a b c h = h
+congruent_choose q (no _) r a b c h = let e : 0 + c * 0 ≡ 0 = omega arith in rw e refl
 
-hit-zero : {A : Type 0} (d : Dec A) → hit d 0 ≡ 0
-hit-zero (yes _) = refl
-hit-zero (no _) = refl
+choose-zero : {A : Type 0} (d : Dec A) → choose {B = ℕ} d 0 0 ≡ 0
+choose-zero (yes _) = refl
+choose-zero (no _) = refl
 
 module _ {M : Type 0} (dec : Discrete M) where
   -- a term that was left out counts nothing
-  pub coef-unless_zero : (c : ℕ) (m t : M) → coef dec (unless_zero c m) t ≡ hit (dec m t) c
+  pub coef-unless_zero : (c : ℕ) (m t : M) → coef dec (unless_zero c m) t ≡ choose (dec m t) c 0
   unfolding coef
-  coef-unless_zero zero m t = sym (hit-zero (dec m t))
+  coef-unless_zero zero m t = sym (choose-zero (dec m t))
   coef-unless_zero (suc c) m t = omega arith
 
   -- the coefficient of what is made with what is left
@@ -81,12 +82,12 @@ module _ {M : Type 0} (dec : Discrete M) where
         let front = coef-append dec made (unless_zero r y.1) t in
         let term = coef-unless_zero r y.1 t in
         let zero_first : c * y.0 ≡ 0 + c * y.0 = omega arith in
-        let here : IsCongruent q (hit (dec y.1 t) r) (hit (dec y.1 t) 0 + c * hit (dec y.1 t) y.0) = alike_hit q (dec y.1 t) r 0 y.0 c (h ∙ ap (λ n. n % suc q) zero_first) in
-        let none : hit (dec y.1 t) 0 ≡ 0 = hit-zero (dec y.1 t) in
+        let here : IsCongruent q (choose (dec y.1 t) r 0) (choose {B = ℕ} (dec y.1 t) 0 0 + c * choose (dec y.1 t) y.0 0) = congruent_choose q (dec y.1 t) r 0 y.0 c (h ∙ ap (λ n. n % suc q) zero_first) in
+        let none : choose {B = ℕ} (dec y.1 t) 0 0 ≡ 0 = choose-zero (dec y.1 t) in
         let rest = coef dec made t + (coef dec left t + c * coef dec right t) in
-        let before : coef dec ((made ++ unless_zero r y.1) ++ (left ++ scale c right)) t ≡ rest + hit (dec y.1 t) r = omega (arith, new, front, term) in
-        let after : rest + (hit (dec y.1 t) 0 + c * hit (dec y.1 t) y.0) ≡ coef dec (made ++ (left ++ scale c (y ∷ right))) t = omega (arith, old, none) in
-        ap (λ n. n % suc q) before ∙ alike_add q rest rest _ _ refl here ∙ ap (λ n. n % suc q) after
+        let before : coef dec ((made ++ unless_zero r y.1) ++ (left ++ scale c right)) t ≡ rest + choose (dec y.1 t) r 0 = omega (arith, new, front, term) in
+        let after : rest + (choose {B = ℕ} (dec y.1 t) 0 0 + c * choose (dec y.1 t) y.0 0) ≡ coef dec (made ++ (left ++ scale c (y ∷ right))) t = omega (arith, old, none) in
+        ap (λ n. n % suc q) before ∙ congruent_add q rest rest _ _ refl here ∙ ap (λ n. n % suc q) after
 
     -- two terms with one monomial
     pub same_both : (made left right : List (ℕ × M)) (x y : ℕ × M) (r : ℕ) → y.1 ≡ x.1 → IsCongruent q r (x.0 + c * y.0)
@@ -97,12 +98,12 @@ module _ {M : Type 0} (dec : Discrete M) where
         let old = coef-left c made (x ∷ left) (y ∷ right) t in
         let front = coef-append dec made (unless_zero r x.1) t in
         let term = coef-unless_zero r x.1 t in
-        let other : hit (dec y.1 t) y.0 ≡ hit (dec x.1 t) y.0 = ap (λ m. hit (dec m t) y.0) e in
-        let here : IsCongruent q (hit (dec x.1 t) r) (hit (dec x.1 t) x.0 + c * hit (dec x.1 t) y.0) = alike_hit q (dec x.1 t) r x.0 y.0 c h in
+        let other : choose (dec y.1 t) y.0 0 ≡ choose (dec x.1 t) y.0 0 = ap (λ m. choose (dec m t) y.0 0) e in
+        let here : IsCongruent q (choose (dec x.1 t) r 0) (choose (dec x.1 t) x.0 0 + c * choose (dec x.1 t) y.0 0) = congruent_choose q (dec x.1 t) r x.0 y.0 c h in
         let rest = coef dec made t + (coef dec left t + c * coef dec right t) in
-        let before : coef dec ((made ++ unless_zero r x.1) ++ (left ++ scale c right)) t ≡ rest + hit (dec x.1 t) r = omega (arith, new, front, term) in
-        let after : rest + (hit (dec x.1 t) x.0 + c * hit (dec x.1 t) y.0) ≡ coef dec (made ++ ((x ∷ left) ++ scale c (y ∷ right))) t = omega (arith, old, ap (λ n. c * n) other) in
-        ap (λ n. n % suc q) before ∙ alike_add q rest rest _ _ refl here ∙ ap (λ n. n % suc q) after
+        let before : coef dec ((made ++ unless_zero r x.1) ++ (left ++ scale c right)) t ≡ rest + choose (dec x.1 t) r 0 = omega (arith, new, front, term) in
+        let after : rest + (choose (dec x.1 t) x.0 0 + c * choose (dec x.1 t) y.0 0) ≡ coef dec (made ++ ((x ∷ left) ++ scale c (y ∷ right))) t = omega (arith, old, ap (λ n. c * n) other) in
+        ap (λ n. n % suc q) before ∙ congruent_add q rest rest _ _ refl here ∙ ap (λ n. n % suc q) after
 
 -- ---- steps
 

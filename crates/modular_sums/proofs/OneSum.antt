@@ -5,11 +5,12 @@ use Rattle.std.proofs.Math.Nat.{mod-eq_of_lt}
 use Rattle.std.specs.declared.cmp.Ordering.{Ordering}
 use Rattle.std.specs.declared.cmp.Ordering.TheVariants.{Less}
 use Rattle.modular_sums.specs.Residues.{IsCongruent}
-use Rattle.modular_sums.specs.Sums.{hit, coef, Same, AllTerms}
-use Rattle.modular_sums.proofs.Residues.{alike_cancel}
+use Rattle.modular_sums.specs.Sums.{coef, Same, AllTerms}
+use Rattle.modular_sums.proofs.Residues.{congruent_cancel}
 use Rattle.modular_sums.proofs.Coefficients.{coef_absent, coef_first, coef_nothing}
 use Rattle.modular_sums.specs.Falling.{IsAbove, Falls, IsFalling, IsStrict}
 use Rattle.modular_sums.specs.FallingLaws.{FallingSums}
+use Rattle.modular_sums.specs.Lists.{choose}
 
 -- a residue that is alike 0 is 0
 pub residue_zero : (p a : ℕ) → 0 < p → a < p → 0 < a → IsCongruent (p - 1) a 0 → ⊥
@@ -92,10 +93,10 @@ module _ {M : Type 0} (compare : M → M → Ordering) (dec : Discrete M) (stric
     same_rest : (x y : ℕ × M) (k l : List (ℕ × M)) → x.1 ≡ y.1 → x.0 ≡ y.0 → Same dec (p - 1) (x ∷ k) (y ∷ l) → Same dec (p - 1) k l
     unfolding coef
     same_rest x y k l e n s t =
-        let first : hit (dec x.1 t) x.0 ≡ hit (dec y.1 t) y.0 = ap₂ (λ m c. hit (dec m t) c) e n in
-        let left : coef dec (x ∷ k) t ≡ coef dec k t + hit (dec x.1 t) x.0 = omega arith in
-        let right : coef dec (y ∷ l) t ≡ coef dec l t + hit (dec x.1 t) x.0 = omega (arith, first) in
-        alike_cancel (p - 1) (coef dec k t) (coef dec l t) (hit (dec x.1 t) x.0) (ap (λ m. m % suc (p - 1)) (sym left) ∙ s t ∙ ap (λ m. m % suc (p - 1)) right)
+        let first : choose (dec x.1 t) x.0 0 ≡ choose (dec y.1 t) y.0 0 = ap₂ (λ m c. choose (dec m t) c 0) e n in
+        let left : coef dec (x ∷ k) t ≡ coef dec k t + choose (dec x.1 t) x.0 0 = omega arith in
+        let right : coef dec (y ∷ l) t ≡ coef dec l t + choose (dec x.1 t) x.0 0 = omega (arith, first) in
+        congruent_cancel (p - 1) (coef dec k t) (coef dec l t) (choose (dec x.1 t) x.0 0) (ap (λ m. m % suc (p - 1)) (sym left) ∙ s t ∙ ap (λ m. m % suc (p - 1)) right)
 
     pub one_sum : (k l : List (ℕ × M)) → IsFalling compare p k → IsFalling compare p l → Same dec (p - 1) k l → k ≡ l
     one_sum [] [] f g s = refl

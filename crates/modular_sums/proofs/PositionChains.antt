@@ -3,7 +3,7 @@ use Rattle.std.proofs.Common.{ℕ, ◌*◌, List, [], ◌∷◌, refl, sym, ◌�
 use mathlib.Core.List.{◌++◌}
 use native.Mathlib.Decide.{ℕ_discrete}
 use Rattle.modular_sums.specs.Sums.{coef, scale, Same}
-use Rattle.modular_sums.proofs.Residues.{alike_add}
+use Rattle.modular_sums.proofs.Residues.{congruent_add}
 use Rattle.modular_sums.proofs.Sums.{coef-append}
 use Rattle.modular_sums.specs.RuleTables.{Table, rule_at}
 use Rattle.modular_sums.specs.PositionChains.{HasPosition, IsPositionStep, IsPositionChain}
@@ -16,7 +16,7 @@ module _ (q : ℕ) where
   stands_same d e h t s z = s (h t ∙ z)
 
   pub same_added : (d e f : Sum) → Same ℕ_discrete q d e → Same ℕ_discrete q (d ++ f) (e ++ f)
-  same_added d e f h t = rw (coef-append ℕ_discrete d f t, coef-append ℕ_discrete e f t) (alike_add q _ _ (coef ℕ_discrete f t) (coef ℕ_discrete f t) (h t) refl)
+  same_added d e f h t = rw (coef-append ℕ_discrete d f t, coef-append ℕ_discrete e f t) (congruent_add q _ _ (coef ℕ_discrete f t) (coef ℕ_discrete f t) (h t) refl)
 
   module _ (table : Table) where
     -- the last sum may be written anew

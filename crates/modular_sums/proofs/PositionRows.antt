@@ -1,22 +1,23 @@
 -- The coefficients of a row.
 use Rattle.std.proofs.Common.{◌≡◌, ◌≢◌, ℕ, zero, suc, ◌+◌, ◌<◌, List, [], ◌∷◌, length, get_or, arith, refl}
 use native.Mathlib.Decide.{ℕ_discrete}
-use Rattle.modular_sums.specs.Sums.{hit, coef, AllTerms}
-use Rattle.modular_sums.proofs.Sums.{hit-yes, hit-no}
+use Rattle.modular_sums.specs.Sums.{coef, AllTerms}
 use Rattle.modular_sums.proofs.Images.{AllTerms-imp}
 use Rattle.modular_sums.specs.PositionRows.{dense_from, dense, RowsAreSums}
+use Rattle.modular_sums.specs.Lists.{choose}
+use Rattle.modular_sums.proofs.Choices.{choose-yes, choose-no}
 
-hit_here : (k x : ℕ) → hit (ℕ_discrete k k) x ≡ x
-hit_here k x = hit-yes (ℕ_discrete k k) x refl
+hit_here : (k x : ℕ) → choose (ℕ_discrete k k) x 0 ≡ x
+hit_here k x = choose-yes (ℕ_discrete k k) x 0 refl
 
-hit_not : (k t x : ℕ) → k ≢ t → hit (ℕ_discrete k t) x ≡ 0
-hit_not k t x n = hit-no (ℕ_discrete k t) x n
+choose_not : (k t x : ℕ) → k ≢ t → choose (ℕ_discrete k t) x 0 ≡ 0
+choose_not k t x n = choose-no (ℕ_discrete k t) x 0 n
 
 -- no position below the first
 coef_below : (row : List ℕ) (k t : ℕ) → t < k → coef ℕ_discrete (dense_from k row) t ≡ 0
 unfolding coef
 coef_below [] k t h = refl
-coef_below (x ∷ row) k t h = let n : k ≢ t = omega arith in rw (hit_not k t x n, coef_below row (suc k) t (omega arith)) (omega arith)
+coef_below (x ∷ row) k t h = let n : k ≢ t = omega arith in rw (choose_not k t x n, coef_below row (suc k) t (omega arith)) (omega arith)
 
 coef_from : (row : List ℕ) (k j : ℕ) → coef ℕ_discrete (dense_from k row) (k + j) ≡ get_or row j 0
 unfolding coef
@@ -27,7 +28,7 @@ coef_from (x ∷ row) k (suc j) =
     let n : k ≢ k + suc j = omega arith in
     let e : k + suc j ≡ suc k + j = omega arith in
     let z : 0 + get_or row j 0 ≡ get_or row j 0 = omega arith in
-    rw (hit_not k (k + suc j) x n, e, coef_from row (suc k) j) z
+    rw (choose_not k (k + suc j) x n, e, coef_from row (suc k) j) z
 
 -- the coefficient of a position is the number there
 pub coef-dense : (row : List ℕ) (t : ℕ) → coef ℕ_discrete (dense row) t ≡ get_or row t 0

@@ -3,9 +3,10 @@ use Rattle.std.proofs.Common.{◌≡◌, ℕ, suc, ◌+◌, ◌*◌, ◌%◌, Li
 use mathlib.Core.List.{◌++◌}
 use mathlib.Core.Path.{ap₂}
 use Rattle.modular_sums.specs.Residues.{IsCongruent}
-use Rattle.modular_sums.specs.Sums.{hit, coef, scale, Same, expand, moved}
-use Rattle.modular_sums.proofs.Residues.{alike_drop}
-use Rattle.modular_sums.proofs.Sums.{expand-moved, hit-mul, coef-append, coef-scale, coef-expand_append, coef-expand_scale}
+use Rattle.modular_sums.specs.Sums.{coef, scale, Same, expand, moved}
+use Rattle.modular_sums.proofs.Residues.{congruent_drop}
+use Rattle.modular_sums.proofs.Sums.{expand-moved, choose-mul, coef-append, coef-scale, coef-expand_append, coef-expand_scale}
+use Rattle.modular_sums.specs.Lists.{choose}
 
 -- the sum of the coefficients times f
 abbrev pub sum_over : {X : Type 0} → List (ℕ × X) → (X → ℕ) → ℕ
@@ -38,11 +39,11 @@ sum_over_ext [] f g h = refl
 sum_over_ext (x ∷ l) f g h = rw (h x.1, sum_over_ext l f g h)
 
 module _ {M : Type 0} (dec : Discrete M) where
-  pub coef-moved : {X : Type 0} (f : X → M) (e : List (ℕ × X)) (t : M) → coef dec (moved f e) t ≡ sum_over e (λ x. hit (dec (f x) t) 1)
+  pub coef-moved : {X : Type 0} (f : X → M) (e : List (ℕ × X)) (t : M) → coef dec (moved f e) t ≡ sum_over e (λ x. choose {B = ℕ} (dec (f x) t) 1 0)
   unfolding coef
   coef-moved f [] t = refl
   coef-moved f (x ∷ e) t =
-      let h : hit (dec (f x.1) t) (x.0 * 1) ≡ x.0 * hit (dec (f x.1) t) 1 = hit-mul (dec (f x.1) t) x.0 1 in
+      let h : choose (dec (f x.1) t) (x.0 * 1) 0 ≡ x.0 * choose {B = ℕ} (dec (f x.1) t) 1 0 = choose-mul (dec (f x.1) t) x.0 1 in
       let o : x.0 * 1 ≡ x.0 = omega arith in
       rw (coef-moved f e t, ← h, o)
 
@@ -59,22 +60,22 @@ module _ {M : Type 0} (dec : Discrete M) where
       abbrev pub pair_uses : List (ℕ × I)
       pair_uses = moved by_second g ++ scale q (moved by_first h)
 
-      first_coef : (y : Y) (t : M) → coef dec (value (by_first y)) t ≡ sum_over ((1, a) ∷ g) (λ x. hit (dec (both x y) t) 1)
+      first_coef : (y : Y) (t : M) → coef dec (value (by_first y)) t ≡ sum_over ((1, a) ∷ g) (λ x. choose {B = ℕ} (dec (both x y) t) 1 0)
       first_coef y t = rw (first_is y, coef-moved (λ x. both x y) ((1, a) ∷ g) t)
 
-      second_coef : (x : X) (t : M) → coef dec (value (by_second x)) t ≡ sum_over ((1, b) ∷ h) (λ y. hit (dec (both x y) t) 1)
+      second_coef : (x : X) (t : M) → coef dec (value (by_second x)) t ≡ sum_over ((1, b) ∷ h) (λ y. choose {B = ℕ} (dec (both x y) t) 1 0)
       second_coef x t = rw (second_is x, coef-moved (both x) ((1, b) ∷ h) t)
 
       -- all products, summed either way
       balance : (t : M) → coef dec (value (by_second a)) t + sum_over g (λ x. coef dec (value (by_second x)) t)
           ≡ coef dec (value (by_first b)) t + sum_over h (λ y. coef dec (value (by_first y)) t)
       balance t =
-          let s : sum_over ((1, a) ∷ g) (λ x. sum_over ((1, b) ∷ h) (λ y. hit (dec (both x y) t) 1)) ≡ sum_over ((1, b) ∷ h) (λ y. sum_over ((1, a) ∷ g) (λ x. hit (dec (both x y) t) 1))
-          = sum_over_swap ((1, a) ∷ g) ((1, b) ∷ h) (λ x y. hit (dec (both x y) t) 1) in
-          let l : sum_over ((1, a) ∷ g) (λ x. coef dec (value (by_second x)) t) ≡ sum_over ((1, a) ∷ g) (λ x. sum_over ((1, b) ∷ h) (λ y. hit (dec (both x y) t) 1))
-          = sum_over_ext ((1, a) ∷ g) (λ x. coef dec (value (by_second x)) t) (λ x. sum_over ((1, b) ∷ h) (λ y. hit (dec (both x y) t) 1)) (λ x. second_coef x t) in
-          let r : sum_over ((1, b) ∷ h) (λ y. coef dec (value (by_first y)) t) ≡ sum_over ((1, b) ∷ h) (λ y. sum_over ((1, a) ∷ g) (λ x. hit (dec (both x y) t) 1))
-          = sum_over_ext ((1, b) ∷ h) (λ y. coef dec (value (by_first y)) t) (λ y. sum_over ((1, a) ∷ g) (λ x. hit (dec (both x y) t) 1)) (λ y. first_coef y t) in
+          let s : sum_over ((1, a) ∷ g) (λ x. sum_over ((1, b) ∷ h) (λ y. choose {B = ℕ} (dec (both x y) t) 1 0)) ≡ sum_over ((1, b) ∷ h) (λ y. sum_over ((1, a) ∷ g) (λ x. choose {B = ℕ} (dec (both x y) t) 1 0))
+          = sum_over_swap ((1, a) ∷ g) ((1, b) ∷ h) (λ x y. choose {B = ℕ} (dec (both x y) t) 1 0) in
+          let l : sum_over ((1, a) ∷ g) (λ x. coef dec (value (by_second x)) t) ≡ sum_over ((1, a) ∷ g) (λ x. sum_over ((1, b) ∷ h) (λ y. choose {B = ℕ} (dec (both x y) t) 1 0))
+          = sum_over_ext ((1, a) ∷ g) (λ x. coef dec (value (by_second x)) t) (λ x. sum_over ((1, b) ∷ h) (λ y. choose {B = ℕ} (dec (both x y) t) 1 0)) (λ x. second_coef x t) in
+          let r : sum_over ((1, b) ∷ h) (λ y. coef dec (value (by_first y)) t) ≡ sum_over ((1, b) ∷ h) (λ y. sum_over ((1, a) ∷ g) (λ x. choose {B = ℕ} (dec (both x y) t) 1 0))
+          = sum_over_ext ((1, b) ∷ h) (λ y. coef dec (value (by_first y)) t) (λ y. sum_over ((1, a) ∷ g) (λ x. choose {B = ℕ} (dec (both x y) t) 1 0)) (λ y. first_coef y t) in
           let e : sum_over ((1, a) ∷ g) (λ x. coef dec (value (by_second x)) t) ≡ sum_over ((1, b) ∷ h) (λ y. coef dec (value (by_first y)) t) = l ∙ s ∙ sym r in
           one_times _ _ _ _ e
         where
@@ -97,7 +98,7 @@ module _ {M : Type 0} (dec : Discrete M) where
           settle u v w z e =
               let k : q * (u + v) ≡ q * (w + z) = ap (λ n. q * n) e in
               let s : w + q * u + (z + q * z) ≡ v + q * z + (u + q * u) = omega arith in
-              sym (alike_drop q (w + q * u) z) ∙ ap (λ n. n % suc q) s ∙ alike_drop q (v + q * z) u
+              sym (congruent_drop q (w + q * u) z) ∙ ap (λ n. n % suc q) s ∙ congruent_drop q (v + q * z) u
 
 pub independent : {M X Y : Type 0} (dec : Discrete M) (q : ℕ) (both : X → Y → M) (a : X) (g : List (ℕ × X)) (b : Y) (h : List (ℕ × Y))
     → Same dec q (moved (λ x. both x b) ((1, a) ∷ g) ++ scale q (moved (both a) ((1, b) ∷ h)))

@@ -3,9 +3,9 @@ use Rattle.std.proofs.Common.{◌≡◌, ℕ, suc, ◌%◌, ◌+◌, List, [], �
 use mathlib.Core.Path.{ap₂}
 use mathlib.Core.List.{◌++◌}
 use native.Mathlib.Decide.{ℕ_discrete}
-use Rattle.modular_sums.specs.Lists.{Mem, holds, has_by}
+use Rattle.modular_sums.specs.Lists.{Mem, has_by, choose}
 use Rattle.modular_sums.specs.Residues.{IsCongruent}
-use Rattle.modular_sums.specs.Sums.{hit, coef, Same}
+use Rattle.modular_sums.specs.Sums.{coef, Same}
 use Rattle.modular_sums.proofs.Lists.{both_true, has_by_mem, mem_has_by, mem_left, mem_right}
 
 -- the monomials of a sum
@@ -14,7 +14,7 @@ monomials [] = []
 monomials (x ∷ e) = x.1 ∷ monomials e
 
 abbrev is_yes : {A : Type 0} → Dec A → Bool
-is_yes d = holds d false
+is_yes d = choose d true false
 
 -- e and f have one coefficient at each monomial of the list
 abbrev pub agree_at : {M : Type 0} → Discrete M → ℕ → List (ℕ × M) → List (ℕ × M) → List M → Bool
@@ -32,7 +32,7 @@ module _ {M : Type 0} (dec : Discrete M) where
   not_there [] t h = refl
   not_there (x ∷ e) t h = ap₂ (λ m n. m + n) (missed (dec x.1 t)) (not_there e t (λ m. h (inr m)))
     where
-      missed : (d : Dec (x.1 ≡ t)) → hit d x.0 ≡ 0
+      missed : (d : Dec (x.1 ≡ t)) → choose d x.0 0 ≡ 0
       missed (yes s) = absurd (h (inl (sym s)))
       missed (no _) = refl
 

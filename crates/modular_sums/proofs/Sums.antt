@@ -2,22 +2,14 @@
 use Rattle.std.proofs.Common.{suc, ◌%◌, sym, ap, ◌≡◌, ℕ, ◌+◌, ◌*◌, List, [], ◌∷◌, arith, refl, ◌∙◌}
 use mathlib.Core.List.{◌++◌}
 use mathlib.Core.Path.{ap₂}
-use Rattle.modular_sums.specs.Sums.{moved, AllTerms, hit, coef, scale, Same, expand, IsLinearCombination}
-use Rattle.modular_sums.proofs.Residues.{alike_drop, alike_add, alike_mul, alike_gone}
+use Rattle.modular_sums.specs.Sums.{moved, AllTerms, coef, scale, Same, expand, IsLinearCombination}
+use Rattle.modular_sums.proofs.Residues.{congruent_drop, congruent_add, congruent_mul, congruent_gone}
 use Rattle.modular_sums.specs.Residues.{IsCongruent}
+use Rattle.modular_sums.specs.Lists.{choose}
 
--- what a number counts at a fact that holds, and at one that does not
-pub hit-yes : {A : Type 0} (d : Dec A) (c : ℕ) → A → hit d c ≡ c
-hit-yes (yes _) c a = refl
-hit-yes (no f) c a = absurd (f a)
-
-pub hit-no : {A : Type 0} (d : Dec A) (c : ℕ) → (A → ⊥) → hit d c ≡ 0
-hit-no (yes a) c f = absurd (f a)
-hit-no (no _) c f = refl
-
-pub hit-mul : {A : Type 0} (d : Dec A) (k c : ℕ) → hit d (k * c) ≡ k * hit d c
-hit-mul (yes _) k c = refl
-hit-mul (no _) k c = omega arith
+pub choose-mul : {A : Type 0} (d : Dec A) (k c : ℕ) → choose d (k * c) 0 ≡ k * choose d c 0
+choose-mul (yes _) k c = refl
+choose-mul (no _) k c = omega arith
 
 pub scale-scale : {M : Type 0} (c d : ℕ) (e : List (ℕ × M)) → scale (c * d) e ≡ scale c (scale d e)
 unfolding scale
@@ -33,7 +25,7 @@ module _ {M : Type 0} (dec : Discrete M) where
   pub coef-scale : (c : ℕ) (e : List (ℕ × M)) (t : M) → coef dec (scale c e) t ≡ c * coef dec e t
   unfolding coef scale
   coef-scale c [] t = omega arith
-  coef-scale c (x ∷ e) t = omega (arith, coef-scale c e t, hit-mul (dec x.1 t) c x.0)
+  coef-scale c (x ∷ e) t = omega (arith, coef-scale c e t, choose-mul (dec x.1 t) c x.0)
 
   module _ {I : Type 0} (value : I → List (ℕ × M)) where
     pub coef-expand : (x : ℕ × I) (l : List (ℕ × I)) (t : M) → coef dec (expand value (x ∷ l)) t ≡ x.0 * coef dec (value x.1) t + coef dec (expand value l) t
@@ -50,31 +42,31 @@ module _ {M : Type 0} (dec : Discrete M) where
     coef-expand_scale c [] t = omega arith
     coef-expand_scale c (x ∷ l) t = simp (coef-append, coef-scale) (omega (arith, coef-expand_scale c l t))
 
-    pub Member-append : (q : ℕ) {e f : List (ℕ × M)} → IsLinearCombination dec value q e → IsLinearCombination dec value q f → IsLinearCombination dec value q (e ++ f)
-    Member-append q {e} {f} m n = record {
+    pub combination-append : (q : ℕ) {e f : List (ℕ × M)} → IsLinearCombination dec value q e → IsLinearCombination dec value q f → IsLinearCombination dec value q (e ++ f)
+    combination-append q {e} {f} m n = record {
       uses = m.uses ++ n.uses;
-      adds_up = λ t. rw (coef-append e f t, coef-expand_append m.uses n.uses t) (alike_add q _ _ _ _ (m.adds_up t) (n.adds_up t));
+      adds_up = λ t. rw (coef-append e f t, coef-expand_append m.uses n.uses t) (congruent_add q _ _ _ _ (m.adds_up t) (n.adds_up t));
     }
 
-    pub Member-scale : (q c : ℕ) {e : List (ℕ × M)} → IsLinearCombination dec value q e → IsLinearCombination dec value q (scale c e)
-    Member-scale q c {e} m = record {
+    pub combination-scale : (q c : ℕ) {e : List (ℕ × M)} → IsLinearCombination dec value q e → IsLinearCombination dec value q (scale c e)
+    combination-scale q c {e} m = record {
       uses = scale c m.uses;
-      adds_up = λ t. rw (coef-scale c e t, coef-expand_scale c m.uses t) (alike_mul q c c _ _ refl (m.adds_up t));
+      adds_up = λ t. rw (coef-scale c e t, coef-expand_scale c m.uses t) (congruent_mul q c c _ _ refl (m.adds_up t));
     }
 
-    pub Member-same : (q : ℕ) {e f : List (ℕ × M)} → Same dec q e f → IsLinearCombination dec value q f → IsLinearCombination dec value q e
-    Member-same q s m = record { uses = m.uses; adds_up = λ t. s t ∙ m.adds_up t }
+    pub combination-same : (q : ℕ) {e f : List (ℕ × M)} → Same dec q e f → IsLinearCombination dec value q f → IsLinearCombination dec value q e
+    combination-same q s m = record { uses = m.uses; adds_up = λ t. s t ∙ m.adds_up t }
 
 turn : (q a b c : ℕ) → IsCongruent q (b + q * a) c → IsCongruent q (a + q * b) (q * c)
 turn q a b c h =
-    let k : IsCongruent q (q * (b + q * a)) (q * c) = alike_mul q q q _ _ refl h in
-    let l : IsCongruent q (q * (b + q * a) + q * a) (q * c + q * a) = alike_add q _ _ _ _ k refl in
+    let k : IsCongruent q (q * (b + q * a)) (q * c) = congruent_mul q q q _ _ refl h in
+    let l : IsCongruent q (q * (b + q * a) + q * a) (q * c + q * a) = congruent_add q _ _ _ _ k refl in
     let e : q * (b + q * a) + q * a ≡ q * b + (q * a + q * (q * a)) = omega arith in
-    let m : IsCongruent q (q * b) (q * c + q * a) = sym (alike_drop q (q * b) (q * a)) ∙ (rw e at l) in
-    let o : IsCongruent q (q * b + a) (q * c + q * a + a) = alike_add q _ _ a a m refl in
+    let m : IsCongruent q (q * b) (q * c + q * a) = sym (congruent_drop q (q * b) (q * a)) ∙ (rw e at l) in
+    let o : IsCongruent q (q * b + a) (q * c + q * a + a) = congruent_add q _ _ a a m refl in
     let e1 : q * b + a ≡ a + q * b = omega arith in
     let e2 : q * c + q * a + a ≡ q * c + (a + q * a) = omega arith in
-    (rw (e1, e2) at o) ∙ alike_drop q (q * c) a
+    (rw (e1, e2) at o) ∙ congruent_drop q (q * c) a
 
 module _ {M : Type 0} (dec : Discrete M) (q : ℕ) where
   -- a difference the other way round
@@ -85,7 +77,7 @@ module _ {M : Type 0} (dec : Discrete M) (q : ℕ) where
 
   -- a sum less itself
   pub Same-cancelled : (e : List (ℕ × M)) (t : M) → IsCongruent q (coef dec (e ++ scale q e) t) 0
-  Same-cancelled e t = rw (coef-append dec e (scale q e) t, coef-scale dec q e t) (alike_gone q (coef dec e t))
+  Same-cancelled e t = rw (coef-append dec e (scale q e) t, coef-scale dec q e t) (congruent_gone q (coef dec e t))
 
 -- a multiple of a sum of instances is the sum of the multiples
 pub Same-expand_scale : {M I : Type 0} (dec : Discrete M) (q c : ℕ) (value : I → List (ℕ × M)) (l : List (ℕ × I)) → Same dec q (scale c (expand value l)) (expand value (scale c l))

@@ -9,7 +9,7 @@ use Rattle.std.proofs.lemmas.List.{length-map}
 use Rattle.std.proofs.lemmas.List.Elements.{All-from_recursion}
 use Rattle.modular_sums.specs.Lists.{Mem}
 use Rattle.modular_sums.specs.Sums.{coef, scale, Same, moved, AllTerms}
-use Rattle.modular_sums.proofs.Residues.{alike_add, alike_mul, alike_drop}
+use Rattle.modular_sums.proofs.Residues.{congruent_add, congruent_mul, congruent_drop}
 use Rattle.modular_sums.proofs.Sums.{coef-append, coef-scale, AllTerms-append}
 use Rattle.labelled_trees.specs.Trees.{Tree}
 use Rattle.labelled_trees.specs.Equality.{tree_discrete}
@@ -48,7 +48,7 @@ module _ (q : ℕ) where
   same_joined : (a b c d : Sum) → Same tree_discrete q a b → Same tree_discrete q c d → Same tree_discrete q (a ++ c) (b ++ d)
   same_joined a b c d h g t =
       rw (coef-append tree_discrete a c t, coef-append tree_discrete b d t)
-      (alike_add q (coef tree_discrete a t) (coef tree_discrete b t) (coef tree_discrete c t) (coef tree_discrete d t) (h t) (g t))
+      (congruent_add q (coef tree_discrete a t) (coef tree_discrete b t) (coef tree_discrete c t) (coef tree_discrete d t) (h t) (g t))
 
   same_within : (a b c : Sum) → Same tree_discrete q (a ++ (b ++ c)) ((a ++ b) ++ c)
   same_within a b c t =
@@ -63,16 +63,16 @@ module _ (q : ℕ) where
   same_scaled : (c : ℕ) (e : Sum) → Same tree_discrete q (scale (c % suc q) e) (scale c e)
   same_scaled c e t =
       rw (coef-scale tree_discrete (c % suc q) e t, coef-scale tree_discrete c e t)
-      (alike_mul q (c % suc q) c (coef tree_discrete e t) (coef tree_discrete e t) (mod-mod c (suc q)) refl)
+      (congruent_mul q (c % suc q) c (coef tree_discrete e t) (coef tree_discrete e t) (mod-mod c (suc q)) refl)
 
   -- what a sum has beside another
   pub same_beside : (w z y : Sum) → Same tree_discrete q w (z ++ y) → Same tree_discrete q (w ++ scale q y) z
   same_beside w z y h t =
       ap (λ k. k % suc q) (coef-append tree_discrete w (scale q y) t ∙ ap (λ k. coef tree_discrete w t + k) (coef-scale tree_discrete q y t))
-      ∙ alike_add q (coef tree_discrete w t) (coef tree_discrete z t + coef tree_discrete y t) (q * coef tree_discrete y t) (q * coef tree_discrete y t)
+      ∙ congruent_add q (coef tree_discrete w t) (coef tree_discrete z t + coef tree_discrete y t) (q * coef tree_discrete y t) (q * coef tree_discrete y t)
       (h t ∙ ap (λ k. k % suc q) (coef-append tree_discrete z y t)) refl
       ∙ ap (λ k. k % suc q) (regrouped (coef tree_discrete z t) (coef tree_discrete y t) (q * coef tree_discrete y t))
-      ∙ alike_drop q (coef tree_discrete z t) (coef tree_discrete y t)
+      ∙ congruent_drop q (coef tree_discrete z t) (coef tree_discrete y t)
     where
       regrouped : (a b c : ℕ) → a + b + c ≡ a + (b + c)
       regrouped a b c = omega arith

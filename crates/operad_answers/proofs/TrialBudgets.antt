@@ -3,7 +3,7 @@ use Rattle.std.proofs.Common.{false, cond, ◌≡◌, ℕ, zero, suc, ◌+◌, �
 use Rattle.std.specs.Prelude.{◌++◌, count_by}
 use native.Mathlib.Decide.{ℕ_discrete}
 use Rattle.std.proofs.lemmas.List.Sums.{sum_by-cons}
-use Rattle.modular_sums.specs.Lists.{Mem, holds}
+use Rattle.modular_sums.specs.Lists.{Mem, choose}
 use Rattle.modular_sums.specs.Sums.{AllTerms, scale}
 use Rattle.labelled_trees.specs.RangeSums.{range_sum}
 use Rattle.labelled_trees.proofs.RangeSums.{range_sum_ext}
@@ -37,13 +37,13 @@ has_five (x ∷ e) some h = arity_of_labelled (trial_generator ∷ []) 5 x (e ++
 -- how many of k questions of arity 5 have arity n
 abbrev fives : ℕ → ℕ → ℕ
 fives n zero = 0
-fives n (suc k) = cond (holds (ℕ_discrete 5 n) false) 1 0 + fives n k
+fives n (suc k) = cond (choose (ℕ_discrete 5 n) true false) 1 0 + fives n k
 
 count_fives : (n : ℕ) (l : List Sum) → ((e : Sum) → Mem e l → (question_by e).arity ≡ 5) → count_by (counts_question n) (map (question_of 32003) (map (λ e. same e []) l)) ≡ fives n (length l)
 count_fives n [] h = refl
 count_fives n (e ∷ l) h =
     sum_by-cons (λ (x : Question). cond (counts_question n x) 1 0) (question_by e) (map (question_of 32003) (map (λ e. same e []) l))
-    ∙ ap₂ (λ (a b : ℕ). cond (holds (ℕ_discrete a n) false) 1 0 + b) (h e (inl refl)) (count_fives n l (λ f m. h f (inr m)))
+    ∙ ap₂ (λ (a b : ℕ). cond (choose (ℕ_discrete a n) true false) 1 0 + b) (h e (inl refl)) (count_fives n l (λ f m. h f (inr m)))
 
 -- the number of questions of each arity
 questions_number : (seed n : ℕ) → question_number (counted_of trial_written (trial_questions seed)) n ≡ fives n 40

@@ -6,7 +6,7 @@ use Rattle.std.proofs.lemmas.Nat.{mod_below}
 use Rattle.modular_sums.specs.Lists.{Mem}
 use Rattle.modular_sums.specs.Residues.{IsCongruent}
 use Rattle.modular_sums.specs.Sums.{AllTerms}
-use Rattle.modular_sums.proofs.Residues.{alike_mul}
+use Rattle.modular_sums.proofs.Residues.{congruent_mul}
 use Rattle.labelled_trees.specs.Trees.{Tree}
 use Rattle.labelled_trees.proofs.Counts.{leaf_count-labelled}
 use Rattle.prime_field.specs.Primes.{IsFieldPrime}
@@ -101,7 +101,7 @@ inverses p prime c nonzero =
     let small : r < suc (p - 1) = mod_below c (suc (p - 1)) (omega arith) in
     let positive : 0 < c % suc (p - 1) = some (c % suc (p - 1)) (λ z. nonzero (z ∙ sym (mod-eq_of_lt (omega arith)))) in
     let i = (fields p prime).inverse r positive (omega (arith, small, whole)) in
-    let same : IsCongruent (p - 1) (r * i.0) (c * i.0) = alike_mul (p - 1) r c i.0 i.0 (mod-mod c (suc (p - 1))) refl in
+    let same : IsCongruent (p - 1) (r * i.0) (c * i.0) = congruent_mul (p - 1) r c i.0 i.0 (mod-mod c (suc (p - 1))) refl in
     let turned : c * i.0 ≡ i.0 * c = omega arith in
     (i.0, ap (λ n. n % suc (p - 1)) (sym turned) ∙ sym same ∙ i.3)
   where

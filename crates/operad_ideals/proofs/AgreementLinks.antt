@@ -1,7 +1,7 @@
 -- A labelled tree less the sign times a tree that agrees with it is a sum of instances of symmetry rules.
 use Rattle.std.proofs.Common.{◌≡◌, ℕ, ◌*◌, List, [], ◌∷◌, ◌++◌, length, refl, sym, ◌∙◌, ap, subst}
 use mathlib.Core.Path.{ap₂}
-use Rattle.modular_sums.proofs.Sums.{Member-same}
+use Rattle.modular_sums.proofs.Sums.{combination-same}
 use Rattle.labelled_trees.specs.Trees.{Tree, Row, node, more, row, graft_row}
 use Rattle.labelled_trees.specs.Contexts.{Ctx, RowCtx, hole, inside, here, past, fill, fill_row, compose}
 use Rattle.labelled_trees.specs.Equality.{tree_discrete}
@@ -45,7 +45,7 @@ module _ (p : Presentation) (n : ℕ) where
     where
       made : graft_row (numbered 0 (arity_of p g)) (for_leaf r) ≡ r → graft_row (exchanged_at i (numbered 0 (arity_of p g))) (for_leaf r) ≡ exchanged_at i r
           → Near (fill c (node g r)) (fill c (node g (exchanged_at i r))) (residue_of p.q s)
-      made one two = Member-same tree_discrete (hole_element p n) p.q
+      made one two = combination-same tree_discrete (hole_element p n) p.q
           {e = (1, fill c (node g r)) ∷ ((p.q * residue_of p.q s, fill c (node g (exchanged_at i r))) ∷ [])} {f = (1, fill c (node g r)) ∷ ((residue_of p.q (times minus s), fill c (node g (exchanged_at i r))) ∷ [])}
           (two_alike tree_discrete p.q 1 (p.q * residue_of p.q s) 1 (residue_of p.q (times minus s)) (fill c (node g r)) (fill c (node g (exchanged_at i r))) refl (residue-times p.q minus s))
           (subst (InHoleIdeal p n) is (member_one tree_discrete (hole_element p n) p.q instance))
@@ -86,7 +86,7 @@ module _ (p : Presentation) (n : ℕ) where
 
   -- a labelled tree and what agrees with it
   pub near : (t : Tree ℕ) → IsLabelled (arity_of p) n t → (s : Sign) (u : Tree ℕ) → Agrees (parts p) s t u → InHoleIdeal p n (less_signed p.q t s u)
-  near t l s u h = Member-same tree_discrete (hole_element p n) p.q {e = less_signed p.q t s u} {f = (1, t) ∷ ((p.q * residue_of p.q s, u) ∷ [])}
+  near t l s u h = combination-same tree_discrete (hole_element p n) p.q {e = less_signed p.q t s u} {f = (1, t) ∷ ((p.q * residue_of p.q s, u) ∷ [])}
       (two_alike tree_discrete p.q 1 (residue_of p.q (times minus s)) 1 (p.q * residue_of p.q s) t u refl (sym (residue-times p.q minus s))) (near_agrees s t u h hole l)
 
   pub near_spelled : (t : Tree ℕ) → IsLabelled (arity_of p) n t → InHoleIdeal p n (less_signed p.q t (spelled_sign (parts p) t) (spelled (parts p) t))

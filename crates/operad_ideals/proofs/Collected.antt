@@ -2,9 +2,9 @@
 use Rattle.std.proofs.Common.{◌≡◌, ℕ, zero, suc, ◌+◌, ◌*◌, ◌%◌, ◌<◌, List, [], ◌∷◌, ◌++◌, length, refl, sym, ap, ◌∙◌, subst, arith}
 use mathlib.Core.Path.{ap₂}
 use Rattle.modular_sums.specs.Residues.{IsCongruent}
-use Rattle.modular_sums.specs.Sums.{hit, coef, scale, Same, expand, moved, AllTerms}
-use Rattle.modular_sums.proofs.Residues.{alike_add, alike_mul, alike_of_gone, less_alike}
-use Rattle.modular_sums.proofs.Sums.{hit-mul, coef-append, coef-scale}
+use Rattle.modular_sums.specs.Sums.{coef, scale, Same, expand, moved, AllTerms}
+use Rattle.modular_sums.proofs.Residues.{congruent_add, congruent_mul, congruent_of_gone, less_alike}
+use Rattle.modular_sums.proofs.Sums.{choose-mul, coef-append, coef-scale}
 use Rattle.modular_sums.proofs.Coefficients.{coef_nothing}
 use Rattle.modular_sums.proofs.Replacements.{sum_over}
 use Rattle.modular_sums.proofs.Images.{same_sum}
@@ -33,6 +33,7 @@ use Rattle.operad_ideals.proofs.Ideals.{ideal_zero, ideal-append, ideal-scale, i
 use Rattle.operad_ideals.proofs.HoleInstances.{ideals_are_one}
 use Rattle.operad_ideals.proofs.AgreementLinks.{near_spelled}
 use Rattle.operad_ideals.proofs.ArityOne.{part_below}
+use Rattle.modular_sums.specs.Lists.{choose}
 
 -- ---- exchanges in a context
 
@@ -121,21 +122,21 @@ module _ (p : Presentation) where
       let a : c * x.0 * r ≡ c * (x.0 * r) = omega arith in
       ap₂ (λ k l. (k, spelled (parts p) x.1) ∷ l) a (collected-scale c e)
 
-  coef-collected : (e : List (ℕ × Tree ℕ)) (t : Tree ℕ) → coef tree_discrete (collected p e) t ≡ sum_over e (λ x. hit (tree_discrete (spelled (parts p) x) t) (residue_of p.q (spelled_sign (parts p) x)))
+  coef-collected : (e : List (ℕ × Tree ℕ)) (t : Tree ℕ) → coef tree_discrete (collected p e) t ≡ sum_over e (λ x. choose (tree_discrete (spelled (parts p) x) t) (residue_of p.q (spelled_sign (parts p) x)) 0)
   unfolding coef
   coef-collected [] t = refl
-  coef-collected (x ∷ e) t = ap₂ (λ a b. a + b) (hit-mul (tree_discrete (spelled (parts p) x.1) t) x.0 (residue_of p.q (spelled_sign (parts p) x.1))) (coef-collected e t)
+  coef-collected (x ∷ e) t = ap₂ (λ a b. a + b) (choose-mul (tree_discrete (spelled (parts p) x.1) t) x.0 (residue_of p.q (spelled_sign (parts p) x.1))) (coef-collected e t)
 
   Same-collected : (d e : List (ℕ × Tree ℕ)) → Same tree_discrete p.q d e → Same tree_discrete p.q (collected p d) (collected p e)
   Same-collected d e h t = rw (coef-collected d t, coef-collected e t)
-      (same_sum (Tree ℕ) tree_discrete p.q d e (λ x. hit (tree_discrete (spelled (parts p) x) t) (residue_of p.q (spelled_sign (parts p) x))) h)
+      (same_sum (Tree ℕ) tree_discrete p.q d e (λ x. choose (tree_discrete (spelled (parts p) x) t) (residue_of p.q (spelled_sign (parts p) x)) 0) h)
 
   -- ---- instances of symmetry rules collect to nothing
 
   signs_gone : (s t u : Sign) → t ≡ times s u → IsCongruent p.q (1 * residue_of p.q t + residue_of p.q (times minus s) * residue_of p.q u) 0
   signs_gone s t u e =
       let one : 1 * residue_of p.q t ≡ residue_of p.q t = omega arith in
-      rw one (alike_add p.q (residue_of p.q t) (residue_of p.q t) (residue_of p.q (times minus s) * residue_of p.q u) (residue_of p.q (times minus t)) refl
+      rw one (congruent_add p.q (residue_of p.q t) (residue_of p.q t) (residue_of p.q (times minus s) * residue_of p.q u) (residue_of p.q (times minus t)) refl
       (residue-times p.q (times minus s) u ∙ ap (λ r. residue_of p.q r % suc p.q) (times_assoc minus s u ∙ ap (times minus) (sym e)))
       ∙ residue_gone p.q t)
 
@@ -176,8 +177,8 @@ module _ (p : Presentation) where
       go : IsCongruent p.q (coef tree_discrete (collected p first) t) (coef {M = Tree ℕ} tree_discrete [] t) → IsCongruent p.q (coef tree_discrete (collected p others) t) (coef {M = Tree ℕ} tree_discrete [] t)
           → IsCongruent p.q (coef tree_discrete (collected p (scale x.0 first ++ others)) t) (coef {M = Tree ℕ} tree_discrete [] t)
       go a b = rw (collected-append (scale x.0 first) others, collected-scale x.0 first, coef-append tree_discrete (scale x.0 (collected p first)) (collected p others) t, coef-scale tree_discrete x.0 (collected p first) t)
-          (alike_add p.q (x.0 * coef tree_discrete (collected p first) t) (x.0 * coef {M = Tree ℕ} tree_discrete [] t) (coef tree_discrete (collected p others) t) (coef {M = Tree ℕ} tree_discrete [] t)
-          (alike_mul p.q x.0 x.0 (coef tree_discrete (collected p first) t) (coef {M = Tree ℕ} tree_discrete [] t) refl a) b ∙ zeros (coef {M = Tree ℕ} tree_discrete [] t) (coef_nothing tree_discrete t))
+          (congruent_add p.q (x.0 * coef tree_discrete (collected p first) t) (x.0 * coef {M = Tree ℕ} tree_discrete [] t) (coef tree_discrete (collected p others) t) (coef {M = Tree ℕ} tree_discrete [] t)
+          (congruent_mul p.q x.0 x.0 (coef tree_discrete (collected p first) t) (coef {M = Tree ℕ} tree_discrete [] t) refl a) b ∙ zeros (coef {M = Tree ℕ} tree_discrete [] t) (coef_nothing tree_discrete t))
 
   -- ---- an element, less its collected form
 
@@ -202,35 +203,35 @@ module _ (p : Presentation) where
       signed =
           let r : ℕ = residue_of p.q (spelled_sign (parts p) x.1) in
           let a : p.q * (x.0 * r) ≡ x.0 * (p.q * r) = omega arith in
-          rw a (alike_mul p.q x.0 x.0 (p.q * r) (residue_of p.q (times minus (spelled_sign (parts p) x.1))) refl (residue-times p.q minus (spelled_sign (parts p) x.1)))
+          rw a (congruent_mul p.q x.0 x.0 (p.q * r) (residue_of p.q (times minus (spelled_sign (parts p) x.1))) refl (residue-times p.q minus (spelled_sign (parts p) x.1)))
 
-      at_hit : {C : Type 0} (z : Dec C) → IsCongruent p.q (hit z (p.q * (x.0 * residue_of p.q (spelled_sign (parts p) x.1)))) (hit z (x.0 * residue_of p.q (times minus (spelled_sign (parts p) x.1))))
+      at_hit : {C : Type 0} (z : Dec C) → IsCongruent p.q (choose z (p.q * (x.0 * residue_of p.q (spelled_sign (parts p) x.1))) 0) (choose z (x.0 * residue_of p.q (times minus (spelled_sign (parts p) x.1))) 0)
       at_hit (yes _) = signed
       at_hit (no _) = refl
 
-      adds_up : (t : Tree ℕ) → IsCongruent p.q (hit (tree_discrete x.1 t) x.0 + coef tree_discrete (e ++ ((p.q * (x.0 * residue_of p.q s), u) ∷ scale p.q (collected p e))) t)
-          (hit (tree_discrete x.1 t) (x.0 * 1) + (hit (tree_discrete u t) (x.0 * residue_of p.q (times minus s)) + coef tree_discrete (e ++ scale p.q (collected p e)) t))
+      adds_up : (t : Tree ℕ) → IsCongruent p.q (choose (tree_discrete x.1 t) x.0 0 + coef tree_discrete (e ++ ((p.q * (x.0 * residue_of p.q s), u) ∷ scale p.q (collected p e))) t)
+          (choose (tree_discrete x.1 t) (x.0 * 1) 0 + (choose (tree_discrete u t) (x.0 * residue_of p.q (times minus s)) 0 + coef tree_discrete (e ++ scale p.q (collected p e)) t))
       adds_up t =
           let one : x.0 * 1 ≡ x.0 = omega arith in
           let a : coef tree_discrete (e ++ ((p.q * (x.0 * residue_of p.q s), u) ∷ scale p.q (collected p e))) t
-          ≡ coef tree_discrete e t + (hit (tree_discrete u t) (p.q * (x.0 * residue_of p.q s)) + coef tree_discrete (scale p.q (collected p e)) t)
+          ≡ coef tree_discrete e t + (choose (tree_discrete u t) (p.q * (x.0 * residue_of p.q s)) 0 + coef tree_discrete (scale p.q (collected p e)) t)
           = coef-append tree_discrete e ((p.q * (x.0 * residue_of p.q s), u) ∷ scale p.q (collected p e)) t in
           let b : coef tree_discrete (e ++ scale p.q (collected p e)) t ≡ coef tree_discrete e t + coef tree_discrete (scale p.q (collected p e)) t = coef-append tree_discrete e (scale p.q (collected p e)) t in
-          rw (one, a, b) (sums (hit (tree_discrete x.1 t) x.0) (coef tree_discrete e t) (coef tree_discrete (scale p.q (collected p e)) t)
-          (hit (tree_discrete u t) (p.q * (x.0 * residue_of p.q s))) (hit (tree_discrete u t) (x.0 * residue_of p.q (times minus s))) (at_hit (tree_discrete u t)))
+          rw (one, a, b) (sums (choose (tree_discrete x.1 t) x.0 0) (coef tree_discrete e t) (coef tree_discrete (scale p.q (collected p e)) t)
+          (choose (tree_discrete u t) (p.q * (x.0 * residue_of p.q s)) 0) (choose (tree_discrete u t) (x.0 * residue_of p.q (times minus s)) 0) (at_hit (tree_discrete u t)))
         where
           sums : (k l m v w : ℕ) → IsCongruent p.q v w → IsCongruent p.q (k + (l + (v + m))) (k + (w + (l + m)))
           sums k l m v w h =
               let y : k + (l + (v + m)) ≡ k + l + m + v = omega arith in
               let z : k + (w + (l + m)) ≡ k + l + m + w = omega arith in
-              rw (y, z) (alike_add p.q (k + l + m) (k + l + m) v w refl h)
+              rw (y, z) (congruent_add p.q (k + l + m) (k + l + m) v w refl h)
 
 pub collected_forms : CollectedForms
 collected_forms p n d e hd he = (
   λ m t.
       let k = (ideals_are_one (without_relations p) n (d ++ scale p.q e) (λ r i. absurd i)).0 m in
       let z = Same-collected p (d ++ scale p.q e) (expand (hole_element (without_relations p) n) k.uses) k.adds_up t ∙ all_gone p n k.uses t in
-      alike_of_gone p.q (coef tree_discrete (collected p d) t) (coef tree_discrete (collected p e) t)
+      congruent_of_gone p.q (coef tree_discrete (collected p d) t) (coef tree_discrete (collected p e) t)
       (ap (λ a. a % suc p.q) (sym (ap (λ l. coef tree_discrete l t) (collected-append p d (scale p.q e) ∙ ap (λ l. collected p d ++ l) (collected-scale p p.q e))
       ∙ coef-append tree_discrete (collected p d) (scale p.q (collected p e)) t ∙ ap (λ a. coef tree_discrete (collected p d) t + a) (coef-scale tree_discrete p.q (collected p e) t)))
       ∙ z ∙ ap (λ a. a % suc p.q) (coef_nothing tree_discrete t)),

@@ -7,8 +7,8 @@ use Rattle.std.specs.declared.cmp.Ordering.{Ordering}
 use Rattle.std.specs.declared.cmp.Ordering.TheVariants.{Less, Equal, Greater}
 use Rattle.std.specs.Ordering.{ordering_reverse}
 use Rattle.modular_sums.specs.Residues.{IsCongruent}
-use Rattle.modular_sums.specs.Sums.{hit, coef, Same}
-use Rattle.modular_sums.proofs.Residues.{alike_cancel}
+use Rattle.modular_sums.specs.Sums.{coef, Same}
+use Rattle.modular_sums.proofs.Residues.{congruent_cancel}
 use Rattle.modular_sums.proofs.Coefficients.{coef_nothing}
 use Rattle.labelled_trees.specs.Trees.{Tree}
 use Rattle.labelled_trees.specs.Equality.{tree_discrete}
@@ -19,13 +19,14 @@ use Rattle.operad_ideals.specs.Collected.{IsReduced, OneCollectedForm}
 use Rattle.operad_ideals.specs.Pairs.{Pairs}
 use Rattle.operad_ideals.proofs.SortedLists.{every_weaker}
 use Rattle.operad_ideals.proofs.LastOnes.{pairs_from_AllPairs}
+use Rattle.modular_sums.specs.Lists.{choose}
 
 -- the coefficient of t, where t is first, and where it isn't
 coef-here : (x : ℕ × Tree ℕ) (e : List (ℕ × Tree ℕ)) → coef tree_discrete (x ∷ e) x.1 ≡ x.0 + coef tree_discrete e x.1
 unfolding coef
 coef-here x e = go (tree_discrete x.1 x.1)
   where
-    go : (d : Dec (x.1 ≡ x.1)) → hit d x.0 + coef tree_discrete e x.1 ≡ x.0 + coef tree_discrete e x.1
+    go : (d : Dec (x.1 ≡ x.1)) → choose d x.0 0 + coef tree_discrete e x.1 ≡ x.0 + coef tree_discrete e x.1
     go (yes _) = refl
     go (no n) = absurd (n refl)
 
@@ -33,7 +34,7 @@ pub coef-other : (x : ℕ × Tree ℕ) (e : List (ℕ × Tree ℕ)) (t : Tree �
 unfolding coef
 coef-other x e t ne = go (tree_discrete x.1 t)
   where
-    go : (d : Dec (x.1 ≡ t)) → hit d x.0 + coef tree_discrete e t ≡ coef tree_discrete e t
+    go : (d : Dec (x.1 ≡ t)) → choose d x.0 0 + coef tree_discrete e t ≡ coef tree_discrete e t
     go (yes s) = absurd (ne s)
     go (no _) = omega arith
 
@@ -77,11 +78,11 @@ module _ (p : ℕ) where
   without_first : (x y : ℕ × Tree ℕ) (e f : List (ℕ × Tree ℕ)) → x ≡ y → Alikes (x ∷ e) (y ∷ f) → Alikes e f
   unfolding coef
   without_first x y e f same h t =
-      let share = hit (tree_discrete x.1 t) x.0 in
+      let share = choose (tree_discrete x.1 t) x.0 0 in
       let e₁ : share + coef tree_discrete e t ≡ coef tree_discrete e t + share = omega arith in
-      let e₂ : hit (tree_discrete x.1 t) x.0 + coef tree_discrete f t ≡ coef tree_discrete f t + share = omega arith in
-      let e₃ : coef tree_discrete (y ∷ f) t ≡ hit (tree_discrete x.1 t) x.0 + coef tree_discrete f t = ap (λ (z : ℕ × Tree ℕ). hit (tree_discrete z.1 t) z.0 + coef tree_discrete f t) (sym same) in
-      alike_cancel (p - 1) (coef tree_discrete e t) (coef tree_discrete f t) share
+      let e₂ : choose (tree_discrete x.1 t) x.0 0 + coef tree_discrete f t ≡ coef tree_discrete f t + share = omega arith in
+      let e₃ : coef tree_discrete (y ∷ f) t ≡ choose (tree_discrete x.1 t) x.0 0 + coef tree_discrete f t = ap (λ (z : ℕ × Tree ℕ). choose (tree_discrete z.1 t) z.0 0 + coef tree_discrete f t) (sym same) in
+      congruent_cancel (p - 1) (coef tree_discrete e t) (coef tree_discrete f t) share
       (ap (λ n. n % suc (p - 1)) (sym e₁) ∙ h t ∙ ap (λ n. n % suc (p - 1)) (e₃ ∙ e₂))
 
   pub one_form : (e f : List (ℕ × Tree ℕ)) → Rising e → Rising f → Small e → Small f → Alikes e f → e ≡ f

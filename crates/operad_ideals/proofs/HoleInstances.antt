@@ -4,7 +4,7 @@ use Rattle.std.specs.Prelude.{flat_map}
 use native.Mathlib.Decide.{ℕ_discrete}
 use Rattle.modular_sums.specs.Lists.{Mem}
 use Rattle.modular_sums.specs.Sums.{scale, expand, moved, AllTerms}
-use Rattle.modular_sums.proofs.Sums.{Member-append, Member-scale, Member-same}
+use Rattle.modular_sums.proofs.Sums.{combination-append, combination-scale, combination-same}
 use Rattle.modular_sums.proofs.Images.{AllTerms-imp, moved_eq, moved_ext}
 use Rattle.labelled_trees.specs.Trees.{Tree, leaf, node, graft}
 use Rattle.labelled_trees.specs.Contexts.{fill}
@@ -116,7 +116,7 @@ module _ (p : Presentation) (n : ℕ) where
       let once : occurs 0 (fill s.around (leaf 0)) ≡ 1 = subst IsContext s.is i.is_context in
       let same = moved_ext (λ x. fill s.around (graft x (item i.inputs))) (placed i.context i.inputs) (rule_terms p i.rule)
       (λ x. sym (ap (λ c. put c (graft x (item i.inputs))) s.is ∙ put-fill s.around (graft x (item i.inputs)) (omega (arith, once)))) in
-      Member-scale tree_discrete (hole_element p n) p.q i.residue {e = moved (placed i.context i.inputs) (rule_terms p i.rule)}
+      combination-scale tree_discrete (hole_element p n) p.q i.residue {e = moved (placed i.context i.inputs) (rule_terms p i.rule)}
       (subst (InHoleIdeal p n) same (member_one tree_discrete (hole_element p n) p.q record {
         rule = i.rule;
         context = s.around;
@@ -126,10 +126,10 @@ module _ (p : Presentation) (n : ℕ) where
 
   to_holes : (l : List (Instance p n)) → InHoleIdeal p n (flat_map (element p n) l)
   to_holes [] = member_zero tree_discrete (hole_element p n) p.q
-  to_holes (i ∷ l) = Member-append tree_discrete (hole_element p n) p.q {e = element p n i} {f = flat_map (element p n) l} (to_hole i) (to_holes l)
+  to_holes (i ∷ l) = combination-append tree_discrete (hole_element p n) p.q {e = element p n i} {f = flat_map (element p n) l} (to_hole i) (to_holes l)
 
 pub ideals_are_one : OneIdeal
 ideals_are_one p n e sound = (
-  λ h. Member-same tree_discrete (hole_element p n) p.q {e = e} {f = flat_map (element p n) h.instances} h.adds_up (to_holes p n h.instances),
+  λ h. combination-same tree_discrete (hole_element p n) p.q {e = e} {f = flat_map (element p n) h.instances} h.adds_up (to_holes p n h.instances),
   λ h. ideal-same p n e (expand (hole_element p n) h.uses) h.adds_up (from_holes p n sound h.uses),
 )

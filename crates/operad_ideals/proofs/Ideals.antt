@@ -4,7 +4,7 @@ use Rattle.std.specs.Prelude.{flat_map}
 use mathlib.Core.List.{◌++◌}
 use mathlib.Core.Path.{ap₂}
 use Rattle.modular_sums.specs.Sums.{coef, scale, Same, moved}
-use Rattle.modular_sums.proofs.Residues.{alike_add, alike_mul}
+use Rattle.modular_sums.proofs.Residues.{congruent_add, congruent_mul}
 use Rattle.modular_sums.proofs.Sums.{coef-append, coef-scale, scale-scale}
 use Rattle.labelled_trees.specs.Trees.{Tree}
 use Rattle.labelled_trees.specs.Equality.{tree_discrete}
@@ -53,13 +53,13 @@ module _ (p : Presentation) (n : ℕ) where
   ideal-append e f h k = record {
     instances = h.instances ++ k.instances;
     adds_up = λ t. rw (elements-append h.instances k.instances, coef-append tree_discrete e f t, coef-append tree_discrete (flat_map (element p n) h.instances) (flat_map (element p n) k.instances) t)
-        (alike_add p.q _ _ _ _ (h.adds_up t) (k.adds_up t));
+        (congruent_add p.q _ _ _ _ (h.adds_up t) (k.adds_up t));
   }
 
   pub ideal-scale : (c : ℕ) (e : List (ℕ × Tree ℕ)) → InIdeal p n e → InIdeal p n (scale c e)
   ideal-scale c e h = record {
     instances = map (times_residue c) h.instances;
-    adds_up = λ t. rw (elements-scale c h.instances, coef-scale tree_discrete c e t, coef-scale tree_discrete c (flat_map (element p n) h.instances) t) (alike_mul p.q c c _ _ refl (h.adds_up t));
+    adds_up = λ t. rw (elements-scale c h.instances, coef-scale tree_discrete c e t, coef-scale tree_discrete c (flat_map (element p n) h.instances) t) (congruent_mul p.q c c _ _ refl (h.adds_up t));
   }
 
   pub ideal-same : (e f : List (ℕ × Tree ℕ)) → Same tree_discrete p.q e f → InIdeal p n f → InIdeal p n e

@@ -10,7 +10,7 @@ use Rattle.modular_sums.specs.Lists.{Mem, has_by}
 use Rattle.modular_sums.specs.Residues.{IsCongruent}
 use mathlib.Core.List.{◌++◌}
 use Rattle.modular_sums.specs.Sums.{coef, scale, Same, AllTerms}
-use Rattle.modular_sums.proofs.Residues.{alike_add, alike_mul}
+use Rattle.modular_sums.proofs.Residues.{congruent_add, congruent_mul}
 use Rattle.modular_sums.proofs.Sums.{coef-append, coef-scale}
 use Rattle.modular_sums.proofs.Coefficients.{coef_nothing, coef_absent}
 use Rattle.modular_sums.proofs.Images.{AllTerms-imp}
@@ -167,4 +167,4 @@ one_reduction q parts e f a b h = one_reduced (suc q) parts e f a b (let one : s
 pub less_same : (q : ℕ) (e f g : Sum) → Same tree_discrete q f g → Same tree_discrete q (e ++ scale q f) (e ++ scale q g)
 less_same q e f g h t =
     rw (coef-append tree_discrete e (scale q f) t, coef-append tree_discrete e (scale q g) t, coef-scale tree_discrete q f t, coef-scale tree_discrete q g t)
-    (alike_add q (coef tree_discrete e t) (coef tree_discrete e t) (q * coef tree_discrete f t) (q * coef tree_discrete g t) refl (alike_mul q q q (coef tree_discrete f t) (coef tree_discrete g t) refl (h t)))
+    (congruent_add q (coef tree_discrete e t) (coef tree_discrete e t) (q * coef tree_discrete f t) (q * coef tree_discrete g t) refl (congruent_mul q q q (coef tree_discrete f t) (coef tree_discrete g t) refl (h t)))

@@ -5,14 +5,15 @@ use native.Mathlib.Decide.{ℕ_discrete, dec_lt}
 use Rattle.modular_sums.specs.Sums.{moved}
 use Rattle.modular_sums.proofs.Replacements.{sum_over, sum_over_ext, sum_over_swap}
 use Rattle.labelled_trees.specs.Trees.{Tree, Row, leaf, node, none, more, graft, graft_row}
-use Rattle.labelled_trees.specs.Leaves.{choose, occurs, occurs_row, AllLeaves, AllRow}
+use Rattle.labelled_trees.specs.Leaves.{occurs, occurs_row, AllLeaves, AllRow}
 use Rattle.labelled_trees.specs.Insertions.{item}
 use Rattle.labelled_trees.specs.Labelled.{IsNumbered}
 use Rattle.labelled_trees.proofs.Leaves.{holds_if_one, by_leaf, by_row}
-use Rattle.labelled_trees.proofs.Factors.{choose-yes, choose-no}
 use Rattle.operad_morphisms.specs.Compositions.{product, choices}
 use Rattle.modular_sums.proofs.Counted.{CountAlike, count-one, count-moved}
 use Rattle.operad_morphisms.proofs.Products.{count-product}
+use Rattle.modular_sums.specs.Lists.{choose}
+use Rattle.modular_sums.proofs.Choices.{choose-yes, choose-no}
 
 abbrev pub Sum : Type 0
 Sum = List (ℕ × Tree ℕ)

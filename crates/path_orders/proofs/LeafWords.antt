@@ -17,7 +17,7 @@ use Rattle.labelled_trees.specs.Meaning.{tree_of}
 use Rattle.labelled_trees.specs.declared.Tree as program
 use Rattle.labelled_trees.specs.declared.Tree.TheVariants.{Leaf, Node}
 use Rattle.labelled_trees.proofs.ProgramTrees.{tree_of-leaf, sum_leaves-node}
-use Rattle.shuffle_insertions.specs.Keys.{only_if, words_at}
+use Rattle.shuffle_insertions.specs.Keys.{words_at}
 use Rattle.shuffle_insertions.proofs.Keys.{length-words_at}
 use Rattle.shuffle_trees.proofs.Walking.{words_in, words-node, left_from, none_left, walked_past}
 use Rattle.path_orders.specs.WordSteps.{WordsCompared, SameWord}
@@ -58,7 +58,7 @@ below_vertex g [] v e = absurd (cc e)
 below_vertex g (x ∷ []) v e = (x, refl, let h : g ∷ x ≡ v = cc in sym h)
 below_vertex g (x ∷ (y ∷ ws)) v e = absurd (let n = ap length e in omega (arith, n))
 
-leaf_word_by : (n j : ℕ) (d : Dec (n ≡ j)) (v : List ℕ) → only_if {A = List ℕ} d [] ≡ v ∷ [] → v ≡ []
+leaf_word_by : (n j : ℕ) (d : Dec (n ≡ j)) (v : List ℕ) → choose {B = List (List ℕ)} d ([] ∷ []) [] ≡ v ∷ [] → v ≡ []
 leaf_word_by n j (yes _) v e = let h : [] ≡ v = cc in sym h
 leaf_word_by n j (no _) v e = absurd (cc e)
 

@@ -1,4 +1,4 @@
-pub mod Alike
+pub mod ComparableKeys
 pub mod JoinedLists
 pub mod LeafWords
 pub mod Seen

@@ -6,7 +6,7 @@ use mathlib.Core.Path.{ap₂}
 use mathlib.Core.List.{◌++◌}
 use Rattle.modular_sums.specs.Residues.{IsCongruent}
 use Rattle.modular_sums.specs.Sums.{coef, scale, Same, AllTerms}
-use Rattle.modular_sums.proofs.Residues.{alike_add, alike_mul, alike_of_gone}
+use Rattle.modular_sums.proofs.Residues.{congruent_add, congruent_mul, congruent_of_gone}
 use Rattle.modular_sums.proofs.Sums.{AllTerms-append, AllTerms-scale}
 use Rattle.modular_sums.proofs.Coefficients.{coef_nothing}
 use Rattle.labelled_trees.specs.Trees.{Tree}
@@ -24,7 +24,7 @@ use Rattle.quadratic_pairing.specs.Laws.{AnnihilatorLaw, AnnihilatorsAreIdeals}
 use Rattle.quadratic_pairing.proofs.LinearSums.{sum_by_same, sum_by-add, sum_by-mul, sum_by-none}
 use Rattle.quadratic_pairing.proofs.Combs.{is_ordering, among_orderings}
 use Rattle.quadratic_pairing.proofs.Relabelling.{Inverse, inverse}
-use Rattle.quadratic_pairing.proofs.PairingSums.{alike_rest, Same-shuffled, coef_shuffled-append, coef_shuffled-scale, given, opposite, weight, listing, pairing_alike}
+use Rattle.quadratic_pairing.proofs.PairingSums.{congruent_rest, Same-shuffled, coef_shuffled-append, coef_shuffled-scale, given, opposite, weight, listing, pairing_alike}
 use Rattle.quadratic_pairing.proofs.Relabelled.{pairing_relabelled_law}
 use Rattle.shuffle_transfer.proofs.RelabelledIdeals.{ideal_is_relabelled}
 use Rattle.quadratic_pairing.proofs.RelabelledBack.{relabelled_back}
@@ -34,7 +34,7 @@ pub forms_alike : (c : Presentation) (n : ℕ) (d e : List (ℕ × Tree ℕ)) �
     → InIdeal (without_relations c) n (d ++ scale c.q e) → (x : Tree ℕ) → IsCongruent c.q (coef tree_discrete (shuffled c d) x) (coef tree_discrete (shuffled c e) x)
 forms_alike c n d e h k i x =
     let s = (kernel c n (d ++ scale c.q e) (AllTerms-append d (scale c.q e) (IsLabelled (arity_of c) n) h (AllTerms-scale c.q e (IsLabelled (arity_of c) n) k))).0 i x in
-    alike_of_gone c.q (coef tree_discrete (shuffled c d) x) (coef tree_discrete (shuffled c e) x)
+    congruent_of_gone c.q (coef tree_discrete (shuffled c d) x) (coef tree_discrete (shuffled c e) x)
     (ap (λ m. m % suc c.q) (sym (coef_shuffled-append c d (scale c.q e) x ∙ ap (λ m. coef tree_discrete (shuffled c d) x + m) (coef_shuffled-scale c c.q e x)))
     ∙ s ∙ ap (λ m. m % suc c.q) (coef_nothing tree_discrete x))
 
@@ -44,26 +44,26 @@ module _ (p : Presentation) where
   pairing_zero e f h = sym (mod-mod (sum_by (λ x. weight p x * (given p e x * opposite p f x)) (listing p)) (suc p.q)) ∙ h ∙ zero-mod (suc p.q)
 
   pub pairing_none : (e : List (ℕ × Tree ℕ)) → pairing p e [] ≡ 0
-  pairing_none e = pairing_zero e [] (alike_rest p.q (sum_by (λ x. weight p x * (given p e x * opposite p [] x)) (listing p))
+  pairing_none e = pairing_zero e [] (congruent_rest p.q (sum_by (λ x. weight p x * (given p e x * opposite p [] x)) (listing p))
       ∙ ap (λ n. n % suc p.q) (sum_by-none (listing p) (λ x. weight p x * (given p e x * opposite p [] x)) (λ x m. ap (λ n. weight p x * (given p e x * n)) (coef_nothing tree_discrete x) ∙ omega arith)))
 
   pub pairing_added : (e f g : List (ℕ × Tree ℕ)) → IsCongruent p.q (pairing p e (f ++ g)) (pairing p e f + pairing p e g)
   pairing_added e f g =
       let term = λ (k : List (ℕ × Tree ℕ)) (x : Tree ℕ). weight p x * (given p e x * opposite p k x) in
-      alike_rest p.q (sum_by (term (f ++ g)) (listing p))
+      congruent_rest p.q (sum_by (term (f ++ g)) (listing p))
       ∙ ap (λ n. n % suc p.q) (sum_by_same (listing p) (term (f ++ g)) (λ x. term f x + term g x)
       (λ x m. ap (λ n. weight p x * (given p e x * n)) (coef_shuffled-append (dual p []) f g x) ∙ omega arith)
       ∙ sum_by-add (listing p) (term f) (term g))
-      ∙ sym (alike_add p.q (pairing p e f) (sum_by (term f) (listing p)) (pairing p e g) (sum_by (term g) (listing p)) (alike_rest p.q (sum_by (term f) (listing p))) (alike_rest p.q (sum_by (term g) (listing p))))
+      ∙ sym (congruent_add p.q (pairing p e f) (sum_by (term f) (listing p)) (pairing p e g) (sum_by (term g) (listing p)) (congruent_rest p.q (sum_by (term f) (listing p))) (congruent_rest p.q (sum_by (term g) (listing p))))
 
   pub pairing_scaled : (e : List (ℕ × Tree ℕ)) (c : ℕ) (f : List (ℕ × Tree ℕ)) → IsCongruent p.q (pairing p e (scale c f)) (c * pairing p e f)
   pairing_scaled e c f =
       let term = λ (k : List (ℕ × Tree ℕ)) (x : Tree ℕ). weight p x * (given p e x * opposite p k x) in
-      alike_rest p.q (sum_by (term (scale c f)) (listing p))
+      congruent_rest p.q (sum_by (term (scale c f)) (listing p))
       ∙ ap (λ n. n % suc p.q) (sum_by_same (listing p) (term (scale c f)) (λ x. c * term f x)
       (λ x m. ap (λ n. weight p x * (given p e x * n)) (coef_shuffled-scale (dual p []) c f x) ∙ omega arith)
       ∙ sum_by-mul c (listing p) (term f))
-      ∙ sym (alike_mul p.q c c (pairing p e f) (sum_by (term f) (listing p)) refl (alike_rest p.q (sum_by (term f) (listing p))))
+      ∙ sym (congruent_mul p.q c c (pairing p e f) (sum_by (term f) (listing p)) refl (congruent_rest p.q (sum_by (term f) (listing p))))
 
   pub pairing_same : (e f g : List (ℕ × Tree ℕ)) → Same tree_discrete p.q f g → pairing p e f ≡ pairing p e g
   pairing_same e f g s = pairing_alike p e e f g (λ x. refl) (Same-shuffled (dual p []) f g s)

@@ -9,11 +9,11 @@ use Rattle.std.proofs.lemmas.Cmp.{ranked}
 use Rattle.std.proofs.Math.Nat.{zero-mod, mod-eq_of_lt}
 use Rattle.modular_sums.specs.Residues.{IsCongruent}
 use Rattle.modular_sums.specs.Sums.{coef, AllTerms}
-use Rattle.modular_sums.proofs.Sums.{hit-yes, hit-no}
 use Rattle.modular_sums.proofs.Coefficients.{coef_absent}
 use Rattle.modular_sums.proofs.Images.{AllTerms-imp}
 use Rattle.modular_sums.specs.Falling.{IsAbove, Falls, AreNonzeroResidues, IsFalling}
 use Rattle.modular_sums.specs.PositionChains.{HasPosition, HasNoZeroPositions}
+use Rattle.modular_sums.proofs.Choices.{choose-yes, choose-no}
 
 abbrev Sum : Type 0
 Sum = List (ℕ × ℕ)
@@ -63,11 +63,11 @@ module _ (q : ℕ) where
   unfolding coef
   first_coef x l h =
       let a : coef ℕ_discrete l x.1 ≡ 0 = coef_absent ℕ_discrete l x.1 (AllTerms-imp (λ t. t < x.1) (λ t. t ≡ x.1 → ⊥) l (λ t k e. let n : t ≢ x.1 = omega arith in n e) h) in
-      rw (hit-yes (ℕ_discrete x.1 x.1) x.0 refl, a) (omega arith)
+      rw (choose-yes (ℕ_discrete x.1 x.1) x.0 0 refl, a) (omega arith)
 
   other_coef : (x : ℕ × ℕ) (l : Sum) (t : ℕ) → t < x.1 → coef ℕ_discrete (x ∷ l) t ≡ coef ℕ_discrete l t
   unfolding coef
-  other_coef x l t h = let n : x.1 ≢ t = omega arith in rw (hit-no (ℕ_discrete x.1 t) x.0 n) (omega arith)
+  other_coef x l t h = let n : x.1 ≢ t = omega arith in rw (choose-no (ℕ_discrete x.1 t) x.0 0 n) (omega arith)
 
   -- no term of a falling sum is 0
   no_zeros : (l : Sum) → AreNonzeroResidues (suc q) l → Falls nat_cmp l → HasNoZeroPositions q l

@@ -7,9 +7,9 @@ use Rattle.std.proofs.Math.ListN.{set}
 use Rattle.std.proofs.Math.Nat.{zero-mod, mod-mod}
 use Rattle.std.proofs.lemmas.List.{get_or-set_same, get_or-set_other}
 use Rattle.modular_sums.specs.Residues.{IsCongruent}
-use Rattle.modular_sums.specs.Sums.{hit, coef, scale, AllTerms, Same}
-use Rattle.modular_sums.proofs.Residues.{alike_add, alike_drop, alike_gone, alike_cancel}
-use Rattle.modular_sums.proofs.Sums.{coef-append, coef-scale, hit-yes, hit-no, AllTerms-append}
+use Rattle.modular_sums.specs.Sums.{coef, scale, AllTerms, Same}
+use Rattle.modular_sums.proofs.Residues.{congruent_add, congruent_drop, congruent_gone, congruent_cancel}
+use Rattle.modular_sums.proofs.Sums.{coef-append, coef-scale, AllTerms-append}
 use Rattle.modular_sums.proofs.Coefficients.{coef_absent}
 use Rattle.modular_sums.proofs.Images.{AllTerms-imp}
 use Rattle.modular_sums.specs.RuleTables.{Table, HasRule, IsRuled, IsUnruled, tail_of, rule_at}
@@ -17,6 +17,8 @@ use Rattle.modular_sums.specs.PositionRows.{dense}
 use Rattle.modular_sums.proofs.PositionRows.{coef-dense}
 use Rattle.row_sweeps.specs.Gathering.{IsSumFrom}
 use Rattle.row_sweeps.proofs.Falls.{falling_more}
+use Rattle.modular_sums.specs.Lists.{choose}
+use Rattle.modular_sums.proofs.Choices.{choose-yes, choose-no}
 
 abbrev pub Sum : Type 0
 Sum = List (ℕ × ℕ)
@@ -24,11 +26,11 @@ Sum = List (ℕ × ℕ)
 pub coef-whole : (rest : Sum) (row : List ℕ) (t : ℕ) → coef ℕ_discrete (rest ++ dense row) t ≡ coef ℕ_discrete rest t + get_or row t 0
 coef-whole rest row t = rw (coef-append ℕ_discrete rest (dense row) t, coef-dense row t) refl
 
-single : (c at t : ℕ) → coef ℕ_discrete ((c, at) ∷ []) t ≡ hit (ℕ_discrete at t) c
+single : (c at t : ℕ) → coef ℕ_discrete ((c, at) ∷ []) t ≡ choose (ℕ_discrete at t) c 0
 unfolding coef
 single c at t = omega arith
 
-pub coef-last : (rest : Sum) (c at t : ℕ) → coef ℕ_discrete (rest ++ ((c, at) ∷ [])) t ≡ coef ℕ_discrete rest t + hit (ℕ_discrete at t) c
+pub coef-last : (rest : Sum) (c at t : ℕ) → coef ℕ_discrete (rest ++ ((c, at) ∷ [])) t ≡ coef ℕ_discrete rest t + choose (ℕ_discrete at t) c 0
 coef-last rest c at t = coef-append ℕ_discrete rest ((c, at) ∷ []) t ∙ ap (λ n. coef ℕ_discrete rest t + n) (single c at t)
 
 -- what is above isn't below
@@ -90,12 +92,12 @@ module _ (q : ℕ) where
       go t (no n) = rw (others t n, get_or-set_other row at t v 0 n) refl
 
   residue_alike : (r x : ℕ) → IsCongruent q (r + x) (r + x % suc q)
-  residue_alike r x = alike_add q r r x (x % suc q) refl (sym (mod-mod x (suc q)))
+  residue_alike r x = congruent_add q r r x (x % suc q) refl (sym (mod-mod x (suc q)))
 
   -- 0 is taken away
   pub same_zero : (rest : Sum) (row : List ℕ) (at : ℕ) → at < length row → get_or row at 0 % suc q ≡ 0 → Same ℕ_discrete q (rest ++ dense row) (rest ++ dense (set row at 0))
   same_zero rest row at lt z = same_replaced rest rest row at 0 lt (λ t n. refl)
-      (alike_add q (coef ℕ_discrete rest at) (coef ℕ_discrete rest at) (get_or row at 0) 0 refl (z ∙ sym (zero-mod (suc q))))
+      (congruent_add q (coef ℕ_discrete rest at) (coef ℕ_discrete rest at) (get_or row at 0) 0 refl (z ∙ sym (zero-mod (suc q))))
 
   -- a number becomes its residue
   pub same_residue : (rest : Sum) (row : List ℕ) (at : ℕ) → at < length row → Same ℕ_discrete q (rest ++ dense row) (rest ++ dense (set row at (get_or row at 0 % suc q)))
@@ -110,37 +112,37 @@ module _ (q : ℕ) where
       c = get_or row at 0 % suc q
 
       others : (t : ℕ) → t ≢ at → coef ℕ_discrete (rest ++ ((c, at) ∷ [])) t ≡ coef ℕ_discrete rest t
-      others t n = rw (coef-last rest c at t, hit-no (ℕ_discrete at t) c (λ e. n (sym e))) (omega arith)
+      others t n = rw (coef-last rest c at t, choose-no (ℕ_discrete at t) c 0 (λ e. n (sym e))) (omega arith)
 
       here : IsCongruent q (coef ℕ_discrete rest at + get_or row at 0) (coef ℕ_discrete (rest ++ ((c, at) ∷ [])) at + 0)
       here =
           let e : coef ℕ_discrete rest at + c + 0 ≡ coef ℕ_discrete rest at + c = omega arith in
-          rw (coef-last rest c at at, hit-yes (ℕ_discrete at at) c refl, e) (residue_alike (coef ℕ_discrete rest at) (get_or row at 0))
+          rw (coef-last rest c at at, choose-yes (ℕ_discrete at at) c 0 refl, e) (residue_alike (coef ℕ_discrete rest at) (get_or row at 0))
 
   -- ---- a step
 
   -- x less c is 0, where c is the residue of x
   gone : (r x c : ℕ) → IsCongruent q c x → IsCongruent q (r + x + q * c * (1 + 0)) (r + (0 + 0))
   gone r x c h =
-      let a : IsCongruent q (r + x + q * c * (1 + 0)) (r + c + q * c * (1 + 0)) = alike_add q (r + x) (r + c) (q * c * (1 + 0)) (q * c * (1 + 0)) (alike_add q r r x c refl (sym h)) refl in
+      let a : IsCongruent q (r + x + q * c * (1 + 0)) (r + c + q * c * (1 + 0)) = congruent_add q (r + x) (r + c) (q * c * (1 + 0)) (q * c * (1 + 0)) (congruent_add q r r x c refl (sym h)) refl in
       let e : r + c + q * c * (1 + 0) ≡ r + (0 + 0) + (c + q * c) = omega arith in
-      a ∙ ap (λ n. n % suc q) e ∙ alike_drop q (r + (0 + 0)) c
+      a ∙ ap (λ n. n % suc q) e ∙ congruent_drop q (r + (0 + 0)) c
 
   -- q times c is alike suc q less c
   turned : (c k : ℕ) → c ≤ suc q → IsCongruent q (q * c * (0 + k)) ((suc q - c) * k)
-  turned c k le = alike_cancel q (q * c * (0 + k)) ((suc q - c) * k) (c * k) (left ∙ sym right)
+  turned c k le = congruent_cancel q (q * c * (0 + k)) ((suc q - c) * k) (c * k) (left ∙ sym right)
     where
       left : IsCongruent q (q * c * (0 + k) + c * k) 0
-      left = let e : q * c * (0 + k) + c * k ≡ c * k + q * (c * k) = omega arith in ap (λ n. n % suc q) e ∙ alike_gone q (c * k)
+      left = let e : q * c * (0 + k) + c * k ≡ c * k + q * (c * k) = omega arith in ap (λ n. n % suc q) e ∙ congruent_gone q (c * k)
 
       right : IsCongruent q ((suc q - c) * k + c * k) 0
       right =
           let m : suc q - c + c ≡ suc q = omega arith in
           let e : (suc q - c) * k + c * k ≡ (suc q - c + c) * k = omega arith in
           let f : suc q * k ≡ k + q * k = omega arith in
-          ap (λ n. n % suc q) (e ∙ ap (λ n. n * k) m ∙ f) ∙ alike_gone q k
+          ap (λ n. n % suc q) (e ∙ ap (λ n. n * k) m ∙ f) ∙ congruent_gone q k
 
-  coef-rule : (at t : ℕ) (tail : Sum) → coef ℕ_discrete ((1, at) ∷ tail) t ≡ hit (ℕ_discrete at t) 1 + coef ℕ_discrete tail t
+  coef-rule : (at t : ℕ) (tail : Sum) → coef ℕ_discrete ((1, at) ∷ tail) t ≡ choose {B = ℕ} (ℕ_discrete at t) 1 0 + coef ℕ_discrete tail t
   unfolding coef
   coef-rule at t tail = refl
 
@@ -161,7 +163,7 @@ module _ (q : ℕ) where
       )
       (go (ℕ_discrete at t))
     where
-      go : (d : Dec (at ≡ t)) → IsCongruent q (coef ℕ_discrete rest t + get_or row t 0 + q * c * (hit d 1 + coef ℕ_discrete tail t)) (coef ℕ_discrete rest t + (get_or (set row at 0) t 0 + (suc q - c) * coef ℕ_discrete tail t))
+      go : (d : Dec (at ≡ t)) → IsCongruent q (coef ℕ_discrete rest t + get_or row t 0 + q * c * (choose {B = ℕ} d 1 0 + coef ℕ_discrete tail t)) (coef ℕ_discrete rest t + (get_or (set row at 0) t 0 + (suc q - c) * coef ℕ_discrete tail t))
       go (yes p) = subst (λ u. IsCongruent q (coef ℕ_discrete rest u + get_or row u 0 + q * c * (1 + coef ℕ_discrete tail u)) (coef ℕ_discrete rest u + (get_or (set row at 0) u 0 + (suc q - c) * coef ℕ_discrete tail u))) p
           (let z : (suc q - c) * 0 ≡ 0 = omega arith in rw (none, get_or-set_same row at 0 0 lt, z) (gone (coef ℕ_discrete rest at) (get_or row at 0) c h))
       go (no n) =
@@ -169,4 +171,4 @@ module _ (q : ℕ) where
           let x = get_or row t 0 in
           let k = coef ℕ_discrete tail t in
           let e : r + (x + (suc q - c) * k) ≡ r + x + (suc q - c) * k = omega arith in
-          rw (get_or-set_other row at t 0 0 (λ p. n (sym p)), e) (alike_add q (r + x) (r + x) (q * c * (0 + k)) ((suc q - c) * k) refl (turned c k le))
+          rw (get_or-set_other row at t 0 0 (λ p. n (sym p)), e) (congruent_add q (r + x) (r + x) (q * c * (0 + k)) ((suc q - c) * k) refl (turned c k le))

@@ -2,12 +2,12 @@
 use Rattle.std.proofs.Common.{◌≡◌, ◌≢◌, ℕ, ◌+◌, ◌*◌, ◌<◌, ◌≤◌, List, [], ◌∷◌, arith, refl, sym, inl, inr}
 use native.Mathlib.Decide.{ℕ_discrete}
 use Rattle.std.proofs.Math.Nat.{mul-le-mul}
-use Rattle.modular_sums.specs.Lists.{Mem, Distinct}
-use Rattle.modular_sums.specs.Sums.{hit, coef}
-use Rattle.modular_sums.proofs.Sums.{hit-no}
+use Rattle.modular_sums.specs.Lists.{Mem, Distinct, choose}
+use Rattle.modular_sums.specs.Sums.{coef}
 use Rattle.modular_sums.proofs.Coefficients.{coef_absent}
 use Rattle.modular_sums.proofs.Images.{AllTerms-imp}
 use Rattle.modular_sums.specs.RuleTables.{positions, AreResidues, IsRuleTail}
+use Rattle.modular_sums.proofs.Choices.{choose-no}
 
 abbrev Sum : Type 0
 Sum = List (ℕ × ℕ)
@@ -15,7 +15,7 @@ Sum = List (ℕ × ℕ)
 coef_not_there : (l : Sum) (t : ℕ) → (Mem t (positions l) → ⊥) → coef ℕ_discrete l t ≡ 0
 unfolding coef
 coef_not_there [] t h = refl
-coef_not_there (x ∷ l) t h = rw (hit-no (ℕ_discrete x.1 t) x.0 (λ e. h (inl (sym e))), coef_not_there l t (λ m. h (inr m))) (omega arith)
+coef_not_there (x ∷ l) t h = rw (choose-no (ℕ_discrete x.1 t) x.0 0 (λ e. h (inl (sym e))), coef_not_there l t (λ m. h (inr m))) (omega arith)
 
 -- where each position stands once and the numbers are residues, so are the coefficients
 coef_residue : (q : ℕ) (l : Sum) (t : ℕ) → Distinct (positions l) → AreResidues q l → coef ℕ_discrete l t ≤ q
@@ -26,7 +26,7 @@ coef_residue q (x ∷ l) t d r = go (ℕ_discrete x.1 t) (coef_residue q l t d.1
     here : x.1 ≡ t → coef ℕ_discrete l t ≡ 0
     here e = rw e at (coef_not_there l x.1 d.0)
 
-    go : (k : Dec (x.1 ≡ t)) → coef ℕ_discrete l t ≤ q → hit k x.0 + coef ℕ_discrete l t ≤ q
+    go : (k : Dec (x.1 ≡ t)) → coef ℕ_discrete l t ≤ q → choose k x.0 0 + coef ℕ_discrete l t ≤ q
     go (yes e) ih = let z = here e in let le : x.0 ≤ q = r.1 in omega (arith, z, le)
     go (no n) ih = omega arith
 

@@ -13,8 +13,8 @@ use Rattle.labelled_trees.specs.Contexts.{Ctx, hole, inside, fill, compose, graf
 use Rattle.labelled_trees.specs.Leaves.{AllLeaves, occurs}
 use Rattle.shuffle_insertions.specs.ShuffleTrees.{IsShuffle}
 use Rattle.shuffle_insertions.specs.Slots.{fill_slot}
-use Rattle.modular_sums.specs.Sums.{hit, coef, Same, scale, expand, moved, AllTerms}
-use Rattle.modular_sums.proofs.Sums.{hit-yes, hit-no, Same-cancelled}
+use Rattle.modular_sums.specs.Sums.{coef, Same, scale, expand, moved, AllTerms}
+use Rattle.modular_sums.proofs.Sums.{Same-cancelled}
 use Rattle.modular_sums.proofs.Images.{moved_eq}
 use Rattle.modular_sums.proofs.Diamond.{diamond}
 use Rattle.modular_sums.specs.Diamond.{HaveLeadingTerms, LeadsBelow, Led}
@@ -28,6 +28,8 @@ use Rattle.shuffle_bases.proofs.SharedVertices.{meets_over}
 use Rattle.shuffle_bases.proofs.Separate.{meets_apart}
 use Rattle.shuffle_places.proofs.Independent.{branches, nested}
 use Rattle.shuffle_bases.proofs.Placed.{laid}
+use Rattle.modular_sums.specs.Lists.{choose}
+use Rattle.modular_sums.proofs.Choices.{choose-yes, choose-no}
 
 module _ (base : Setting) (basis : AreMonic base) (order : IsTreeOrder base.arity base.compare)
     (most : ℕ) (reduce : SmallMeet base most) (n : ℕ) (n_le : n ≤ most) where
@@ -105,7 +107,7 @@ module _ (base : Setting) (basis : AreMonic base) (order : IsTreeOrder base.arit
 
   module _ (rank : Tree ℕ → ℕ) (rank_less : (x y : Tree ℕ) → IsShuffle n x → IsShuffle n y → (Fits base.arity) x → (Fits base.arity) y → IsLess base x y → rank x < rank y)
       (rank_one : (x y : Tree ℕ) → IsShuffle n x → IsShuffle n y → (Fits base.arity) x → (Fits base.arity) y → rank x ≡ rank y → x ≡ y) where
-    hit_less : (x t : Tree ℕ) (c m : ℕ) (d : Dec (x ≡ t)) → rank x < m → m ≤ rank t → hit d c ≡ 0
+    hit_less : (x t : Tree ℕ) (c m : ℕ) (d : Dec (x ≡ t)) → rank x < m → m ≤ rank t → choose d c 0 ≡ 0
     hit_less x t c m (yes e) lt le = let r : rank x ≡ rank t = ap rank e in absurd (omega arith)
     hit_less x t c m (no _) lt le = refl
 
@@ -117,7 +119,7 @@ module _ (base : Setting) (basis : AreMonic base) (order : IsTreeOrder base.arit
         let v : IsShuffle n (fill_slot i.at x.1) = fill_slot-valid i.of.arity n i.at i.of.lead x.1 i.rises (lead_valid base basis i.of i.member) h.0.0 i.valid in
         let lt : rank (fill_slot i.at x.1) < rank (host i) = rank_less (fill_slot i.at x.1) (host i) v i.valid (fill_slot-fits base.arity i.of.arity i.at i.of.lead x.1 (lead_valid base basis i.of i.member) h.0.0 i.fits f.0) i.fits
         (less_kept base order i.of.arity n i.at x.1 i.of.lead i.rises h.0.0 (lead_valid base basis i.of i.member) i.valid h.0.1) in
-        let z : hit (tree_discrete (fill_slot i.at x.1) t) x.0 ≡ 0 = hit_less (fill_slot i.at x.1) t x.0 (rank (host i)) (tree_discrete (fill_slot i.at x.1) t) lt le in
+        let z : choose (tree_discrete (fill_slot i.at x.1) t) x.0 0 ≡ 0 = hit_less (fill_slot i.at x.1) t x.0 (rank (host i)) (tree_discrete (fill_slot i.at x.1) t) lt le in
         rw (z, low_tail i l t h.1 f.1 le) (omega arith)
 
     monic : HaveLeadingTerms {I = Placed base n} tree_discrete rank base.q value host
@@ -125,12 +127,12 @@ module _ (base : Setting) (basis : AreMonic base) (order : IsTreeOrder base.arit
     monic = record {
       at_lead = λ i.
           let z : coef tree_discrete (moved (fill_slot i.at) i.of.tail) (host i) ≡ 0 = low_tail i i.of.tail (host i) (tail_valid base basis i.of i.member) (tail_fits base basis i.of i.member) (omega arith) in
-          let o : hit (tree_discrete (host i) (host i)) 1 ≡ 1 = hit-yes (tree_discrete (host i) (host i)) 1 refl in
+          let o : choose {B = ℕ} (tree_discrete (host i) (host i)) 1 0 ≡ 1 = choose-yes {B = ℕ} (tree_discrete (host i) (host i)) 1 0 refl in
           let e : 1 + 0 ≡ 1 = omega arith in
           rw (z, o, e);
       above = λ i t ne le.
           let z : coef tree_discrete (moved (fill_slot i.at) i.of.tail) t ≡ 0 = low_tail i i.of.tail t (tail_valid base basis i.of i.member) (tail_fits base basis i.of i.member) le in
-          let o : hit (tree_discrete (host i) t) 1 ≡ 0 = hit-no (tree_discrete (host i) t) 1 (λ e. ne (sym e)) in
+          let o : choose {B = ℕ} (tree_discrete (host i) t) 1 0 ≡ 0 = choose-no {B = ℕ} (tree_discrete (host i) t) 1 0 (λ e. ne (sym e)) in
           let e : 0 + 0 ≡ 0 = omega arith in
           rw (z, o, e);
     }

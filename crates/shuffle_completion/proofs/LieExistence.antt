@@ -3,7 +3,7 @@ use Rattle.std.proofs.Common.{◌≡◌, ℕ, zero, suc, ◌*◌, ◌%◌, ◌<�
 use Rattle.std.proofs.lemmas.Nat.{mod_below}
 use Rattle.std.specs.declared.cmp.Ordering.{Ordering}
 use Rattle.modular_sums.specs.Residues.{IsCongruent}
-use Rattle.modular_sums.proofs.Residues.{alike_mul}
+use Rattle.modular_sums.proofs.Residues.{congruent_mul}
 use Rattle.labelled_trees.specs.Trees.{Tree}
 use Rattle.shuffle_insertions.specs.Orders.{IsTreeOrder}
 use Rattle.shuffle_bases.specs.Elements.{Element}
@@ -36,8 +36,8 @@ inverses c nonzero = (c, go (c % 3) refl (mod_below c 3 (omega arith)))
   where
     go : (r : ℕ) → c % 3 ≡ r → r < 3 → IsCongruent 2 (c * c) 1
     go zero e low = absurd (nonzero e)
-    go (suc zero) e low = alike_mul 2 c 1 c 1 e e
-    go (suc (suc zero)) e low = alike_mul 2 c 2 c 2 e e
+    go (suc zero) e low = congruent_mul 2 c 1 c 1 e e
+    go (suc (suc zero)) e low = congruent_mul 2 c 2 c 2 e e
     go (suc (suc (suc r))) e low = absurd (omega (arith, low))
 
 proper : IsProper modulo_three

@@ -4,7 +4,7 @@ use mathlib.Core.List.{◌++◌}
 use native.Mathlib.Decide.{ℕ_discrete}
 use Rattle.std.specs.Prelude.{flat_map}
 use Rattle.std.specs.declared.cmp.Ordering.{Ordering}
-use Rattle.modular_sums.specs.Lists.{Mem}
+use Rattle.modular_sums.specs.Lists.{Mem, choose}
 use Rattle.modular_sums.specs.Residues.{IsCongruent}
 use Rattle.modular_sums.specs.Sums.{coef, AllTerms, Same}
 use Rattle.modular_sums.proofs.Coefficients.{coef_nothing}
@@ -41,13 +41,8 @@ use Rattle.shuffle_completion.proofs.LeadingTrees.{Sum, Any, leading, leading_ar
 
 -- ---- the list of all tasks
 
--- the list where a decided fact holds, else nothing
-abbrev where_so : {A X : Type 0} → Dec A → List X → List X
-where_so (yes _) l = l
-where_so (no _) l = []
-
 of_relation : ℕ → Relation → List Task
-of_relation n r = where_so (ℕ_discrete r.arity n) (map (relation r) (orderings n))
+of_relation n r = choose (ℕ_discrete r.arity n) (map (relation r) (orderings n)) []
 
 of_pair : ℕ → Element → Element → List Task
 of_pair n g h = map (λ m. multiple g h m.0 m.1 m.2) (multiples g.lead h.lead n)
@@ -60,7 +55,7 @@ module _ (p : Presentation) (compare : Tree ℕ → Tree ℕ → Ordering) (elem
   unfolding of_relation
   relation_is_task r m x k = go (ℕ_discrete r.arity n) k
     where
-      go : (d : Dec (r.arity ≡ n)) → Mem x (where_so d (map (relation r) (orderings n))) → IsTask p elements n x
+      go : (d : Dec (r.arity ≡ n)) → Mem x (choose d (map (relation r) (orderings n)) []) → IsTask p elements n x
       go (yes e) i = let o = mem_of_map (relation r) x (orderings n) i in subst (IsTask p elements n) (sym o.2) (m, e, o.1)
       go (no f) i = absurd i
 
@@ -86,7 +81,7 @@ module _ (p : Presentation) (compare : Tree ℕ → Tree ℕ → Ordering) (elem
   has_relation r m e v o = mem_left (relation r v) (flat_map (of_relation n) p.relations) (flat_map (λ g. flat_map (of_pair n g) elements) elements)
       (mem_flat (of_relation n) r (relation r v) p.relations m (go (ℕ_discrete r.arity n)))
     where
-      go : (d : Dec (r.arity ≡ n)) → Mem (relation r v) (where_so d (map (relation r) (orderings n)))
+      go : (d : Dec (r.arity ≡ n)) → Mem (relation r v) (choose d (map (relation r) (orderings n)) [])
       go (yes _) = mem_map (relation r) v (orderings n) o
       go (no f) = absurd (f e)
 

@@ -13,13 +13,13 @@ use Rattle.labelled_trees.specs.Trees.{Tree, Row, leaf, node, none, more}
 use Rattle.labelled_trees.specs.Leaves.{one_if, occurs, occurs_row}
 use Rattle.shuffle_insertions.specs.ShuffleTrees.{IsShuffle}
 use Rattle.shuffle_insertions.proofs.PathWords.{HasWord, HasWordRow, SameWord, LessByWords}
-use Rattle.shuffle_insertions.specs.Keys.{only_if, words_at, words_at_row, words_below}
+use Rattle.shuffle_insertions.specs.Keys.{words_at, words_at_row, words_below}
 use Rattle.shuffle_insertions.proofs.LabelSums.{same_counts, once_of}
 use Rattle.shuffle_insertions.proofs.Paths.{word_of, word-occurs, word-occurs_row}
 use Rattle.shuffle_insertions.proofs.Comparing.{then_less, then_first, then_second, list_same, itself, slice_cmp-append}
 use Rattle.modular_sums.proofs.Lists.{tail_same}
 
-length_only : (n j : ℕ) (d : Dec (n ≡ j)) → length (only_if {A = List ℕ} d []) ≡ one_if d
+length_only : (n j : ℕ) (d : Dec (n ≡ j)) → length (choose {B = List (List ℕ)} d ([] ∷ []) []) ≡ one_if d
 length_only n j (yes _) = refl
 length_only n j (no _) = refl
 
@@ -36,11 +36,11 @@ no_length : {A : Type 0} (k : List A) → length k ≡ 0 → k ≡ []
 no_length [] e = refl
 no_length (x ∷ k) e = absurd (omega arith)
 
-only_yes : (n j : ℕ) (d : Dec (n ≡ j)) → n ≡ j → only_if {A = List ℕ} d [] ≡ [] ∷ []
+only_yes : (n j : ℕ) (d : Dec (n ≡ j)) → n ≡ j → choose {B = List (List ℕ)} d ([] ∷ []) [] ≡ [] ∷ []
 only_yes n j (yes _) e = refl
 only_yes n j (no f) e = absurd (f e)
 
-yes_only : (n j : ℕ) (w : List ℕ) (d : Dec (n ≡ j)) → only_if {A = List ℕ} d [] ≡ w ∷ [] → (n ≡ j) × (w ≡ [])
+yes_only : (n j : ℕ) (w : List ℕ) (d : Dec (n ≡ j)) → choose {B = List (List ℕ)} d ([] ∷ []) [] ≡ w ∷ [] → (n ≡ j) × (w ≡ [])
 yes_only n j w (yes e) h = (e, cc)
 yes_only n j w (no f) h = absurd (cc h)
 

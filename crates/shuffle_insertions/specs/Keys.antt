@@ -6,16 +6,12 @@ use Rattle.std.specs.Ordering.{nat_cmp, ordering_then}
 use Rattle.std.specs.Cmp.Lexicographic.{slice_cmp}
 use native.Mathlib.Decide.{ℕ_discrete}
 use Rattle.labelled_trees.specs.Trees.{Tree, Row, leaf, node, none, more, leaves}
-
--- the list of a alone where a decided fact holds, else none
-abbrev pub only_if : {A B : Type 0} → Dec B → A → List A
-only_if (yes _) a = a ∷ []
-only_if (no _) a = []
+use Rattle.modular_sums.specs.Lists.{choose}
 
 -- the words of the leaves with the number i, from left to right
 abbrev mutual
   pub words_at : ℕ → Tree ℕ → List (List ℕ)
-  words_at i (leaf n) = only_if (ℕ_discrete n i) []
+  words_at i (leaf n) = choose (ℕ_discrete n i) ([] ∷ []) []
   words_at i (node l r) = map (λ w. l ∷ w) (words_at_row i r)
 
   pub words_at_row : ℕ → Row ℕ → List (List ℕ)

@@ -8,11 +8,12 @@ use Rattle.labelled_trees.specs.Equality.{tree_discrete}
 use Rattle.shuffle_insertions.specs.Listing.{joined_below, rows, lone, shuffles, upto}
 use Rattle.shuffle_places.specs.Cuts.{numbers}
 use Rattle.shuffle_places.specs.Places.{divisor_of}
-use Rattle.shuffle_places.specs.AllPlaces.{where_so, lay, with_divisor, places, places_row}
+use Rattle.shuffle_places.specs.AllPlaces.{lay, with_divisor, places, places_row}
 use Rattle.shuffle_bases.specs.Elements.{Element, Setting}
 use Rattle.shuffle_normal_forms.specs.FreeTrees.{is_empty, has_no_place, free_trees}
 use Rattle.shuffle_normal_forms.specs.FreeTreeLists.{undivided, free_on, FreeTreesByInputs}
 use Rattle.shuffle_normal_forms.proofs.Filters.{filter-append, filter-ext, filter-both, filter-map, filter-below, below-ext, each_passes, filter-rows, rows-ext}
+use Rattle.modular_sums.specs.Lists.{choose}
 
 -- ---- which lists are empty
 
@@ -24,7 +25,7 @@ empty_joined [] l = refl
 empty_joined (x ∷ k) l = refl
 
 module _ (a : Tree ℕ) where
-  pub empty_where : {A X : Type 0} (d : Dec A) (x y : X) → is_empty (where_so d (x ∷ [])) ≡ is_empty (where_so d (y ∷ []))
+  pub empty_where : {A X : Type 0} (d : Dec A) (x y : X) → is_empty (choose d (x ∷ []) []) ≡ is_empty (choose d (y ∷ []) [])
   empty_where (yes _) x y = refl
   empty_where (no _) x y = refl
 
@@ -32,9 +33,9 @@ module _ (a : Tree ℕ) where
   divisors_empty : (k j : ℕ) (l : List (Tree (Tree ℕ))) → is_empty (with_divisor a k l) ≡ is_empty (with_divisor a j l)
   divisors_empty k j [] = refl
   divisors_empty k j (q ∷ l) =
-      empty_joined (where_so (tree_discrete (divisor_of q) a) (numbers (λ v. v) k q ∷ [])) (with_divisor a k l)
+      empty_joined (choose (tree_discrete (divisor_of q) a) (numbers (λ v. v) k q ∷ []) []) (with_divisor a k l)
       ∙ ap₂ both (empty_where (tree_discrete (divisor_of q) a) (numbers (λ v. v) k q) (numbers (λ v. v) j q)) (divisors_empty k j l)
-      ∙ sym (empty_joined (where_so (tree_discrete (divisor_of q) a) (numbers (λ v. v) j q ∷ [])) (with_divisor a j l))
+      ∙ sym (empty_joined (choose (tree_discrete (divisor_of q) a) (numbers (λ v. v) j q ∷ []) []) (with_divisor a j l))
 
   mutual
     places_empty : (k j : ℕ) (t : Tree ℕ) → is_empty (places a k t) ≡ is_empty (places a j t)

@@ -13,12 +13,13 @@ use Rattle.shuffle_insertions.specs.ShuffleTrees.{least, least_row}
 use Rattle.shuffle_insertions.specs.Listing.{joined_below, joined_splits, each_with_each, rows, lone}
 use Rattle.shuffle_places.specs.Cuts.{numbers}
 use Rattle.shuffle_places.specs.Places.{divisor_of}
-use Rattle.shuffle_places.specs.AllPlaces.{where_so, lay, lay_row, with_divisor}
+use Rattle.shuffle_places.specs.AllPlaces.{lay, lay_row, with_divisor}
 use Rattle.shuffle_bases.specs.Elements.{Element, Setting}
 use Rattle.shuffle_normal_forms.specs.FreeTrees.{is_empty, has_no_place}
 use Rattle.shuffle_normal_forms.specs.FreeTreeLists.{undivided, free_on, KeepsOrder, FreeTreesOnNumbers, RenamedAreFree}
 use Rattle.shuffle_normal_forms.proofs.Filters.{each_passes, filter-ext, filter-map, below-ext, splits-ext, rows-ext}
 use Rattle.shuffle_normal_forms.proofs.ByInputs.{empty_joined, empty_where, free_by_inputs, leaf_free}
+use Rattle.modular_sums.specs.Lists.{choose}
 
 -- ---- grafts of grafts
 
@@ -132,7 +133,7 @@ module _ (f : ℕ → ℕ) (keeps : KeepsOrder f) where
       ap₂ (λ k l. k ++ l) (map_twice (λ r. more (others t) r) others_row rs ∙ sym (map_twice others_row (λ r. more t r) rs)) (each_renamed ts rs)
       ∙ sym (map-append others_row (map (λ r. more t r) rs) (each_with_each ts rs))
 
-  where_renamed : {A : Type 0} (d : Dec A) (m : ℕ) (k l : List (Row (Tree ℕ))) → k ≡ map others_row l → where_so d (map (λ q. node m q) k) ≡ map others (where_so d (map (λ q. node m q) l))
+  where_renamed : {A : Type 0} (d : Dec A) (m : ℕ) (k l : List (Row (Tree ℕ))) → k ≡ map others_row l → choose d (map (λ q. node m q) k) [] ≡ map others (choose d (map (λ q. node m q) l) [])
   where_renamed (yes _) m k l e = ap (map (λ q. node m q)) e ∙ map_twice (λ q. node m q) others_row l ∙ sym (map_twice others (λ q. node m q) l)
   where_renamed (no _) m k l e = refl
 
@@ -151,12 +152,12 @@ module _ (f : ℕ → ℕ) (keeps : KeepsOrder f) where
   divisors_renamed : (a : Tree ℕ) (l : List (Tree (Tree ℕ))) → is_empty (with_divisor a 1 (map others l)) ≡ is_empty (with_divisor a 1 l)
   divisors_renamed a [] = refl
   divisors_renamed a (q ∷ l) =
-      empty_joined (where_so (tree_discrete (divisor_of (others q)) a) (numbers (λ v. v) 1 (others q) ∷ [])) (with_divisor a 1 (map others l))
+      empty_joined (choose (tree_discrete (divisor_of (others q)) a) (numbers (λ v. v) 1 (others q) ∷ []) []) (with_divisor a 1 (map others l))
       ∙ ap₂ (λ b c. cond b c false)
-      (ap (λ d. is_empty (where_so (tree_discrete d a) (numbers (λ v. v) 1 (others q) ∷ []))) (same_divisor q)
+      (ap (λ d. is_empty (choose (tree_discrete d a) (numbers (λ v. v) 1 (others q) ∷ []) [])) (same_divisor q)
       ∙ empty_where a (tree_discrete (divisor_of q) a) (numbers (λ v. v) 1 (others q)) (numbers (λ v. v) 1 q))
       (divisors_renamed a l)
-      ∙ sym (empty_joined (where_so (tree_discrete (divisor_of q) a) (numbers (λ v. v) 1 q ∷ [])) (with_divisor a 1 l))
+      ∙ sym (empty_joined (choose (tree_discrete (divisor_of q) a) (numbers (λ v. v) 1 q ∷ []) []) (with_divisor a 1 l))
 
   pub undivided_renamed : (l : List Element) (t : Tree ℕ) → undivided l (other t) ≡ undivided l t
   undivided_renamed [] t = refl

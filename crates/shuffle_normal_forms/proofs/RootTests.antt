@@ -2,13 +2,13 @@
 use Rattle.std.proofs.Common.{◌≡◌, ℕ, zero, suc, ◌+◌, ◌<◌, ◌≤◌, List, [], ◌∷◌, Bool, true, false, cond, map, refl, sym, ◌∙◌, ap, arith, subst, ◌⊎◌, inl, inr}
 use mathlib.Core.List.{◌++◌}
 use native.Mathlib.Decide.{ℕ_discrete}
-use Rattle.modular_sums.specs.Lists.{Mem}
+use Rattle.modular_sums.specs.Lists.{Mem, choose}
 use Rattle.modular_sums.proofs.Lists.{mem_left, mem_right, mem_either, mem_of_map, both_true}
 use Rattle.labelled_trees.specs.Trees.{Tree, Row, leaf, node, none, more, graft, vertices, IsNode}
 use Rattle.labelled_trees.specs.Equality.{tree_discrete}
 use Rattle.shuffle_places.specs.Cuts.{numbers, numbers_row}
 use Rattle.shuffle_places.specs.Places.{divisor_of, IsPlace}
-use Rattle.shuffle_places.specs.AllPlaces.{where_so, lay, lay_row, with_divisor, places, places_row}
+use Rattle.shuffle_places.specs.AllPlaces.{lay, lay_row, with_divisor, places, places_row}
 use Rattle.shuffle_places.proofs.Laws.{places_listed}
 use Rattle.shuffle_bases.specs.Elements.{Element}
 use Rattle.shuffle_normal_forms.specs.FreeTrees.{is_empty}
@@ -37,19 +37,19 @@ record IsLaid (k : ℕ) (l : List (Tree (Tree ℕ))) (set : List ℕ) : Type 0 w
   laid : Mem pattern_at l
   set_is : set ≡ numbers (λ v. v) k pattern_at
 
-from_where : {A X : Type 0} (d : Dec A) (x : X) (l : List X) → Mem x (where_so d l) → Mem x l
+from_where : {A X : Type 0} (d : Dec A) (x : X) (l : List X) → Mem x (choose d l []) → Mem x l
 from_where (yes a) x l h = h
 from_where (no _) x l h = absurd h
 
 laid_of : (a : Tree ℕ) (k : ℕ) (l : List (Tree (Tree ℕ))) (set : List ℕ) → Mem set (with_divisor a k l) → IsLaid k l set
 laid_of a k [] set h = absurd h
-laid_of a k (q ∷ l) set h = go (mem_either set (where_so (tree_discrete (divisor_of q) a) (numbers (λ v. v) k q ∷ [])) (with_divisor a k l) h) (laid_of a k l set)
+laid_of a k (q ∷ l) set h = go (mem_either set (choose (tree_discrete (divisor_of q) a) (numbers (λ v. v) k q ∷ []) []) (with_divisor a k l) h) (laid_of a k l set)
   where
     one : Mem set (numbers (λ v. v) k q ∷ []) → set ≡ numbers (λ v. v) k q
     one (inl e) = e
     one (inr n) = absurd n
 
-    go : Mem set (where_so (tree_discrete (divisor_of q) a) (numbers (λ v. v) k q ∷ [])) ⊎ Mem set (with_divisor a k l) → (Mem set (with_divisor a k l) → IsLaid k l set) → IsLaid k (q ∷ l) set
+    go : Mem set (choose (tree_discrete (divisor_of q) a) (numbers (λ v. v) k q ∷ []) []) ⊎ Mem set (with_divisor a k l) → (Mem set (with_divisor a k l) → IsLaid k l set) → IsLaid k (q ∷ l) set
     go (inl m) f = record { pattern_at = q; laid = inl refl; set_is = one (from_where (tree_discrete (divisor_of q) a) set (numbers (λ v. v) k q ∷ []) m) }
     go (inr m) f = let r = f m in record { pattern_at = r.pattern_at; laid = inr r.laid; set_is = r.set_is }
 

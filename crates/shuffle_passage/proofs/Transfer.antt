@@ -4,7 +4,7 @@ use Rattle.std.specs.List.{AllByRecursion}
 use Rattle.std.proofs.lemmas.List.Elements.{recursion_from_All}
 use Rattle.modular_sums.proofs.Lists.{mem_of_map}
 use Rattle.modular_sums.specs.Sums.{Same, moved, AllTerms, coef}
-use Rattle.modular_sums.proofs.Sums.{Member-same}
+use Rattle.modular_sums.proofs.Sums.{combination-same}
 use Rattle.modular_sums.proofs.Images.{Same-moved}
 use Rattle.modular_sums.proofs.Links.{member_one, member_through}
 use Rattle.labelled_trees.specs.Trees.{Tree}
@@ -51,13 +51,13 @@ collected_form p q n e f z h c =
 
 pub transfer_of_answers : TransferOfAnswers
 transfer_of_answers q gens rels n e f answer sound h c answers = (
-  λ m. Member-same tree_discrete (inserted_answer p n answer) p.q {e = shuffled p f} {f = shuffled p e} (collected_form p q n e f refl h c)
+  λ m. combination-same tree_discrete (inserted_answer p n answer) p.q {e = shuffled p f} {f = shuffled p e} (collected_form p q n e f refl h c)
       (member_through tree_discrete p.q (inserted_relation p n) (inserted_answer p n answer)
-      (λ i. Member-same tree_discrete (inserted_answer p n answer) p.q {e = inserted_relation p n i} {f = inserted_answer p n answer i} (λ t. sym (values i t)) (member_one tree_discrete (inserted_answer p n answer) p.q i))
+      (λ i. combination-same tree_discrete (inserted_answer p n answer) p.q {e = inserted_relation p n i} {f = inserted_answer p n answer i} (λ t. sym (values i t)) (member_one tree_discrete (inserted_answer p n answer) p.q i))
       (shuffled p e) ((transfer_law p n e is_sound h).0 m)),
-  λ m. (transfer_law p n e is_sound h).1 (Member-same tree_discrete (inserted_relation p n) p.q {e = shuffled p e} {f = shuffled p f} (λ t. sym (collected_form p q n e f refl h c t))
+  λ m. (transfer_law p n e is_sound h).1 (combination-same tree_discrete (inserted_relation p n) p.q {e = shuffled p e} {f = shuffled p f} (λ t. sym (collected_form p q n e f refl h c t))
       (member_through tree_discrete p.q (inserted_answer p n answer) (inserted_relation p n)
-      (λ i. Member-same tree_discrete (inserted_relation p n) p.q {e = inserted_answer p n answer i} {f = inserted_relation p n i} (values i) (member_one tree_discrete (inserted_relation p n) p.q i))
+      (λ i. combination-same tree_discrete (inserted_relation p n) p.q {e = inserted_answer p n answer i} {f = inserted_relation p n i} (values i) (member_one tree_discrete (inserted_relation p n) p.q i))
       (shuffled p f) m)),
 )
   where

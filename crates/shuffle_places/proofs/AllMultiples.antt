@@ -9,13 +9,13 @@ use Rattle.labelled_trees.specs.Equality.{tree_discrete}
 use Rattle.shuffle_insertions.specs.ShuffleTrees.{IsShuffle}
 use Rattle.shuffle_places.proofs.Places.{place_of_cut, cut_of_place}
 use Rattle.shuffle_places.specs.Cuts.{IsCut}
-use Rattle.modular_sums.specs.Lists.{has_by, Mem, Distinct, has}
+use Rattle.modular_sums.specs.Lists.{has_by, Mem, Distinct, has, choose}
 use Rattle.shuffle_insertions.specs.Listing.{upto}
 use Rattle.shuffle_places.specs.Overlays.{shape_discrete, shape, shapes_of}
 use Rattle.shuffle_places.specs.Numberings.{numberings}
 use Rattle.shuffle_places.specs.AllPlaces.{places}
 use Rattle.shuffle_places.specs.Multiples.{IsMultiple}
-use Rattle.shuffle_places.specs.AllMultiples.{meet, cover, in_order, test, joined, different, multiples, only_where}
+use Rattle.shuffle_places.specs.AllMultiples.{meet, cover, in_order, test, joined, different, multiples}
 use Rattle.modular_sums.proofs.Lists.{both_true, true_both, mem_has_by, has_by_mem, has_mem, mem_has, mem_flat, mem_of_flat, Distinct-append}
 use Rattle.shuffle_places.proofs.Overlays.{multiple_shape}
 use Rattle.shuffle_places.proofs.Numberings.{all_numbered}
@@ -81,14 +81,14 @@ is_cover (x ∷ m) k l h = step_cover (has k x) (has l x) (cover m k l) (go (h x
 ordered_of : (a b : Tree ℕ) (k l : List ℕ) → in_order a b k l ≡ true → a ≡ b → slice_cmp nat_cmp k l ≡ Less
 ordered_of a b k l e q = go (tree_discrete a b) e
   where
-    go : (d : Dec (a ≡ b)) → only_where d (is_lt (slice_cmp nat_cmp k l)) ≡ true → slice_cmp nat_cmp k l ≡ Less
+    go : (d : Dec (a ≡ b)) → choose d (is_lt (slice_cmp nat_cmp k l)) true ≡ true → slice_cmp nat_cmp k l ≡ Less
     go (yes _) e = is_less (slice_cmp nat_cmp k l) e
     go (no f) e = absurd (f q)
 
 of_ordered : (a b : Tree ℕ) (k l : List ℕ) → (a ≡ b → slice_cmp nat_cmp k l ≡ Less) → in_order a b k l ≡ true
 of_ordered a b k l h = go (tree_discrete a b)
   where
-    go : (d : Dec (a ≡ b)) → only_where d (is_lt (slice_cmp nat_cmp k l)) ≡ true
+    go : (d : Dec (a ≡ b)) → choose d (is_lt (slice_cmp nat_cmp k l)) true ≡ true
     go (yes q) = ap is_lt (h q)
     go (no f) = refl
 

@@ -7,9 +7,9 @@ use Rattle.labelled_trees.specs.Trees.{Tree, Row, leaf, node, none, more, graft_
 use Rattle.labelled_trees.specs.Contexts.{Ctx, RowCtx, hole, inside, here, past, fill, fill_row}
 use Rattle.labelled_trees.specs.Equality.{tree_discrete}
 use Rattle.shuffle_places.specs.Cuts.{numbers, start, start_row, IsCut}
-use Rattle.modular_sums.specs.Lists.{Mem, Rises, Distinct}
+use Rattle.modular_sums.specs.Lists.{Mem, Rises, Distinct, choose}
 use Rattle.shuffle_places.specs.Overlays.{shape, shape_row}
-use Rattle.shuffle_places.specs.AllPlaces.{where_so, lay, lay_row, with_divisor, places, places_row}
+use Rattle.shuffle_places.specs.AllPlaces.{lay, lay_row, with_divisor, places, places_row}
 use Rattle.shuffle_places.specs.Places.{divisor_of}
 use Rattle.shuffle_insertions.specs.Listing.{each_with_each}
 use Rattle.labelled_trees.proofs.Contexts.{node-eq, more-eq}
@@ -20,7 +20,7 @@ use Rattle.shuffle_places.proofs.Overlays.{standard_shape}
 abbrev self : Tree ℕ → Tree ℕ
 self v = v
 
-pub where_yes : {A X : Type 0} (d : Dec A) (l : List X) → A → where_so d l ≡ l
+pub where_yes : {A X : Type 0} (d : Dec A) (l : List X) → A → choose d l [] ≡ l
 where_yes (yes _) l a = refl
 where_yes (no f) l a = absurd (f a)
 
@@ -51,7 +51,7 @@ from_pairs {X = X} y (t ∷ ts) rs h = go (mem_either y (map (λ r. more t r) rs
     go (inl m) f = let k = mem_of_map (λ r. more t r) y rs m in (t, k.0, inl refl, k.1, k.2)
     go (inr m) f = let k = f m in (k.0, k.1, inr k.2, k.3, k.4)
 
-from_where : {A X : Type 0} (d : Dec A) (x : X) (l : List X) → Mem x (where_so d l) → A × Mem x l
+from_where : {A X : Type 0} (d : Dec A) (x : X) (l : List X) → Mem x (choose d l []) → A × Mem x l
 from_where (yes a) x l h = (a, h)
 from_where (no _) x l h = absurd h
 
@@ -94,13 +94,13 @@ pub record AtRow (a : Tree ℕ) (k : ℕ) (r : Row ℕ) (set : List ℕ) : Type 
 
 from_divisor : (a : Tree ℕ) (k : ℕ) (l : List (Tree (Tree ℕ))) (set : List ℕ) → Mem set (with_divisor a k l) → (q : Tree (Tree ℕ)) × Mem q l × (divisor_of q ≡ a) × (set ≡ numbers self k q)
 from_divisor a k [] set h = absurd h
-from_divisor a k (q ∷ l) set h = go (mem_either set (where_so (tree_discrete (divisor_of q) a) (numbers self k q ∷ [])) (with_divisor a k l) h) (λ m. from_divisor a k l set m)
+from_divisor a k (q ∷ l) set h = go (mem_either set (choose (tree_discrete (divisor_of q) a) (numbers self k q ∷ []) []) (with_divisor a k l) h) (λ m. from_divisor a k l set m)
   where
     one : Mem set (numbers self k q ∷ []) → set ≡ numbers self k q
     one (inl e) = e
     one (inr h) = absurd h
 
-    go : Mem set (where_so (tree_discrete (divisor_of q) a) (numbers self k q ∷ [])) ⊎ Mem set (with_divisor a k l)
+    go : Mem set (choose (tree_discrete (divisor_of q) a) (numbers self k q ∷ []) []) ⊎ Mem set (with_divisor a k l)
         → (Mem set (with_divisor a k l) → (p : Tree (Tree ℕ)) × Mem p l × (divisor_of p ≡ a) × (set ≡ numbers self k p)) → (p : Tree (Tree ℕ)) × Mem p (q ∷ l) × (divisor_of p ≡ a) × (set ≡ numbers self k p)
     go (inl m) f = let w = from_where (tree_discrete (divisor_of q) a) set (numbers self k q ∷ []) m in (q, inl refl, w.0, one w.1)
     go (inr m) f = let r = f m in (r.0, inr r.1, r.2, r.3)
@@ -140,7 +140,7 @@ module _ (a : Tree ℕ) (a_node : IsNode a) where
         (λ m. in_first k t r set (only_places k t set m)) (λ m. in_rest k t r set (only_places_row (k + vertices t) r set m)) h
 
   own_divisor : (k : ℕ) (q : Tree (Tree ℕ)) → a ≡ divisor_of q → Mem (numbers self k q) (with_divisor a k (q ∷ []))
-  own_divisor k q e = mem_left (numbers self k q) (where_so (tree_discrete (divisor_of q) a) (numbers self k q ∷ [])) []
+  own_divisor k q e = mem_left (numbers self k q) (choose (tree_discrete (divisor_of q) a) (numbers self k q ∷ []) []) []
       (subst (Mem (numbers self k q)) (sym (where_yes (tree_discrete (divisor_of q) a) (numbers self k q ∷ []) (sym e))) (inl refl))
 
   own_place : (k : ℕ) (q : Tree (Tree ℕ)) → IsNode q → a ≡ divisor_of q → Mem (numbers self k q) (places a k (join q))
@@ -200,7 +200,7 @@ AtMostOne [] = Unit {0}
 AtMostOne (x ∷ []) = Unit {0}
 AtMostOne (x ∷ (y ∷ l)) = ⊥
 
-one_where : {A X : Type 0} (d : Dec A) (l : List X) → AtMostOne l → AtMostOne (where_so d l)
+one_where : {A X : Type 0} (d : Dec A) (l : List X) → AtMostOne l → AtMostOne (choose d l [])
 one_where (yes _) l h = h
 one_where (no _) l h = tt
 
@@ -252,7 +252,7 @@ module _ (a : Tree ℕ) (a_node : IsNode a) where
   laid_tops k [] h n = (tt, λ v m. absurd m)
   laid_tops k (q ∷ []) h n = go (tree_discrete (divisor_of q) a)
     where
-      go : (d : Dec (divisor_of q ≡ a)) → Rises (tops (where_so d (numbers self k q ∷ []) ++ [])) × ((v : ℕ) → Mem v (tops (where_so d (numbers self k q ∷ []) ++ [])) → v ≡ k)
+      go : (d : Dec (divisor_of q ≡ a)) → Rises (tops (choose d (numbers self k q ∷ []) [] ++ [])) × ((v : ℕ) → Mem v (tops (choose d (numbers self k q ∷ []) [] ++ [])) → v ≡ k)
       go (yes _) = ((λ u m. absurd m, tt), λ v m. one v m)
         where
           one : (v : ℕ) → (v ≡ head_of (numbers self k q)) ⊎ ⊥ → v ≡ k

@@ -6,7 +6,7 @@ use native.Mathlib.Decide.{ℕ_discrete, dec_lt}
 use Rattle.labelled_trees.specs.Trees.{Tree, Row, leaf, node, none, more, graft, graft_row, join, IsNode, vertices}
 use Rattle.labelled_trees.specs.Contexts.{fill}
 use Rattle.shuffle_insertions.specs.ShuffleTrees.{least, IsRising, IsShuffle}
-use Rattle.labelled_trees.specs.Leaves.{one_if, choose, occurs}
+use Rattle.labelled_trees.specs.Leaves.{one_if, occurs}
 use Rattle.shuffle_insertions.specs.Slots.{Slot, fill_slot, PartsRise}
 use Rattle.labelled_trees.specs.Ranks.{below, standard}
 use Rattle.labelled_trees.specs.Trees.{leaves}
@@ -14,7 +14,7 @@ use Rattle.labelled_trees.specs.Insertions.{listed}
 use Rattle.labelled_trees.proofs.GraftLeaves.{leaves-changed}
 use Rattle.labelled_trees.proofs.Insertions.{listed_ext}
 use Rattle.labelled_trees.proofs.Permutations.{times-leaves}
-use Rattle.modular_sums.specs.Lists.{Mem}
+use Rattle.modular_sums.specs.Lists.{Mem, choose}
 use Rattle.shuffle_insertions.proofs.Counted.{times_mem, mem_times}
 use Rattle.shuffle_insertions.proofs.TreeOrders.{length_leaves, leaves_count}
 use Rattle.shuffle_insertions.proofs.Frames.{frame_of}

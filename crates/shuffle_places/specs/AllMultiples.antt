@@ -9,7 +9,7 @@ use Rattle.shuffle_insertions.specs.Listing.{upto}
 use Rattle.shuffle_places.specs.Overlays.{shape_discrete, shapes_of}
 use Rattle.shuffle_places.specs.Numberings.{numberings}
 use Rattle.shuffle_places.specs.AllPlaces.{places}
-use Rattle.modular_sums.specs.Lists.{has, has_by}
+use Rattle.modular_sums.specs.Lists.{has, has_by, choose}
 
 -- a member of the first stands in the second
 abbrev pub meet : List ℕ → List ℕ → Bool
@@ -21,14 +21,9 @@ abbrev pub cover : List ℕ → List ℕ → List ℕ → Bool
 cover [] k l = true
 cover (v ∷ m) k l = cond (has k v) (cover m k l) (cond (has l v) (cover m k l) false)
 
--- the test b where a decided fact holds, else true
-abbrev pub only_where : {A : Type 0} → Dec A → Bool → Bool
-only_where (yes _) t = t
-only_where (no _) t = true
-
 -- where a and b are one tree, the first set is less
 abbrev pub in_order : Tree ℕ → Tree ℕ → List ℕ → List ℕ → Bool
-in_order a b k l = only_where (tree_discrete a b) (is_lt (slice_cmp nat_cmp k l))
+in_order a b k l = choose (tree_discrete a b) (is_lt (slice_cmp nat_cmp k l)) true
 
 -- the two places share a vertex, hold all vertices, and stand in order
 abbrev pub test : Tree ℕ → Tree ℕ → Tree ℕ → List ℕ → List ℕ → Bool

@@ -7,18 +7,14 @@ use Rattle.shuffle_insertions.specs.Listing.{each_with_each}
 use Rattle.shuffle_places.specs.Cuts.{numbers}
 use Rattle.shuffle_places.specs.Places.{divisor_of}
 use Rattle.labelled_trees.specs.Equality.{tree_discrete}
-
--- the list where a decided fact holds, else none
-abbrev pub where_so : {A X : Type 0} → Dec A → List X → List X
-where_so (yes _) l = l
-where_so (no _) l = []
+use Rattle.modular_sums.specs.Lists.{choose}
 
 -- the vertices of p laid on the tree from its root on, with what hangs below them: one pattern or none
 abbrev mutual
   pub lay : {X : Type 0} → Tree X → Tree ℕ → List (Tree (Tree ℕ))
   lay (leaf x) t = leaf t ∷ []
   lay (node l r) (leaf n) = []
-  lay (node l r) (node m s) = where_so (ℕ_discrete l m) (map (λ q. node m q) (lay_row r s))
+  lay (node l r) (node m s) = choose (ℕ_discrete l m) (map (λ q. node m q) (lay_row r s)) []
 
   pub lay_row : {X : Type 0} → Row X → Row ℕ → List (Row (Tree ℕ))
   lay_row none none = none ∷ []
@@ -29,7 +25,7 @@ abbrev mutual
 -- the vertex numbers of those with the divisor a, where the root has number k
 abbrev pub with_divisor : Tree ℕ → ℕ → List (Tree (Tree ℕ)) → List (List ℕ)
 with_divisor a k [] = []
-with_divisor a k (q ∷ l) = where_so (tree_discrete (divisor_of q) a) (numbers (λ v. v) k q ∷ []) ++ with_divisor a k l
+with_divisor a k (q ∷ l) = choose (tree_discrete (divisor_of q) a) (numbers (λ v. v) k q ∷ []) [] ++ with_divisor a k l
 
 -- The places with divisor a in a tree whose root has number k, as sets of vertices, by their top vertices in preorder.
 abbrev mutual

@@ -2,9 +2,9 @@
 use Rattle.std.specs.Prelude.{ℕ, ◌+◌, ◌≡◌, List, [], ◌∷◌, ◌++◌}
 use Rattle.std.proofs.Common.{Bool, true, false, suc, cond}
 use native.Mathlib.Decide.{ℕ_discrete}
-use Rattle.modular_sums.specs.Lists.{has}
+use Rattle.modular_sums.specs.Lists.{has, choose}
 use Rattle.labelled_trees.specs.Trees.{Tree, Row, leaf, node, none, more, graft, leaves, vertices}
-use Rattle.labelled_trees.specs.Leaves.{choose, leaf_count}
+use Rattle.labelled_trees.specs.Leaves.{leaf_count}
 use Rattle.labelled_trees.specs.Insertions.{listed}
 use Rattle.labelled_trees.specs.Ranks.{below, standard}
 use Rattle.shuffle_insertions.specs.ShuffleTrees.{least}

@@ -7,9 +7,9 @@ use Rattle.std.specs.Option.{option_map}
 use Rattle.std.proofs.Math.ListN.{set}
 use Rattle.std.proofs.lemmas.List.{length-set}
 use Rattle.std.proofs.lemmas.Option.{slice_get-map, slice_get_within}
-use Rattle.modular_sums.specs.Lists.{Mem}
-use Rattle.modular_sums.specs.Sums.{hit, coef, AllTerms, Same}
-use Rattle.modular_sums.proofs.Residues.{alike_add}
+use Rattle.modular_sums.specs.Lists.{Mem, choose}
+use Rattle.modular_sums.specs.Sums.{coef, AllTerms, Same}
+use Rattle.modular_sums.proofs.Residues.{congruent_add}
 use Rattle.modular_sums.proofs.Lists.{mem_left, mem_right}
 use Rattle.labelled_trees.specs.Trees.{Tree}
 use Rattle.labelled_trees.specs.Equality.{tree_discrete}
@@ -56,7 +56,7 @@ last_there g k = mem_right g k (g ∷ []) (inl refl)
 
 same_behind : {M : Type 0} (dec : Discrete M) (q : ℕ) (x : ℕ × M) (a b : List (ℕ × M)) → Same dec q a b → Same dec q (x ∷ a) (x ∷ b)
 unfolding coef
-same_behind dec q x a b h t = alike_add q (hit (dec x.1 t) x.0) (hit (dec x.1 t) x.0) (coef dec a t) (coef dec b t) refl (h t)
+same_behind dec q x a b h t = congruent_add q (choose (dec x.1 t) x.0 0) (choose (dec x.1 t) x.0 0) (coef dec a t) (coef dec b t) refl (h t)
 
 some_one : {X : Type 0} (x y : X) → Some (Some x) ≡ Some (Some y) → x ≡ y
 some_one x y k = cc

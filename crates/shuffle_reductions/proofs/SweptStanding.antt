@@ -7,8 +7,8 @@ use Rattle.std.specs.Ordering.{ordering_reverse}
 use Rattle.std.specs.List.{slice_get}
 use Rattle.std.proofs.lemmas.Option.{slice_get-get_or}
 use Rattle.modular_sums.specs.Residues.{IsCongruent}
-use Rattle.modular_sums.specs.Sums.{hit, coef, AllTerms}
-use Rattle.modular_sums.proofs.Sums.{AllTerms-moved, hit-yes, hit-no}
+use Rattle.modular_sums.specs.Sums.{coef, AllTerms}
+use Rattle.modular_sums.proofs.Sums.{AllTerms-moved}
 use Rattle.modular_sums.proofs.Images.{AllTerms-imp}
 use Rattle.labelled_trees.specs.Trees.{Tree}
 use Rattle.labelled_trees.specs.Equality.{tree_discrete}
@@ -17,6 +17,8 @@ use Rattle.shuffle_bases.specs.Elements.{Setting, IsLess}
 use Rattle.shuffle_reductions.proofs.Standing.{has_all}
 use Rattle.modular_sums.specs.RuleTables.{Table, IsRuled, IsUnruled}
 use Rattle.shuffle_reductions.specs.Swept.{tree_in, on_trees, RisesBy, IsOnPositions}
+use Rattle.modular_sums.specs.Lists.{choose}
+use Rattle.modular_sums.proofs.Choices.{choose-yes, choose-no}
 
 -- a position of a table has a rule or has none
 pub ruled_or_not : (table : Table) (k : ℕ) → k < length table → IsRuled table k ⊎ IsUnruled table k
@@ -52,12 +54,12 @@ module _ (s : Setting) (order : IsTreeOrder s.arity s.compare) (trees : List (Tr
       go (yes p) = p
       go (no n) = absurd (lower (let o : (j < k) ⊎ (k < j) = grind arith in o))
 
-  same_hit : (c j k : ℕ) → j < length trees → k < length trees → hit (tree_discrete (tree_in trees j) (tree_in trees k)) c ≡ hit (ℕ_discrete j k) c
+  same_hit : (c j k : ℕ) → j < length trees → k < length trees → choose (tree_discrete (tree_in trees j) (tree_in trees k)) c 0 ≡ choose (ℕ_discrete j k) c 0
   same_hit c j k hj hk = go (ℕ_discrete j k)
     where
-      go : (d : Dec (j ≡ k)) → hit (tree_discrete (tree_in trees j) (tree_in trees k)) c ≡ hit d c
-      go (yes p) = hit-yes (tree_discrete (tree_in trees j) (tree_in trees k)) c (ap (tree_in trees) p)
-      go (no n) = hit-no (tree_discrete (tree_in trees j) (tree_in trees k)) c (λ e. n (one_position j k hj hk e))
+      go : (d : Dec (j ≡ k)) → choose (tree_discrete (tree_in trees j) (tree_in trees k)) c 0 ≡ choose d c 0
+      go (yes p) = choose-yes (tree_discrete (tree_in trees j) (tree_in trees k)) c 0 (ap (tree_in trees) p)
+      go (no n) = choose-no (tree_discrete (tree_in trees j) (tree_in trees k)) c 0 (λ e. n (one_position j k hj hk e))
 
   -- a tree has the coefficient of its position
   pub coef-over : (e : List (ℕ × ℕ)) (k : ℕ) → IsOnPositions trees e → k < length trees → coef tree_discrete (on_trees trees e) (tree_in trees k) ≡ coef ℕ_discrete e k

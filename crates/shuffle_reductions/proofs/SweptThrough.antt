@@ -4,7 +4,7 @@ use mathlib.Core.List.{◌++◌}
 use native.Mathlib.Decide.{ℕ_discrete}
 use Rattle.std.proofs.lemmas.Option.{slice_get_within}
 use Rattle.modular_sums.specs.Sums.{coef, scale, AllTerms, Same}
-use Rattle.modular_sums.proofs.Residues.{alike_add, alike_mul}
+use Rattle.modular_sums.proofs.Residues.{congruent_add, congruent_mul}
 use Rattle.modular_sums.proofs.Sums.{coef-append, coef-scale, AllTerms-append, AllTerms-scale}
 use Rattle.modular_sums.proofs.Images.{AllTerms-imp, Same-moved, moved-append, moved-scale}
 use Rattle.labelled_trees.specs.Trees.{Tree}
@@ -29,7 +29,7 @@ rule_is table at tail h = ap (λ o. (1, at) ∷ tail_of o) h
 
 same_scaled : {M : Type 0} (dec : Discrete M) (q c : ℕ) (e f g : List (ℕ × M)) → Same dec q f g → Same dec q (e ++ scale c f) (e ++ scale c g)
 same_scaled dec q c e f g h t = rw (coef-append dec e (scale c f) t, coef-append dec e (scale c g) t, coef-scale dec c f t, coef-scale dec c g t)
-    (alike_add q (coef dec e t) (coef dec e t) _ _ refl (alike_mul q c c _ _ refl (h t)))
+    (congruent_add q (coef dec e t) (coef dec e t) _ _ refl (congruent_mul q c c _ _ refl (h t)))
 
 module _ (s : Setting) (order : IsTreeOrder s.arity s.compare) (n : ℕ) (trees : List (Tree ℕ)) (insertions : List (Option (Insertion s n))) (table : Table) (t : IsTableOver s n trees insertions table) where
   abbrev Sum : Type 0

@@ -4,7 +4,7 @@ use mathlib.Core.List.{◌++◌}
 use mathlib.Core.Path.{ap₂}
 use Rattle.std.specs.List.{AllByRecursion}
 use Rattle.std.specs.declared.cmp.Ordering.{Ordering}
-use Rattle.modular_sums.specs.Sums.{AllTerms, Same, scale, coef, hit}
+use Rattle.modular_sums.specs.Sums.{AllTerms, Same, scale, coef}
 use Rattle.modular_sums.proofs.Sums.{coef-scale}
 use Rattle.modular_sums.proofs.Laws.{sum_law}
 use Rattle.labelled_trees.specs.Trees.{Tree}
@@ -19,6 +19,7 @@ use Rattle.shuffle_sums.specs.Sums.{pairs, over, HaveKeys, AreTrees, FallsBy, Ar
 use Rattle.shuffle_sums.specs.Merges.{Merged, unless_zero_term}
 use Rattle.shuffle_sums.specs.declared.sum.Term.{Term}
 use Rattle.shuffle_sums.proofs.Arities.{within_shelf}
+use Rattle.modular_sums.specs.Lists.{choose}
 
 module _ (old new : Shelf) (keeps : KeepsShelf old new) (shelf : IsShelf old) where
   -- the tree of an id with a key stays
@@ -147,7 +148,7 @@ one_pushed compare p shelf zero id t small found welcome = record {
   trees = λ n a. tt;
 }
   where
-    nothing_added : {A : Type 0} (d : Dec A) → hit d 0 + 0 ≡ 0
+    nothing_added : {A : Type 0} (d : Dec A) → choose {B = ℕ} d 0 0 + 0 ≡ 0
     nothing_added (yes _) = refl
     nothing_added (no _) = refl
 one_pushed compare p shelf (suc c) id t small found welcome = record {

@@ -8,7 +8,7 @@ use Rattle.std.proofs.Math.Nat.{mod-eq_of_lt, mod-lt}
 use Rattle.std.proofs.Common.{Some, slice_get}
 use Rattle.std.proofs.lemmas.Option.{same_Some}
 use Rattle.modular_sums.specs.Residues.{IsCongruent}
-use Rattle.modular_sums.proofs.Residues.{alike_mul}
+use Rattle.modular_sums.proofs.Residues.{congruent_mul}
 use Rattle.modular_sums.specs.Falling.{AreNonzeroResidues}
 use Rattle.shuffle_sums.specs.Sums.{pairs}
 use Rattle.shuffle_sums.specs.Multiples.{times, first_number, IsMadeMonic}
@@ -101,8 +101,8 @@ multiplied_all p c before now at h l = by h.back refl
 modulus : (p : ℕ) → 0 < p → suc (p - 1) ≡ p
 modulus p h = omega arith
 
-pub alike_at : (p a b : ℕ) → 0 < p → IsCongruent (p - 1) a b → a % p ≡ b % p
-alike_at p a b h e = subst (λ m. a % m ≡ b % m) (modulus p h) e
+pub congruent_at : (p a b : ℕ) → 0 < p → IsCongruent (p - 1) a b → a % p ≡ b % p
+congruent_at p a b h e = subst (λ m. a % m ≡ b % m) (modulus p h) e
 
 -- a product with a number that has an inverse isn't 0 where the other factor isn't
 nonzero_product : (p c d x : ℕ) → 0 < x → x < p → IsCongruent (p - 1) (d * c) 1 → (c * x) % p ≡ 0 → ⊥
@@ -111,13 +111,13 @@ nonzero_product p c d x n l h zero_is =
     let m = modulus p positive in
     let none : 0 % p ≡ 0 = mod-eq_of_lt positive in
     let gone : IsCongruent (p - 1) (c * x) 0 = subst (λ k. (c * x) % k ≡ 0 % k) (sym m) (zero_is ∙ sym none) in
-    let left : IsCongruent (p - 1) (d * (c * x)) (d * 0) = alike_mul (p - 1) d d (c * x) 0 refl gone in
-    let right : IsCongruent (p - 1) (d * c * x) (1 * x) = alike_mul (p - 1) (d * c) 1 x x h refl in
+    let left : IsCongruent (p - 1) (d * (c * x)) (d * 0) = congruent_mul (p - 1) d d (c * x) 0 refl gone in
+    let right : IsCongruent (p - 1) (d * c * x) (1 * x) = congruent_mul (p - 1) (d * c) 1 x x h refl in
     let regroup : d * c * x ≡ d * (c * x) = omega arith in
     let one : 1 * x ≡ x = omega arith in
     let zero_right : d * 0 ≡ 0 = omega arith in
     let same : IsCongruent (p - 1) x 0 = ap (λ k. k % suc (p - 1)) (sym one) ∙ sym right ∙ ap (λ k. k % suc (p - 1)) regroup ∙ left ∙ ap (λ k. k % suc (p - 1)) zero_right in
-    let final : x ≡ 0 = sym (mod-eq_of_lt l) ∙ alike_at p x 0 positive same ∙ none in
+    let final : x ≡ 0 = sym (mod-eq_of_lt l) ∙ congruent_at p x 0 positive same ∙ none in
     omega (arith, n, final)
 
 times_residues : (p c d : ℕ) (sum : List (ℕ × ℕ)) → IsCongruent (p - 1) (d * c) 1 → AreNonzeroResidues p sum → AreNonzeroResidues p (times p c sum)
@@ -146,7 +146,7 @@ made_monic p inverse lead id (x ∷ old) new r e h is =
     let positive : 0 < p = omega (arith, r.0, r.1) in
     let above_one : 1 < p = omega (arith, r.0, r.1) in
     let swap : inverse * x.0 ≡ x.0 * inverse = omega arith in
-    let one : (inverse * x.0) % p ≡ 1 = ap (λ n. n % p) swap ∙ alike_at p (x.0 * inverse) 1 positive turned ∙ mod-eq_of_lt above_one in
+    let one : (inverse * x.0) % p ≡ 1 = ap (λ n. n % p) swap ∙ congruent_at p (x.0 * inverse) 1 positive turned ∙ mod-eq_of_lt above_one in
     record {
       inverse = inverse;
       is_inverse = turned;

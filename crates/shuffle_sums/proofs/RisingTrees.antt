@@ -21,7 +21,7 @@ use Rattle.tree_store.proofs.Trees.{one_place}
 use Rattle.tree_store.proofs.Counts.{held_valid}
 use Rattle.shuffle_insertions.specs.KeyBlocks.{AreComparableKeys}
 use Rattle.shuffle_sums.specs.Sorting.{block_at, compare_by, trees_at, AreOfOneArity, Rise}
-use Rattle.path_orders.proofs.Alike.{keys_are_alike}
+use Rattle.path_orders.proofs.ComparableKeys.{keys_are_alike}
 use Rattle.shuffle_sums.proofs.RisingBlocks.{rising}
 
 module _ (trees : List (Tree ℕ)) (ids : List ℕ) (weights : ℕ → ℕ) (by_keys : Key → Key → Ordering) (block : Key → List ℕ)

@@ -10,12 +10,13 @@ use Rattle.std.proofs.Common.{append_assoc}
 use Rattle.labelled_trees.specs.Trees.{Tree, Row, leaf, node, none, more, leaves}
 use Rattle.labelled_trees.specs.Leaves.{occurs}
 use Rattle.shuffle_insertions.specs.ShuffleTrees.{IsShuffle}
-use Rattle.shuffle_insertions.specs.Keys.{only_if, words_at, words_at_row, words_below}
+use Rattle.shuffle_insertions.specs.Keys.{words_at, words_at_row, words_below}
 use Rattle.path_orders.proofs.WordLists.{word_alone}
 use Rattle.path_orders.proofs.WordLists.{length-leaves}
 use Rattle.shuffle_trees.proofs.Counts.{count_of_shuffle}
 use Rattle.shuffle_insertions.specs.KeyBlocks.{IsSmall}
 use Rattle.shuffle_sums.specs.Spread.{spread, spread_row}
+use Rattle.modular_sums.specs.Lists.{choose}
 
 mutual
   pub length-spread : (t : Tree ℕ) (w : List ℕ) (ws : List (List ℕ)) → length (spread t w ws) ≡ length ws
@@ -39,7 +40,7 @@ last_of-under : (l : ℕ) (vs : List (List ℕ)) (w old : List ℕ) → last_of 
 last_of-under l [] w old = refl
 last_of-under l (v ∷ vs) w old = ap (last_of (map (λ v. l ∷ v) vs) w) (sym (append_assoc w (l ∷ []) v)) ∙ last_of-under l vs w ((w ++ (l ∷ [])) ++ v)
 
-put_there : (n j : ℕ) (w : List ℕ) (ws : List (List ℕ)) (d : Dec (n ≡ j)) → j < length ws → get_or (set ws n w) j [] ≡ last_of (only_if d []) w (get_or ws j [])
+put_there : (n j : ℕ) (w : List ℕ) (ws : List (List ℕ)) (d : Dec (n ≡ j)) → j < length ws → get_or (set ws n w) j [] ≡ last_of (choose d ([] ∷ []) []) w (get_or ws j [])
 put_there n j w ws (yes e) h = subst (λ m. get_or (set ws m w) j [] ≡ w) (sym e) (get_or-set_same ws j w [] h) ∙ sym (append-nil w)
 put_there n j w ws (no f) h = get_or-set_other ws n j w [] (λ e. f (sym e))
 

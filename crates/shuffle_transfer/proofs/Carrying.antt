@@ -3,7 +3,7 @@ use Rattle.std.proofs.Common.{◌≡◌, ℕ, List, [], ◌∷◌, refl, sym, �
 use mathlib.Core.List.{◌++◌}
 use Rattle.std.proofs.Common.{◌%◌, suc}
 use Rattle.modular_sums.specs.Sums.{coef, scale, expand, IsLinearCombination, moved, AllTerms}
-use Rattle.modular_sums.proofs.Sums.{Member-append, Member-scale, Member-same}
+use Rattle.modular_sums.proofs.Sums.{combination-append, combination-scale, combination-same}
 use Rattle.modular_sums.proofs.Images.{moved-moved, moved_ext, moved-append, moved-scale, moved-expand, Same-moved}
 use Rattle.labelled_trees.specs.Trees.{Tree, leaf, graft}
 use Rattle.labelled_trees.specs.Equality.{tree_discrete}
@@ -64,15 +64,15 @@ module _ (p : Presentation) (sound : IsSound p) (m n : ℕ) (f : Slot) (rises : 
       subst (IsLinearCombination tree_discrete (slot_inserted p n) p.q)
       (sym (moved-append (fill_slot f) (scale j.0 (slot_inserted p m j.1)) (expand (slot_inserted p m) l)
       ∙ ap (λ k. k ++ moved (fill_slot f) (expand (slot_inserted p m) l)) (moved-scale (fill_slot f) j.0 (slot_inserted p m j.1))))
-      (Member-append tree_discrete (slot_inserted p n) p.q {e = scale j.0 (moved (fill_slot f) (slot_inserted p m j.1))} {f = moved (fill_slot f) (expand (slot_inserted p m) l)}
-      (Member-scale tree_discrete (slot_inserted p n) p.q j.0 {e = moved (fill_slot f) (slot_inserted p m j.1)} (carried_terms j.1 j.1.relation.terms refl)) (carried_all l))
+      (combination-append tree_discrete (slot_inserted p n) p.q {e = scale j.0 (moved (fill_slot f) (slot_inserted p m j.1))} {f = moved (fill_slot f) (expand (slot_inserted p m) l)}
+      (combination-scale tree_discrete (slot_inserted p n) p.q j.0 {e = moved (fill_slot f) (slot_inserted p m j.1)} (carried_terms j.1 j.1.relation.terms refl)) (carried_all l))
 
   -- a sum of insertions of relations, inserted
   pub relations_carried : (e : List (ℕ × Tree ℕ)) → IsSumOfInsertions p m e → IsSumOfInsertions p n (moved (fill_slot f) e)
   relations_carried e h =
       let k : IsLinearCombination tree_discrete (slot_inserted p m) p.q e = member_through tree_discrete p.q (inserted_relation p m) (slot_inserted p m) (from_frame p m sound) e h in
       member_through tree_discrete p.q (slot_inserted p n) (inserted_relation p n) (to_frame p n sound) (moved (fill_slot f) e)
-      (Member-same tree_discrete (slot_inserted p n) p.q {e = moved (fill_slot f) e} {f = moved (fill_slot f) (expand (slot_inserted p m) k.uses)}
+      (combination-same tree_discrete (slot_inserted p n) p.q {e = moved (fill_slot f) e} {f = moved (fill_slot f) (expand (slot_inserted p m) k.uses)}
       (Same-moved tree_discrete tree_discrete p.q (fill_slot f) e (expand (slot_inserted p m) k.uses) k.adds_up) (carried_all k.uses))
 
 -- ---- insertions of elements

@@ -4,10 +4,10 @@ use mathlib.Core.Path.{ap₂}
 use mathlib.Core.List.{◌++◌}
 use native.Mathlib.Decide.{dec_lt, ℕ_discrete}
 use Rattle.modular_sums.specs.Residues.{IsCongruent}
-use Rattle.modular_sums.specs.Lists.{Mem}
-use Rattle.modular_sums.specs.Sums.{hit, coef, scale, expand, IsLinearCombination, moved, AllTerms}
-use Rattle.modular_sums.proofs.Residues.{alike_drop, alike_mul}
-use Rattle.modular_sums.proofs.Sums.{Member-append, Member-scale, Member-same, coef-append, coef-scale}
+use Rattle.modular_sums.specs.Lists.{Mem, choose}
+use Rattle.modular_sums.specs.Sums.{coef, scale, expand, IsLinearCombination, moved, AllTerms}
+use Rattle.modular_sums.proofs.Residues.{congruent_drop, congruent_mul}
+use Rattle.modular_sums.proofs.Sums.{combination-append, combination-scale, combination-same, coef-append, coef-scale}
 use Rattle.modular_sums.proofs.Images.{moved-append, moved-scale, Same-moved}
 use Rattle.labelled_trees.specs.Trees.{Tree, leaf, graft}
 use Rattle.labelled_trees.specs.Contexts.{Ctx, fill}
@@ -269,9 +269,9 @@ module _ (p : Presentation) (n : ℕ) where
 
   -- a labelled tree, less its sign times the tree of its shuffle form
   near_form : (t : Tree ℕ) → IsLabelled arity n t → InSpan ((1, t) ∷ ((q * q ^ turns_of p t, S (F t)) ∷ []))
-  near_form t h = Member-same tree_discrete (hole_element p n) q {e = (1, t) ∷ ((q * q ^ turns_of p t, S (F t)) ∷ [])} {f = (1, t) ∷ ((residue_of q (times minus (spelled_sign (parts p) t)), S (F t)) ∷ [])}
+  near_form t h = combination-same tree_discrete (hole_element p n) q {e = (1, t) ∷ ((q * q ^ turns_of p t, S (F t)) ∷ [])} {f = (1, t) ∷ ((residue_of q (times minus (spelled_sign (parts p) t)), S (F t)) ∷ [])}
       (two_alike tree_discrete q 1 (q * q ^ turns_of p t) 1 (residue_of q (times minus (spelled_sign (parts p) t))) t (S (F t)) refl
-      (alike_mul q q q (q ^ turns_of p t) (residue_of q (spelled_sign (parts p) t)) refl (sign_alike p n t h) ∙ residue-times q minus (spelled_sign (parts p) t)))
+      (congruent_mul q q q (q ^ turns_of p t) (residue_of q (spelled_sign (parts p) t)) refl (sign_alike p n t h) ∙ residue-times q minus (spelled_sign (parts p) t)))
       (subst (λ u. InSpan ((1, t) ∷ ((residue_of q (times minus (spelled_sign (parts p) t)), u) ∷ []))) (sym (spelled_is p.generators t h.fits (labelled_once h))) (near_spelled p n t h))
 
   -- an element minus the trees of its shuffle form
@@ -279,26 +279,26 @@ module _ (p : Presentation) (n : ℕ) where
   unfolding scale coef
   kernel [] h = member_zero tree_discrete (hole_element p n) q
   kernel (x ∷ e) h =
-      Member-same tree_discrete (hole_element p n) q
+      combination-same tree_discrete (hole_element p n) q
       {e = (x ∷ e) ++ scale q (back_sum (x ∷ e))}
       {f = scale x.0 ((1, x.1) ∷ ((q * q ^ turns_of p x.1, S (F x.1)) ∷ [])) ++ (e ++ scale q (back_sum e))}
       (λ t. adds_up t)
-      (Member-append tree_discrete (hole_element p n) q
+      (combination-append tree_discrete (hole_element p n) q
       {e = scale x.0 ((1, x.1) ∷ ((q * q ^ turns_of p x.1, S (F x.1)) ∷ []))} {f = e ++ scale q (back_sum e)}
-      (Member-scale tree_discrete (hole_element p n) q x.0 {e = (1, x.1) ∷ ((q * q ^ turns_of p x.1, S (F x.1)) ∷ [])}
+      (combination-scale tree_discrete (hole_element p n) q x.0 {e = (1, x.1) ∷ ((q * q ^ turns_of p x.1, S (F x.1)) ∷ [])}
       (near_form x.1 h.0))
       (kernel e h.1))
     where
-      adds_up : (t : Tree ℕ) → IsCongruent q (hit (tree_discrete x.1 t) x.0 + coef tree_discrete (e ++ ((q * (x.0 * q ^ turns_of p x.1), S (F x.1)) ∷ scale q (back_sum e))) t)
-          (hit (tree_discrete x.1 t) (x.0 * 1) + (hit (tree_discrete (S (F x.1)) t) (x.0 * (q * q ^ turns_of p x.1)) + coef tree_discrete (e ++ scale q (back_sum e)) t))
+      adds_up : (t : Tree ℕ) → IsCongruent q (choose (tree_discrete x.1 t) x.0 0 + coef tree_discrete (e ++ ((q * (x.0 * q ^ turns_of p x.1), S (F x.1)) ∷ scale q (back_sum e))) t)
+          (choose (tree_discrete x.1 t) (x.0 * 1) 0 + (choose (tree_discrete (S (F x.1)) t) (x.0 * (q * q ^ turns_of p x.1)) 0 + coef tree_discrete (e ++ scale q (back_sum e)) t))
       adds_up t =
           let one : x.0 * 1 ≡ x.0 = omega arith in
           let two : x.0 * (q * q ^ turns_of p x.1) ≡ q * (x.0 * q ^ turns_of p x.1) = omega arith in
           let a : coef tree_discrete (e ++ ((q * (x.0 * q ^ turns_of p x.1), S (F x.1)) ∷ scale q (back_sum e))) t
-          ≡ coef tree_discrete e t + (hit (tree_discrete (S (F x.1)) t) (q * (x.0 * q ^ turns_of p x.1)) + coef tree_discrete (scale q (back_sum e)) t)
+          ≡ coef tree_discrete e t + (choose (tree_discrete (S (F x.1)) t) (q * (x.0 * q ^ turns_of p x.1)) 0 + coef tree_discrete (scale q (back_sum e)) t)
           = coef-append tree_discrete e ((q * (x.0 * q ^ turns_of p x.1), S (F x.1)) ∷ scale q (back_sum e)) t in
           let b : coef tree_discrete (e ++ scale q (back_sum e)) t ≡ coef tree_discrete e t + coef tree_discrete (scale q (back_sum e)) t = coef-append tree_discrete e (scale q (back_sum e)) t in
-          rw (one, two, a, b) (sums (hit (tree_discrete x.1 t) x.0) (coef tree_discrete e t) (hit (tree_discrete (S (F x.1)) t) (q * (x.0 * q ^ turns_of p x.1))) (coef tree_discrete (scale q (back_sum e)) t))
+          rw (one, two, a, b) (sums (choose (tree_discrete x.1 t) x.0 0) (coef tree_discrete e t) (choose (tree_discrete (S (F x.1)) t) (q * (x.0 * q ^ turns_of p x.1)) 0) (coef tree_discrete (scale q (back_sum e)) t))
         where
           sums : (u v w z : ℕ) → IsCongruent q (u + (v + (w + z))) (u + (w + (v + z)))
           sums u v w z = let k : u + (v + (w + z)) ≡ u + (w + (v + z)) = omega arith in ap (λ m. m % suc q) k
@@ -307,15 +307,15 @@ module _ (p : Presentation) (n : ℕ) where
   twice : (a b : ℕ) → IsCongruent q b (a + q * (a + q * b))
   twice a b =
       let k : a + q * (a + q * b) + (b + q * b) ≡ b + (a + q * b + q * (a + q * b)) = omega arith in
-      sym (alike_drop q b (a + q * b)) ∙ ap (λ m. m % suc q) (sym k) ∙ alike_drop q (a + q * (a + q * b)) b
+      sym (congruent_drop q b (a + q * b)) ∙ ap (λ m. m % suc q) (sym k) ∙ congruent_drop q (a + q * (a + q * b)) b
 
   -- the trees of the shuffle form of a sum of instances
   back_member : (e : List (ℕ × Tree ℕ)) → AllTerms e (IsLabelled arity n) → InSpan e → InSpan (back_sum e)
-  back_member e h k = Member-same tree_discrete (hole_element p n) q {e = back_sum e} {f = e ++ scale q (e ++ scale q (back_sum e))}
+  back_member e h k = combination-same tree_discrete (hole_element p n) q {e = back_sum e} {f = e ++ scale q (e ++ scale q (back_sum e))}
       (λ t. rw (coef-append tree_discrete e (scale q (e ++ scale q (back_sum e))) t, coef-scale tree_discrete q (e ++ scale q (back_sum e)) t, coef-append tree_discrete e (scale q (back_sum e)) t, coef-scale tree_discrete q (back_sum e) t)
       (twice (coef tree_discrete e t) (coef tree_discrete (back_sum e) t)))
-      (Member-append tree_discrete (hole_element p n) q {e = e} {f = scale q (e ++ scale q (back_sum e))} k
-      (Member-scale tree_discrete (hole_element p n) q q {e = e ++ scale q (back_sum e)} (kernel e h)))
+      (combination-append tree_discrete (hole_element p n) q {e = e} {f = scale q (e ++ scale q (back_sum e))} k
+      (combination-scale tree_discrete (hole_element p n) q q {e = e ++ scale q (back_sum e)} (kernel e h)))
 
   lifts_at : (r : Relation) → Mem r p.relations → (order : List ℕ) (f : Slot) → PartsRise r.arity f.parts → ((i : ℕ) → InRange r.arity i → InRange r.arity (entry order i)) → (l : List (ℕ × Tree ℕ)) → r.terms ≡ l
       → AllTerms l (IsLabelled arity r.arity) → AllTerms (moved (fill_slot f) (turned p (relabelled order l))) Shuffles → InSpan (moved S (moved (fill_slot f) (turned p (relabelled order l))))
@@ -345,18 +345,18 @@ module _ (p : Presentation) (n : ℕ) where
     lifts_all [] = member_zero tree_discrete (hole_element p n) q
     lifts_all (x ∷ l) =
         rw (moved-append S (scale x.0 (slot_inserted p n x.1)) (expand (slot_inserted p n) l), moved-scale S x.0 (slot_inserted p n x.1))
-        (Member-append tree_discrete (hole_element p n) q {e = scale x.0 (moved S (slot_inserted p n x.1))} {f = moved S (expand (slot_inserted p n) l)}
-        (Member-scale tree_discrete (hole_element p n) q x.0 {e = moved S (slot_inserted p n x.1)} (lifts_one x.1)) (lifts_all l))
+        (combination-append tree_discrete (hole_element p n) q {e = scale x.0 (moved S (slot_inserted p n x.1))} {f = moved S (expand (slot_inserted p n) l)}
+        (combination-scale tree_discrete (hole_element p n) q x.0 {e = moved S (slot_inserted p n x.1)} (lifts_one x.1)) (lifts_all l))
 
     -- an element whose shuffle form is a sum of insertions is a sum of instances
     pub backward : (e : List (ℕ × Tree ℕ)) → AllTerms e (IsLabelled arity n) → IsLinearCombination tree_discrete (slot_inserted p n) q (turned p e) → InSpan e
     backward e h k =
-        let b : InSpan (back_sum e) = Member-same tree_discrete (hole_element p n) q {e = back_sum e} {f = moved S (expand (slot_inserted p n) k.uses)}
+        let b : InSpan (back_sum e) = combination-same tree_discrete (hole_element p n) q {e = back_sum e} {f = moved S (expand (slot_inserted p n) k.uses)}
         (Same-moved tree_discrete tree_discrete q S (turned p e) (expand (slot_inserted p n) k.uses) k.adds_up) (lifts_all k.uses) in
-        Member-same tree_discrete (hole_element p n) q {e = e} {f = (e ++ scale q (back_sum e)) ++ back_sum e}
+        combination-same tree_discrete (hole_element p n) q {e = e} {f = (e ++ scale q (back_sum e)) ++ back_sum e}
         (λ t. rw (coef-append tree_discrete (e ++ scale q (back_sum e)) (back_sum e) t, coef-append tree_discrete e (scale q (back_sum e)) t, coef-scale tree_discrete q (back_sum e) t)
         (gone (coef tree_discrete e t) (coef tree_discrete (back_sum e) t)))
-        (Member-append tree_discrete (hole_element p n) q {e = e ++ scale q (back_sum e)} {f = back_sum e} (kernel e h) b)
+        (combination-append tree_discrete (hole_element p n) q {e = e ++ scale q (back_sum e)} {f = back_sum e} (kernel e h) b)
       where
         gone : (a b : ℕ) → IsCongruent q a (a + q * b + b)
-        gone a b = let k : a + q * b + b ≡ a + (b + q * b) = omega arith in rw k (sym (alike_drop q a b))
+        gone a b = let k : a + q * b + b ≡ a + (b + q * b) = omega arith in rw k (sym (congruent_drop q a b))

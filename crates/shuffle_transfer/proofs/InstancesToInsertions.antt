@@ -5,7 +5,7 @@ use native.Mathlib.Decide.{ℕ_discrete}
 use Rattle.std.proofs.lemmas.Nat.{pow-add}
 use Rattle.modular_sums.specs.Lists.{Mem}
 use Rattle.modular_sums.specs.Sums.{scale, expand, IsLinearCombination, moved, AllTerms}
-use Rattle.modular_sums.proofs.Sums.{Member-scale, Member-same}
+use Rattle.modular_sums.proofs.Sums.{combination-scale, combination-same}
 use Rattle.modular_sums.proofs.Images.{moved_eq}
 use Rattle.labelled_trees.specs.Trees.{Tree, leaf, graft}
 use Rattle.labelled_trees.specs.Contexts.{Ctx, fill}
@@ -160,7 +160,7 @@ module _ (p : Presentation) (n : ℕ) where
     pub relation_inserted : (r : Relation) → Mem r p.relations → r.arity ≡ m → AllTerms r.terms (IsLabelled arity m) → AllTerms (moved (λ x. fill c (graft x s)) r.terms) (IsLabelled arity n)
         → InSpan (turned p (moved (λ x. fill c (graft x s)) r.terms))
     relation_inserted r there e h v = subst InSpan (sym (all_at r.terms h v ∙ ap (λ k. scale (p.q ^ (ctx.count + inner)) (moved (fill_slot slot) (turned p k))) (sym same)))
-        (Member-scale tree_discrete (slot_inserted p n) p.q (p.q ^ (ctx.count + inner)) {e = slot_inserted p n instance} (member_one tree_discrete (slot_inserted p n) p.q instance))
+        (combination-scale tree_discrete (slot_inserted p n) p.q (p.q ^ (ctx.count + inner)) {e = slot_inserted p n instance} (member_one tree_discrete (slot_inserted p n) p.q instance))
       where
         same : relabelled ordering.0 r.terms ≡ renamed r.terms
         same = same_relabelled arity m ordering.0 rank ordering.2 r.terms h
@@ -190,12 +190,12 @@ module _ (p : Presentation) (n : ℕ) where
       where
         go : (u : Rule p) → AllTerms (moved (λ x. fill i.context (graft x i.inputs)) (rule_terms p u)) (IsLabelled arity n) → InSpan (turned p (moved (λ x. fill i.context (graft x i.inputs)) (rule_terms p u)))
         go (relation r m) v = relation_at r m i.context i.inputs r.terms refl (sound r m) v
-        go (symmetry g j s h) v = Member-same tree_discrete (slot_inserted p n) p.q
+        go (symmetry g j s h) v = combination-same tree_discrete (slot_inserted p n) p.q
             {e = turned p (moved (λ x. fill i.context (graft x i.inputs)) (rule_terms p (symmetry g j s h)))} {f = []}
             (symmetry_gone p n g j s h i.context i.inputs v.0) (member_zero tree_discrete (slot_inserted p n) p.q)
 
     -- the shuffle form of a sum of instances
     pub forward : (e : List (ℕ × Tree ℕ)) → IsLinearCombination tree_discrete (hole_element p n) p.q e → InSpan (turned p e)
-    forward e h = Member-same tree_discrete (slot_inserted p n) p.q {e = turned p e} {f = turned p (expand (hole_element p n) h.uses)}
+    forward e h = combination-same tree_discrete (slot_inserted p n) p.q {e = turned p e} {f = turned p (expand (hole_element p n) h.uses)}
         (Same-turned p e (expand (hole_element p n) h.uses) h.adds_up)
         (member_turned p (hole_element p n) (slot_inserted p n) instance_moves h.uses)

@@ -8,7 +8,7 @@ use Rattle.modular_sums.specs.Sums.{scale, Same, moved, AllTerms}
 use Rattle.modular_sums.proofs.Lists.{mem_of_map}
 use Rattle.modular_sums.proofs.Images.{moved-append, moved-moved, moved_ext, moved_eq, moved-scale, Same-moved}
 use Rattle.labelled_trees.specs.Trees.{Tree, leaf, graft}
-use Rattle.labelled_trees.specs.Leaves.{one_if, choose, occurs}
+use Rattle.labelled_trees.specs.Leaves.{one_if, occurs}
 use Rattle.labelled_trees.specs.Equality.{tree_discrete}
 use Rattle.labelled_trees.specs.Labelled.{IsLabelled}
 use Rattle.labelled_trees.specs.Insertions.{at_zero, item}
@@ -23,6 +23,7 @@ use Rattle.shuffle_transfer.specs.Transfer.{relabelled}
 use Rattle.shuffle_transfer.proofs.Orderings.{entry_within}
 use Rattle.shuffle_transfer.proofs.TransferLaw.{labelled-relabelled}
 use Rattle.shuffle_transfer.specs.RelabelledIdeals.{IdealIsRelabelled}
+use Rattle.modular_sums.specs.Lists.{choose}
 
 pub entry_zero : (v : List ℕ) → entry v 0 ≡ 0
 entry_zero [] = refl

@@ -4,7 +4,7 @@ use mathlib.Core.Path.{ap₂}
 use Rattle.std.proofs.lemmas.List.{map-id}
 use Rattle.std.proofs.Math.Nat.{pow-zero, pow-succ'}
 use Rattle.modular_sums.specs.Residues.{IsCongruent}
-use Rattle.modular_sums.proofs.Residues.{alike_mul}
+use Rattle.modular_sums.proofs.Residues.{congruent_mul}
 use Rattle.labelled_trees.specs.Trees.{Tree, Row, leaf, node, none, more, inputs}
 use Rattle.labelled_trees.specs.Leaves.{occurs, occurs_row}
 use Rattle.labelled_trees.specs.Labelled.{Fits, FitsRow}
@@ -33,7 +33,7 @@ use Rattle.shuffle_transfer.proofs.Forms.{form_rises, occurs-form}
 -- minus 1 to the power of a count of changes is the residue of their sign
 pub residue-count : (q n : ℕ) → IsCongruent q (q ^ n) (residue_of q (sign_of n))
 residue-count q zero = rw pow-zero refl
-residue-count q (suc n) = rw (pow-succ' q n) (alike_mul q q q (q ^ n) (residue_of q (sign_of n)) refl (residue-count q n) ∙ residue-times q minus (sign_of n))
+residue-count q (suc n) = rw (pow-succ' q n) (congruent_mul q q q (q ^ n) (residue_of q (sign_of n)) refl (residue-count q n) ∙ residue-times q minus (sign_of n))
 
 -- 1 where the sign is minus
 abbrev pub turn_of : Sign → ℕ

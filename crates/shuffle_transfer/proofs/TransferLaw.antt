@@ -3,7 +3,7 @@ use Rattle.std.proofs.Common.{◌≡◌, ℕ, zero, suc, ◌%◌, ◌<◌, ◌�
 use native.Mathlib.Decide.{ℕ_discrete}
 use Rattle.modular_sums.specs.Lists.{Mem, Distinct}
 use Rattle.modular_sums.specs.Sums.{coef, Same, expand, IsLinearCombination, moved, AllTerms}
-use Rattle.modular_sums.proofs.Sums.{Member-same}
+use Rattle.modular_sums.proofs.Sums.{combination-same}
 use Rattle.modular_sums.proofs.Images.{moved_eq, moved_ext, Same-moved}
 use Rattle.labelled_trees.specs.Trees.{Tree, leaf, graft}
 use Rattle.labelled_trees.specs.Leaves.{one_if, occurs}
@@ -123,7 +123,7 @@ module _ (p : Presentation) (n : ℕ) where
   module _ (sound : IsSound p) where
     -- an insertion into a frame as one into a slot
     pub from_frame : (i : RelationInsertion p n) → IsLinearCombination tree_discrete (slot_inserted p n) p.q (inserted_relation p n i)
-    from_frame i = Member-same tree_discrete (slot_inserted p n) p.q {e = inserted_relation p n i} {f = slot_inserted p n instance}
+    from_frame i = combination-same tree_discrete (slot_inserted p n) p.q {e = inserted_relation p n i} {f = slot_inserted p n instance}
         (λ t. Same-moved tree_discrete tree_discrete p.q (insert i.frame) (shuffled p r) (turned p r) (shuffled-turned p i.relation.arity r labels) t
         ∙ ap (λ e. coef tree_discrete e t % suc p.q) (moved_ext (insert i.frame) (fill_slot s.slot) (turned p r) s.inserts))
         (member_one tree_discrete (slot_inserted p n) p.q instance)
@@ -165,7 +165,7 @@ module _ (p : Presentation) (n : ℕ) where
         labels = labelled-relabelled arity i.relation.arity i.permutation i.permutes i.relation.terms (sound i.relation i.there)
 
         made : (x : Tree ℕ) → IsShuffle i.relation.arity x → IsShuffle n (fill_slot i.slot x) → IsLinearCombination tree_discrete (inserted_relation p n) p.q (slot_inserted p n i)
-        made x hx v = Member-same tree_discrete (inserted_relation p n) p.q {e = slot_inserted p n i} {f = inserted_relation p n instance}
+        made x hx v = combination-same tree_discrete (inserted_relation p n) p.q {e = slot_inserted p n i} {f = inserted_relation p n instance}
             (λ t. sym (Same-moved tree_discrete tree_discrete p.q (insert f) (shuffled p r) (turned p r) (shuffled-turned p i.relation.arity r labels) t
             ∙ ap (λ e. coef tree_discrete e t % suc p.q)
             (moved_eq (insert f) (fill_slot i.slot) (IsShuffle i.relation.arity) (turned p r) (forms_shuffle i.relation.arity r labels) (insert-frame_of i.relation.arity n i.slot i.rises x hx v))))
@@ -192,11 +192,11 @@ module _ (p : Presentation) (n : ℕ) where
 
 pub transfer_law : Transfer
 transfer_law p n e sound h = (
-  λ m. Member-same tree_discrete (inserted_relation p n) p.q {e = shuffled p e} {f = turned p e} (shuffled-turned p n e h)
+  λ m. combination-same tree_discrete (inserted_relation p n) p.q {e = shuffled p e} {f = turned p e} (shuffled-turned p n e h)
       (member_through tree_discrete p.q (slot_inserted p n) (inserted_relation p n) (to_frame p n sound) (turned p e) (forward p n sound e ((ideals_are_one p n e sound).0 m))),
   λ m. (ideals_are_one p n e sound).1 (backward p n sound e h
       (member_through tree_discrete p.q (inserted_relation p n) (slot_inserted p n) (from_frame p n sound) (turned p e)
-      (Member-same tree_discrete (inserted_relation p n) p.q {e = turned p e} {f = shuffled p e} (λ t. sym (shuffled-turned p n e h t)) m))),
+      (combination-same tree_discrete (inserted_relation p n) p.q {e = turned p e} {f = shuffled p e} (λ t. sym (shuffled-turned p n e h t)) m))),
 )
 
 no_insertions : (p : Presentation) (n : ℕ) (l : List (ℕ × RelationInsertion (without_relations p) n)) → expand (inserted_relation (without_relations p) n) l ≡ []

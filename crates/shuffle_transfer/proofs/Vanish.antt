@@ -4,7 +4,7 @@ use mathlib.Core.Path.{ap₂}
 use Rattle.std.proofs.lemmas.Nat.{pow-add}
 use Rattle.modular_sums.specs.Residues.{IsCongruent}
 use Rattle.modular_sums.specs.Sums.{Same}
-use Rattle.modular_sums.proofs.Residues.{alike_add, alike_mul}
+use Rattle.modular_sums.proofs.Residues.{congruent_add, congruent_mul}
 use Rattle.labelled_trees.specs.Trees.{Tree, Row, node, none, more, row, graft_row}
 use Rattle.labelled_trees.specs.Contexts.{Ctx, fill}
 use Rattle.labelled_trees.specs.Equality.{tree_discrete}
@@ -78,15 +78,15 @@ residue-turn q minus = residue-count q 1
 
 signs_cancel : (q : ℕ) (s t u : Sign) → t ≡ times s u → IsCongruent q (q ^ turn_of t + residue_of q (times minus s) * q ^ turn_of u) 0
 signs_cancel q s t u e =
-    let a : IsCongruent q (residue_of q (times minus s) * q ^ turn_of u) (residue_of q (times minus s) * residue_of q u) = alike_mul q (residue_of q (times minus s)) (residue_of q (times minus s)) (q ^ turn_of u) (residue_of q u) refl (residue-turn q u) in
+    let a : IsCongruent q (residue_of q (times minus s) * q ^ turn_of u) (residue_of q (times minus s) * residue_of q u) = congruent_mul q (residue_of q (times minus s)) (residue_of q (times minus s)) (q ^ turn_of u) (residue_of q u) refl (residue-turn q u) in
     let b : IsCongruent q (residue_of q (times minus s) * q ^ turn_of u) (residue_of q (times minus t)) = a ∙ residue-times q (times minus s) u ∙ ap (λ r. residue_of q r % suc q) (times_assoc minus s u ∙ ap (times minus) (sym e)) in
-    alike_add q (q ^ turn_of t) (residue_of q t) (residue_of q (times minus s) * q ^ turn_of u) (residue_of q (times minus t)) (residue-turn q t) b ∙ residue_gone q t
+    congruent_add q (q ^ turn_of t) (residue_of q t) (residue_of q (times minus s) * q ^ turn_of u) (residue_of q (times minus t)) (residue-turn q t) b ∙ residue_gone q t
 
 module _ (p : Presentation) (n : ℕ) where
   -- with the turns of the context and of the inputs
   signs : (c r : ℕ) (s t u : Sign) → t ≡ times s u → IsCongruent p.q (1 * p.q ^ (c + (turn_of t + r)) + residue_of p.q (times minus s) * p.q ^ (c + (turn_of u + r))) 0
   signs c r s t u e =
-      let k : IsCongruent p.q (p.q ^ c * p.q ^ r * (p.q ^ turn_of t + residue_of p.q (times minus s) * p.q ^ turn_of u)) (p.q ^ c * p.q ^ r * 0) = alike_mul p.q (p.q ^ c * p.q ^ r) (p.q ^ c * p.q ^ r) _ _ refl (signs_cancel p.q s t u e) in
+      let k : IsCongruent p.q (p.q ^ c * p.q ^ r * (p.q ^ turn_of t + residue_of p.q (times minus s) * p.q ^ turn_of u)) (p.q ^ c * p.q ^ r * 0) = congruent_mul p.q (p.q ^ c * p.q ^ r) (p.q ^ c * p.q ^ r) _ _ refl (signs_cancel p.q s t u e) in
       let l : 1 * (p.q ^ c * (p.q ^ turn_of t * p.q ^ r)) + residue_of p.q (times minus s) * (p.q ^ c * (p.q ^ turn_of u * p.q ^ r))
       ≡ p.q ^ c * p.q ^ r * (p.q ^ turn_of t + residue_of p.q (times minus s) * p.q ^ turn_of u) = omega arith in
       let z : p.q ^ c * p.q ^ r * 0 ≡ 0 = omega arith in

@@ -2,7 +2,7 @@
 use Rattle.std.proofs.Common.{◌≡◌, ℕ, suc, ◌+◌, ◌-◌, ◌*◌, ◌%◌, List, refl, ap, sym, ◌∙◌, subst, arith}
 use mathlib.Core.List.{◌++◌}
 use Rattle.modular_sums.specs.Sums.{coef, scale, Same, AllTerms}
-use Rattle.modular_sums.proofs.Residues.{alike_add, alike_mul}
+use Rattle.modular_sums.proofs.Residues.{congruent_add, congruent_mul}
 use Rattle.modular_sums.proofs.Sums.{coef-append, coef-scale}
 use Rattle.labelled_trees.specs.Trees.{Tree}
 use Rattle.labelled_trees.specs.Equality.{tree_discrete}
@@ -26,8 +26,8 @@ module _ (p : Presentation) (n : ℕ) where
   less-form : (e f : List (ℕ × Tree ℕ)) → AllTerms e (IsLabelled (arity_of p) n) → IsCollected (p.q + 1) (parts p) e f → InIdeal (without_relations p) n (e ++ scale p.q f)
   less-form e f l c = ideal-same (without_relations p) n (e ++ scale p.q f) (e ++ scale p.q (spelled_sum p.q (parts p) e))
       (λ t. ap (λ m. m % suc p.q) (less-coef e f t)
-      ∙ alike_add p.q (coef tree_discrete e t) (coef tree_discrete e t) (p.q * coef tree_discrete f t) (p.q * coef tree_discrete (spelled_sum p.q (parts p) e) t) refl
-      (alike_mul p.q p.q p.q (coef tree_discrete f t) (coef tree_discrete (spelled_sum p.q (parts p) e) t) refl (form-same e f c t))
+      ∙ congruent_add p.q (coef tree_discrete e t) (coef tree_discrete e t) (p.q * coef tree_discrete f t) (p.q * coef tree_discrete (spelled_sum p.q (parts p) e) t) refl
+      (congruent_mul p.q p.q p.q (coef tree_discrete f t) (coef tree_discrete (spelled_sum p.q (parts p) e) t) refl (form-same e f c t))
       ∙ ap (λ m. m % suc p.q) (sym (less-coef e (spelled_sum p.q (parts p) e) t)))
       (less_collected p n e l)
 

@@ -4,7 +4,7 @@ use Rattle.std.specs.List.{AllByRecursion}
 use Rattle.std.proofs.Math.Nat.{mod-eq_of_lt}
 use Rattle.std.proofs.lemmas.List.Elements.{recursion_from_All}
 use Rattle.std.specs.declared.cmp.Ordering.TheVariants.{Less}
-use Rattle.modular_sums.specs.Sums.{hit, coef, Same, AllTerms}
+use Rattle.modular_sums.specs.Sums.{coef, Same, AllTerms}
 use Rattle.modular_sums.proofs.Images.{AllTerms-imp}
 use Rattle.labelled_trees.specs.Trees.{Tree}
 use Rattle.labelled_trees.specs.Equality.{tree_discrete}
@@ -20,6 +20,7 @@ use Rattle.operad_ideals.specs.Collected.{IsCollected}
 use Rattle.operad_ideals.specs.Pairs.{Pairs}
 use Rattle.operad_ideals.proofs.Forms.{coef-other, coef-first, not_itself}
 use Rattle.operad_ideals.proofs.LastOnes.{pairs_from_AllPairs}
+use Rattle.modular_sums.specs.Lists.{choose}
 
 -- a tree with a coefficient other than 0 stands in the sum
 stands : (P : Tree ℕ → Type 0) (e : List (ℕ × Tree ℕ)) (t : Tree ℕ) → AllTerms e P → 0 < coef tree_discrete e t → P t
@@ -27,7 +28,7 @@ unfolding coef
 stands P [] t h l = absurd (omega arith)
 stands P (x ∷ e) t h l = go (tree_discrete x.1 t) l (stands P e t h.1)
   where
-    go : (d : Dec (x.1 ≡ t)) → 0 < hit d x.0 + coef tree_discrete e t → (0 < coef tree_discrete e t → P t) → P t
+    go : (d : Dec (x.1 ≡ t)) → 0 < choose d x.0 0 + coef tree_discrete e t → (0 < coef tree_discrete e t → P t) → P t
     go (yes s) l further = subst P s h.0
     go (no _) l further = further (omega arith)
 

@@ -4,10 +4,9 @@ use Rattle.std.specs.List.{AllByRecursion}
 use Rattle.std.specs.declared.cmp.Ordering.{Ordering}
 use Rattle.std.specs.declared.cmp.Ordering.TheVariants.{Less, Equal, Greater}
 use Rattle.std.specs.Ordering.{is_lt, is_ne, ordering_reverse}
-use Rattle.modular_sums.specs.Lists.{Mem}
+use Rattle.modular_sums.specs.Lists.{Mem, choose}
 use Rattle.modular_sums.specs.Residues.{IsCongruent}
-use Rattle.modular_sums.specs.Sums.{hit}
-use Rattle.modular_sums.proofs.Residues.{alike_add}
+use Rattle.modular_sums.proofs.Residues.{congruent_add}
 use Rattle.labelled_trees.specs.Trees.{Tree}
 use Rattle.labelled_trees.specs.Equality.{tree_discrete}
 use Rattle.labelled_trees.specs.Meaning.{tree_of}
@@ -37,28 +36,28 @@ module _ (p : ℕ) (old new : List Term) (term : Term) where
   pub joined-weight : JoinedTo p old term new → (t : Tree ℕ) → IsCongruent (p - 1) (weight new t) (weight old t + share term t)
   joined-weight (apart ne e) t = ap (λ n. n % suc (p - 1)) (ap (λ xs. weight xs t) e ∙ weight-push old term t)
   joined-weight (added front last c e same small alike is) t =
-      let d : IsCongruent (p - 1) (hit (tree_discrete (tree_of term.tree) t) c) (hit (tree_discrete (tree_of term.tree) t) last.coef + share term t) = two_hits (p - 1) (tree_discrete (tree_of term.tree) t) c last.coef term.coef alike in
-      let mine : share last t ≡ hit (tree_discrete (tree_of term.tree) t) last.coef = ap (λ u. hit (tree_discrete u t) last.coef) same in
+      let d : IsCongruent (p - 1) (choose (tree_discrete (tree_of term.tree) t) c 0) (choose (tree_discrete (tree_of term.tree) t) last.coef 0 + share term t) = two_hits (p - 1) (tree_discrete (tree_of term.tree) t) c last.coef term.coef alike in
+      let mine : share last t ≡ choose (tree_discrete (tree_of term.tree) t) last.coef 0 = ap (λ u. choose (tree_discrete u t) last.coef 0) same in
       let before : weight old t ≡ weight front t + share last t = ap (λ xs. weight xs t) e ∙ weight-push front last t in
-      let after : weight new t ≡ weight front t + hit (tree_discrete (tree_of term.tree) t) c = ap (λ xs. weight xs t) is ∙ weight-push front (record { coef = c; tree = term.tree }) t in
-      let sum : weight front t + (hit (tree_discrete (tree_of term.tree) t) last.coef + share term t) ≡ weight old t + share term t = omega (arith, before, mine) in
+      let after : weight new t ≡ weight front t + choose (tree_discrete (tree_of term.tree) t) c 0 = ap (λ xs. weight xs t) is ∙ weight-push front (record { coef = c; tree = term.tree }) t in
+      let sum : weight front t + (choose (tree_discrete (tree_of term.tree) t) last.coef 0 + share term t) ≡ weight old t + share term t = omega (arith, before, mine) in
       ap (λ n. n % suc (p - 1)) after
-      ∙ alike_add (p - 1) (weight front t) (weight front t) (hit (tree_discrete (tree_of term.tree) t) c) (hit (tree_discrete (tree_of term.tree) t) last.coef + share term t) refl d
+      ∙ congruent_add (p - 1) (weight front t) (weight front t) (choose (tree_discrete (tree_of term.tree) t) c 0) (choose (tree_discrete (tree_of term.tree) t) last.coef 0 + share term t) refl d
       ∙ ap (λ n. n % suc (p - 1)) sum
   joined-weight (cancelled front last e same alike is) t =
-      let d : IsCongruent (p - 1) (hit (tree_discrete (tree_of term.tree) t) 0) (hit (tree_discrete (tree_of term.tree) t) last.coef + share term t) = two_hits (p - 1) (tree_discrete (tree_of term.tree) t) 0 last.coef term.coef alike in
-      let nothing : hit (tree_discrete (tree_of term.tree) t) 0 ≡ 0 = hit_nothing (tree_discrete (tree_of term.tree) t) in
-      let mine : share last t ≡ hit (tree_discrete (tree_of term.tree) t) last.coef = ap (λ u. hit (tree_discrete u t) last.coef) same in
+      let d : IsCongruent (p - 1) (choose {B = ℕ} (tree_discrete (tree_of term.tree) t) 0 0) (choose (tree_discrete (tree_of term.tree) t) last.coef 0 + share term t) = two_hits (p - 1) (tree_discrete (tree_of term.tree) t) 0 last.coef term.coef alike in
+      let nothing : choose {B = ℕ} (tree_discrete (tree_of term.tree) t) 0 0 ≡ 0 = choose_nothing (tree_discrete (tree_of term.tree) t) in
+      let mine : share last t ≡ choose (tree_discrete (tree_of term.tree) t) last.coef 0 = ap (λ u. choose (tree_discrete u t) last.coef 0) same in
       let before : weight old t ≡ weight front t + share last t = ap (λ xs. weight xs t) e ∙ weight-push front last t in
-      let after : weight new t ≡ weight front t + hit (tree_discrete (tree_of term.tree) t) 0 = ap (λ xs. weight xs t) is ∙ omega (arith, nothing) in
-      let sum : weight front t + (hit (tree_discrete (tree_of term.tree) t) last.coef + share term t) ≡ weight old t + share term t = omega (arith, before, mine) in
+      let after : weight new t ≡ weight front t + choose {B = ℕ} (tree_discrete (tree_of term.tree) t) 0 0 = ap (λ xs. weight xs t) is ∙ omega (arith, nothing) in
+      let sum : weight front t + (choose (tree_discrete (tree_of term.tree) t) last.coef 0 + share term t) ≡ weight old t + share term t = omega (arith, before, mine) in
       ap (λ n. n % suc (p - 1)) after
-      ∙ alike_add (p - 1) (weight front t) (weight front t) (hit (tree_discrete (tree_of term.tree) t) 0) (hit (tree_discrete (tree_of term.tree) t) last.coef + share term t) refl d
+      ∙ congruent_add (p - 1) (weight front t) (weight front t) (choose {B = ℕ} (tree_discrete (tree_of term.tree) t) 0 0) (choose (tree_discrete (tree_of term.tree) t) last.coef 0 + share term t) refl d
       ∙ ap (λ n. n % suc (p - 1)) sum
     where
-      hit_nothing : {A : Type 0} (d : Dec A) → hit d 0 ≡ 0
-      hit_nothing (yes _) = refl
-      hit_nothing (no _) = refl
+      choose_nothing : {A : Type 0} (d : Dec A) → choose {B = ℕ} d 0 0 ≡ 0
+      choose_nothing (yes _) = refl
+      choose_nothing (no _) = refl
 
   pub joined-trees : (P : Tree ℕ → Type 0) → JoinedTo p old term new → AllByRecursion (λ x. P (tree_of x.tree)) old → P (tree_of term.tree) → AllByRecursion (λ x. P (tree_of x.tree)) new
   joined-trees P (apart ne e) h k = subst (AllByRecursion (λ (x : Term). P (tree_of x.tree))) (sym e) (each-push (λ (x : Term). P (tree_of x.tree)) old term h k)
@@ -139,7 +138,7 @@ way-step p whole rest left terms new term way e joined =
           let now : IsCongruent (p - 1) (weight new t) (weight terms t + share term t) = joined-weight p terms new term joined t in
           let before : weight rest t ≡ weight left t + share term t = ap (λ xs. weight xs t) e ∙ weight-push left term t in
           let sum : weight terms t + share term t + weight left t ≡ weight terms t + weight rest t = omega (arith, before) in
-          alike_add (p - 1) (weight new t) (weight terms t + share term t) (weight left t) (weight left t) now refl ∙ ap (λ n. n % suc (p - 1)) sum ∙ way.same t;
+          congruent_add (p - 1) (weight new t) (weight terms t + share term t) (weight left t) (weight left t) now refl ∙ ap (λ n. n % suc (p - 1)) sum ∙ way.same t;
       ascending = joined-ascending p terms new term joined way.ascending behind_are.1;
       residues = joined-residues p terms new term joined way.residues residues_are.1;
       found = joined-trees p terms new term (λ u. Mem u (trees whole)) joined way.found found_are.1;

@@ -5,11 +5,11 @@ use Rattle.std.proofs.Math.Nat.{mod-mod}
 use Rattle.std.proofs.lemmas.List.{length-map}
 use Rattle.std.proofs.lemmas.List.Elements.{recursion_from_All}
 use native.Mathlib.Decide.{ℕ_discrete}
-use Rattle.modular_sums.specs.Lists.{Mem}
+use Rattle.modular_sums.specs.Lists.{Mem, choose}
 use Rattle.modular_sums.specs.Residues.{IsCongruent}
-use Rattle.modular_sums.specs.Sums.{hit, coef, scale, Same, moved, AllTerms}
+use Rattle.modular_sums.specs.Sums.{coef, scale, Same, moved, AllTerms}
 use Rattle.modular_sums.proofs.Images.{moved_ext}
-use Rattle.modular_sums.proofs.Residues.{alike_add}
+use Rattle.modular_sums.proofs.Residues.{congruent_add}
 use Rattle.labelled_trees.specs.Trees.{Tree, graft, node}
 use Rattle.labelled_trees.specs.Contexts.{fill}
 use Rattle.labelled_trees.specs.Equality.{tree_discrete}
@@ -45,14 +45,14 @@ use Rattle.symmetric_sums.proofs.PlacedIdeals.{placed_member}
 
 -- ---- products modulo p, without zeros, as a multiple
 
-alike_mod : (q a : ℕ) → IsCongruent q (a % suc q) a
-alike_mod q a = mod-mod a (suc q)
+congruent_mod : (q a : ℕ) → IsCongruent q (a % suc q) a
+congruent_mod q a = mod-mod a (suc q)
 
-hit_alike : {A : Type 0} (q : ℕ) (d : Dec A) (a : ℕ) → IsCongruent q (hit d (a % suc q)) (hit d a)
-hit_alike q (yes _) a = alike_mod q a
-hit_alike q (no _) a = refl
+choose_alike : {A : Type 0} (q : ℕ) (d : Dec A) (a : ℕ) → IsCongruent q (choose d (a % suc q) 0) (choose d a 0)
+choose_alike q (yes _) a = congruent_mod q a
+choose_alike q (no _) a = refl
 
-hit_zero : {A : Type 0} (d : Dec A) (a : ℕ) → a ≡ 0 → hit d a ≡ 0
+hit_zero : {A : Type 0} (d : Dec A) (a : ℕ) → a ≡ 0 → choose d a 0 ≡ 0
 hit_zero (yes _) a z = z
 hit_zero (no _) a z = refl
 
@@ -61,14 +61,14 @@ unfolding coef
 without_zeros-same [] t = refl
 without_zeros-same (x ∷ e) t = go (ℕ_discrete x.0 0) (without_zeros-same e t)
   where
-    go : Dec (x.0 ≡ 0) → coef tree_discrete (without_zeros e) t ≡ coef tree_discrete e t → coef tree_discrete (without_zeros (x ∷ e)) t ≡ hit (tree_discrete x.1 t) x.0 + coef tree_discrete e t
+    go : Dec (x.0 ≡ 0) → coef tree_discrete (without_zeros e) t ≡ coef tree_discrete e t → coef tree_discrete (without_zeros (x ∷ e)) t ≡ choose (tree_discrete x.1 t) x.0 0 + coef tree_discrete e t
     go (yes z) rest = ap (λ l. coef tree_discrete l t) (without_zeros-zero x e z) ∙ rest ∙ omega (arith, hit_zero (tree_discrete x.1 t) x.0 z)
-    go (no z) rest = ap (λ l. coef tree_discrete l t) (without_zeros-some x e z) ∙ ap (λ n. hit (tree_discrete x.1 t) x.0 + n) rest
+    go (no z) rest = ap (λ l. coef tree_discrete l t) (without_zeros-some x e z) ∙ ap (λ n. choose (tree_discrete x.1 t) x.0 0 + n) rest
 
 pub products-same : (q c : ℕ) (e : List (ℕ × Tree ℕ)) → Same tree_discrete q (products (suc q) c e) (scale c e)
 unfolding coef scale
 products-same q c [] t = refl
-products-same q c (x ∷ e) t = alike_add q _ _ _ _ (hit_alike q (tree_discrete x.1 t) (c * x.0)) (products-same q c e t)
+products-same q c (x ∷ e) t = congruent_add q _ _ _ _ (choose_alike q (tree_discrete x.1 t) (c * x.0)) (products-same q c e t)
 
 module _ (p : ℕ) (generators : List Generator) (rels : List (List Term)) (n : ℕ) (positive : 0 < p) where
   abbrev whole : Presentation

@@ -3,8 +3,8 @@ use Rattle.std.proofs.Common.{◌≡◌, ◌≢◌, ℕ, suc, ◌+◌, ◌*◌, 
 use mathlib.Core.List.{◌++◌}
 use native.Mathlib.Decide.{ℕ_discrete}
 use Rattle.modular_sums.specs.Residues.{IsCongruent}
-use Rattle.modular_sums.specs.Sums.{hit, coef, scale, moved, AllTerms}
-use Rattle.modular_sums.proofs.Residues.{alike_add, alike_mul, alike_drop}
+use Rattle.modular_sums.specs.Sums.{coef, scale, moved, AllTerms}
+use Rattle.modular_sums.proofs.Residues.{congruent_add, congruent_mul, congruent_drop}
 use Rattle.modular_sums.proofs.Sums.{coef-append, coef-scale, expand-moved}
 use Rattle.labelled_trees.specs.Trees.{Tree, graft}
 use Rattle.labelled_trees.specs.Contexts.{fill}
@@ -25,6 +25,7 @@ use Rattle.operad_ideals.specs.Collected.{HaveOneForm}
 use Rattle.operad_ideals.specs.SpelledSums.{spelled_sum}
 use Rattle.operad_ideals.proofs.Collected.{less_collected}
 use Rattle.symmetric_sums.proofs.Decisions.{form-same, collected_decide}
+use Rattle.modular_sums.specs.Lists.{choose}
 
 coef_nothing : (t : Tree ℕ) → coef tree_discrete [] t ≡ 0
 unfolding coef
@@ -36,7 +37,7 @@ unfolding coef
 coef_apart m [] t h ne = refl
 coef_apart m (x ∷ e) t h ne = go (tree_discrete x.1 t) (coef_apart m e t h.1 ne)
   where
-    go : (d : Dec (x.1 ≡ t)) → coef tree_discrete e t ≡ 0 → hit d x.0 + coef tree_discrete e t ≡ 0
+    go : (d : Dec (x.1 ≡ t)) → coef tree_discrete e t ≡ 0 → choose d x.0 0 + coef tree_discrete e t ≡ 0
     go (yes same) rest = absurd (ne (ap leaf_count (sym same) ∙ h.0))
     go (no _) rest = omega (arith, rest)
 
@@ -93,8 +94,8 @@ module _ (p : Presentation) where
       (λ t.
       let z : coef tree_discrete e t + p.q * 0 ≡ coef tree_discrete e t = omega arith in
       ap (λ k. k % suc p.q) (sym z)
-      ∙ alike_add p.q (coef tree_discrete e t) (coef tree_discrete e t) (p.q * 0) (p.q * coef tree_discrete (spelled_sum p.q (parts p) e) t) refl
-      (alike_mul p.q p.q p.q 0 (coef tree_discrete (spelled_sum p.q (parts p) e) t) refl (sym (none t (ℕ_discrete (leaf_count t) m))))
+      ∙ congruent_add p.q (coef tree_discrete e t) (coef tree_discrete e t) (p.q * 0) (p.q * coef tree_discrete (spelled_sum p.q (parts p) e) t) refl
+      (congruent_mul p.q p.q p.q 0 (coef tree_discrete (spelled_sum p.q (parts p) e) t) refl (sym (none t (ℕ_discrete (leaf_count t) m))))
       ∙ ap (λ k. k % suc p.q) (sym (less-coef e (spelled_sum p.q (parts p) e) t)))
       (ideal_lifted sound m (e ++ scale p.q (spelled_sum p.q (parts p) e)) (less_collected p m e le))
     where
@@ -110,7 +111,7 @@ module _ (p : Presentation) where
       ideal-same p n e ((e ++ scale p.q f) ++ f)
       (λ t.
       let turned : coef tree_discrete e t + (coef tree_discrete f t + p.q * coef tree_discrete f t) ≡ coef tree_discrete e t + p.q * coef tree_discrete f t + coef tree_discrete f t = omega arith in
-      sym (alike_drop p.q (coef tree_discrete e t) (coef tree_discrete f t)) ∙ ap (λ k. k % suc p.q) turned
+      sym (congruent_drop p.q (coef tree_discrete e t) (coef tree_discrete f t)) ∙ ap (λ k. k % suc p.q) turned
       ∙ ap (λ k. k % suc p.q) (sym (coef-append tree_discrete (e ++ scale p.q f) f t ∙ ap (λ k. k + coef tree_discrete f t) (less-coef e f t))))
       (ideal-append p n (e ++ scale p.q f) f less member)
 

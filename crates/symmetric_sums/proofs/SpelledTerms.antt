@@ -4,10 +4,10 @@ use Rattle.std.specs.List.{All, AllByRecursion}
 use Rattle.std.proofs.lemmas.List.Elements.{All-from_recursion, recursion_from_All, All-map}
 use Rattle.std.proofs.lemmas.List.Sorted.{All-permutation, length_permutation}
 use Rattle.std.proofs.Math.Seq.{take-suc, take-append_seam}
-use Rattle.modular_sums.specs.Lists.{Mem}
+use Rattle.modular_sums.specs.Lists.{Mem, choose}
 use Rattle.modular_sums.specs.Residues.{IsCongruent}
-use Rattle.modular_sums.specs.Sums.{hit, coef}
-use Rattle.modular_sums.proofs.Residues.{alike_add, alike_cancel, alike_drop}
+use Rattle.modular_sums.specs.Sums.{coef}
+use Rattle.modular_sums.proofs.Residues.{congruent_add, congruent_cancel, congruent_drop}
 use Rattle.labelled_trees.specs.Trees.{Tree}
 use Rattle.labelled_trees.specs.Equality.{tree_discrete}
 use Rattle.labelled_trees.specs.Meaning.{tree_of}
@@ -35,7 +35,7 @@ use Rattle.symmetric_sums.proofs.Numberings.{arity_is}
 use Rattle.labelled_trees.proofs.Numbered.{numbered_of_labelled, labelled_of_numbered}
 use Rattle.operad_ideals.proofs.SortedLists.{every_weaker}
 use Rattle.operad_ideals.proofs.LastOnes.{AllPairs-from_pairs}
-use Rattle.symmetric_sums.proofs.Weights.{weight, share, weight-permutation, alike_hit}
+use Rattle.symmetric_sums.proofs.Weights.{weight, share, weight-permutation, congruent_choose}
 
 -- a residue times a sign
 pub signed_residue : (p c r : ℕ) (sign : Sign) (s : math.Sign) → s ≡ program.meaning_of sign → 0 < c → c < p → (sign ≡ Plus → r ≡ c) → (sign ≡ Minus → r + c ≡ p)
@@ -47,11 +47,11 @@ signed_residue p c r Plus s e pc lc f g =
 signed_residue p c r Minus s e pc lc f g =
     let whole : r + c ≡ p = g refl in
     let q = p - 1 in
-    let left : IsCongruent q (0 + (1 + q * 1)) 0 = alike_drop q 0 1 in
-    let right : IsCongruent q (0 + (c + q * c)) 0 = alike_drop q 0 c in
+    let left : IsCongruent q (0 + (1 + q * 1)) 0 = congruent_drop q 0 1 in
+    let right : IsCongruent q (0 + (c + q * c)) 0 = congruent_drop q 0 c in
     let e₁ : 0 + (1 + q * 1) ≡ r + c = omega arith in
     let e₂ : 0 + (c + q * c) ≡ q * c + c = omega arith in (
-      alike_cancel q r (q * c) c ((rw e₁ at left) ∙ sym (rw e₂ at right)) ∙ ap (λ x. (residue_of q x * c) % suc q) (sym e),
+      congruent_cancel q r (q * c) c ((rw e₁ at left) ∙ sym (rw e₂ at right)) ∙ ap (λ x. (residue_of q x * c) % suc q) (sym e),
       omega arith,
       omega arith,
     )
@@ -78,10 +78,10 @@ module _ (p : ℕ) (generators : List Generator) where
   spellings-weight (s ∷ ts) (u ∷ us) h t =
       let signed = residue_of (p - 1) (spelled_sign (parts_at generators) (tree_of s.tree)) in
       let turned : signed * s.coef ≡ s.coef * signed = omega arith in
-      alike_add (p - 1) (share u t) (hit (tree_discrete (spelled (parts_at generators) (tree_of s.tree)) t) (s.coef * signed))
+      congruent_add (p - 1) (share u t) (choose (tree_discrete (spelled (parts_at generators) (tree_of s.tree)) t) (s.coef * signed) 0)
       (weight us t) (coef tree_discrete (spelled_sum (p - 1) (parts_at generators) (terms_of ts)) t)
-      (ap (λ v. hit (tree_discrete v t) u.coef % suc (p - 1)) h.0.tree
-      ∙ alike_hit (p - 1) (tree_discrete (spelled (parts_at generators) (tree_of s.tree)) t) u.coef (s.coef * signed) (h.0.coef ∙ ap (λ m. m % suc (p - 1)) turned))
+      (ap (λ v. choose (tree_discrete v t) u.coef 0 % suc (p - 1)) h.0.tree
+      ∙ congruent_choose (p - 1) (tree_discrete (spelled (parts_at generators) (tree_of s.tree)) t) u.coef (s.coef * signed) (h.0.coef ∙ ap (λ m. m % suc (p - 1)) turned))
       (spellings-weight ts us h.1 t)
 
   -- the spelling of a labelled tree is sorted, and labelled by the same numbers

@@ -4,12 +4,13 @@ use Rattle.std.specs.List.{sum_by}
 use Rattle.std.proofs.lemmas.List.Sums.{sum_by-cons}
 use Rattle.std.proofs.lemmas.List.Sorted.{sum_by-IsPermutation}
 use Rattle.modular_sums.specs.Residues.{IsCongruent}
-use Rattle.modular_sums.specs.Sums.{hit, coef}
+use Rattle.modular_sums.specs.Sums.{coef}
 use Rattle.labelled_trees.specs.Trees.{Tree}
 use Rattle.labelled_trees.specs.Equality.{tree_discrete}
 use Rattle.labelled_trees.specs.Meaning.{tree_of}
 use Rattle.symmetric_sums.specs.Terms.{terms_of}
 use Rattle.symmetric_sums.specs.declared.term.Term.{Term}
+use Rattle.modular_sums.specs.Lists.{choose}
 
 -- the coefficient of t in the terms
 abbrev pub weight : List Term → Tree ℕ → ℕ
@@ -17,7 +18,7 @@ weight terms t = coef tree_discrete (terms_of terms) t
 
 -- what one term adds to it
 abbrev pub share : Term → Tree ℕ → ℕ
-share term t = hit (tree_discrete (tree_of term.tree) t) term.coef
+share term t = choose (tree_discrete (tree_of term.tree) t) term.coef 0
 
 pub weight-nil : (t : Tree ℕ) → weight [] t ≡ 0
 unfolding coef
@@ -41,10 +42,10 @@ weight-sum (x ∷ xs) t = weight-cons x xs t ∙ ap (λ n. share x t + n) (weigh
 pub weight-permutation : (xs ys : List Term) (t : Tree ℕ) → IsPermutation xs ys → weight ys t ≡ weight xs t
 weight-permutation xs ys t h = weight-sum ys t ∙ sum_by-IsPermutation (λ x. share x t) xs ys h ∙ sym (weight-sum xs t)
 
-pub alike_hit : {A : Type 0} (q : ℕ) (d : Dec A) (a b : ℕ) → IsCongruent q a b → IsCongruent q (hit d a) (hit d b)
-alike_hit q (yes _) a b h = h
-alike_hit q (no _) a b h = refl
+pub congruent_choose : {A : Type 0} (q : ℕ) (d : Dec A) (a b : ℕ) → IsCongruent q a b → IsCongruent q (choose d a 0) (choose d b 0)
+congruent_choose q (yes _) a b h = h
+congruent_choose q (no _) a b h = refl
 
-pub two_hits : {A : Type 0} (q : ℕ) (d : Dec A) (c a b : ℕ) → IsCongruent q c (a + b) → IsCongruent q (hit d c) (hit d a + hit d b)
+pub two_hits : {A : Type 0} (q : ℕ) (d : Dec A) (c a b : ℕ) → IsCongruent q c (a + b) → IsCongruent q (choose d c 0) (choose d a 0 + choose d b 0)
 two_hits q (yes _) c a b h = h
 two_hits q (no _) c a b h = refl

@@ -1,4 +1,4 @@
-use Rattle.path_orders.proofs.Alike as laws
+use Rattle.path_orders.proofs.ComparableKeys as laws
 use Rattle.path_orders.proofs.orders.keys_are_alike.Goals as goal
 
 pub returns : goal.returns

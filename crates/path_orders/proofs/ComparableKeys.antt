@@ -6,7 +6,7 @@ use Rattle.std.specs.List.{AllByRecursion}
 use Rattle.labelled_trees.specs.Trees.{Tree, Row, leaf, node, none, more, leaves, vertices, vertices_row}
 use Rattle.labelled_trees.specs.Leaves.{occurs}
 use Rattle.shuffle_insertions.specs.ShuffleTrees.{IsShuffle}
-use Rattle.shuffle_insertions.specs.Keys.{only_if, words_at, words_at_row, words_below}
+use Rattle.shuffle_insertions.specs.Keys.{words_at, words_at_row, words_below}
 use Rattle.shuffle_insertions.proofs.Keys.{length-words_at}
 use Rattle.shuffle_trees.specs.ValidTrees.{IsWide}
 use Rattle.shuffle_trees.proofs.Counts.{fewer_vertices, count_of_shuffle}
@@ -30,7 +30,7 @@ within_under : (n l : ℕ) (ks : List (List ℕ)) → AreWithin n ks → AreWith
 within_under n l [] h = tt
 within_under n l (k ∷ ks) h = let one = h.0 in (omega (arith, one), within_under n l ks h.1)
 
-within_only : (i j : ℕ) (d : Dec (i ≡ j)) → AreWithin 0 (only_if {A = List ℕ} d [])
+within_only : (i j : ℕ) (d : Dec (i ≡ j)) → AreWithin 0 (choose {B = List (List ℕ)} d ([] ∷ []) [])
 within_only i j (yes _) = (omega arith, tt)
 within_only i j (no _) = tt
 
