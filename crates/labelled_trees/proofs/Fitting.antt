@@ -5,6 +5,7 @@ use Rattle.labelled_trees.specs.Contexts.{Ctx, RowCtx, hole, inside, here, past,
 use Rattle.labelled_trees.specs.Leaves.{AllLeaves, AllRow, leaf_count, leaf_count_row}
 use Rattle.labelled_trees.specs.Labelled.{Fits, FitsRow}
 use Rattle.labelled_trees.specs.Unions.{union_row, union}
+use Rattle.labelled_trees.proofs.Leaves.{AllLeaves-each}
 
 pub width-graft : {A B : Type 0} (r : Row A) (s : A → Tree B) → width (graft_row r s) ≡ width r
 width-graft none s = refl
@@ -46,6 +47,10 @@ module _ (arity : ℕ → ℕ) where
     pub fits_row-graft : {A B : Type 0} (r : Row A) (s : A → Tree B) → FitsRow arity r → AllRow r (λ a. Fits arity (s a)) → FitsRow arity (graft_row r s)
     fits_row-graft none s b h = tt
     fits_row-graft (more t r) s b h = (fits-graft t s b.0 h.0, fits_row-graft r s b.1 h.1)
+
+  -- other numbers at the leaves change nothing
+  pub fits-renamed : (t : Tree ℕ) (w : ℕ → ℕ) → Fits arity t → Fits arity (graft t (λ i. leaf (w i)))
+  fits-renamed t w h = fits-graft t (λ i. leaf (w i)) h (AllLeaves-each t (λ i. Fits {A = ℕ} arity (leaf (w i))) (λ i. tt))
 
   mutual
     pub fits_of_fill : {A : Type 0} (c : Ctx A) (x : Tree A) → Fits arity (fill c x) → Fits arity x

@@ -3,7 +3,7 @@ use Rattle.std.proofs.Common.{◌≡◌, ℕ, ◌+◌, ◌≤◌, List, [], ◌�
 use Rattle.std.specs.List.{AllByRecursion, sum_by}
 use Rattle.std.proofs.lemmas.List.{length-map}
 use Rattle.std.proofs.lemmas.List.Sums.{sum_by-cons}
-use Rattle.labelled_trees.specs.Trees.{Tree, leaf, node, row}
+use Rattle.labelled_trees.specs.Trees.{Tree, leaf, node, more, row, graft, graft_row}
 use Rattle.labelled_trees.specs.Leaves.{sum_leaves, sum_row, AllLeaves, AllRow}
 use Rattle.labelled_trees.specs.Labelled.{Fits, FitsRow}
 use Rattle.labelled_trees.proofs.Rows.{width-row}
@@ -105,3 +105,8 @@ pub fits-inputs : (arity : ℕ → ℕ) (g : ℕ) (ts : List program.Tree) → F
 fits-inputs arity g ts h =
     let f = subst (Fits arity) (tree_of-node g ts) h in
     (f.0, sym (width-row (map tree_of ts) ∙ length-map ts tree_of) ∙ f.1, fits_each arity ts f.2)
+
+-- the inputs of a vertex, grafted
+pub graft_row-trees : (ts : List program.Tree) (s : ℕ → Tree ℕ) → graft_row (row (map tree_of ts)) s ≡ row (map (λ t. graft (tree_of t) s) ts)
+graft_row-trees [] s = refl
+graft_row-trees (t ∷ ts) s = ap (more (graft (tree_of t) s)) (graft_row-trees ts s)

@@ -27,6 +27,9 @@ module _ {M : Type 0} (dec : Discrete M) where
   coef-scale c [] t = omega arith
   coef-scale c (x ∷ e) t = omega (arith, coef-scale c e t, choose-mul (dec x.1 t) c x.0)
 
+  pub coef-less : (q : ℕ) (e f : List (ℕ × M)) (t : M) → coef dec (e ++ scale q f) t ≡ coef dec e t + q * coef dec f t
+  coef-less q e f t = coef-append e (scale q f) t ∙ ap (λ m. coef dec e t + m) (coef-scale q f t)
+
   module _ {I : Type 0} (value : I → List (ℕ × M)) where
     pub coef-expand : (x : ℕ × I) (l : List (ℕ × I)) (t : M) → coef dec (expand value (x ∷ l)) t ≡ x.0 * coef dec (value x.1) t + coef dec (expand value l) t
     unfolding expand

@@ -25,37 +25,15 @@ use Rattle.symmetric_sums.specs.Membership.{relation_of, presentation_of, IsElem
 use Rattle.symmetric_sums.specs.Terms.{terms_of}
 use Rattle.symmetric_sums.specs.declared.term.Term.{Term}
 use Rattle.shuffle_passage.specs.Transfer.{AreRelabellings, inserted_answer, TransferOfAnswers}
-
-module _ (p : Presentation) where
-  -- the shuffle form of an element is that of its sorted spellings
-  spelled_forms : (n : ℕ) (e : List (ℕ × Tree ℕ)) → AllTerms e (Rattle.labelled_trees.specs.Labelled.IsLabelled (arity_of p) n) → shuffled p e ≡ moved (shuffle_form p.generators) (spelled_sum p.q (parts p) e)
-  spelled_forms n [] h = refl
-  spelled_forms n (x ∷ e) h = ap₂ (λ (y : Tree ℕ) (l : List (ℕ × Tree ℕ)). (x.0 * residue_of p.q (spelled_sign (parts p) x.1), y) ∷ l) (sym (spelling p.generators n x.1 h.0).1) (spelled_forms n e h.1)
-
-  -- sorted trees keep their signs
-  sorted_forms : (f : List (ℕ × Tree ℕ)) → AllByRecursion (λ (x : ℕ × Tree ℕ). IsSorted (parts p) x.1) f → shuffled p f ≡ moved (shuffle_form p.generators) f
-  sorted_forms [] h = refl
-  sorted_forms (x ∷ f) h =
-      let one : x.0 * residue_of p.q (spelled_sign (parts p) x.1) ≡ x.0 = ap (λ s. x.0 * residue_of p.q s) (sorted_spelling (parts p) x.1 h.0).1 ∙ omega arith in
-      ap₂ (λ (c : ℕ) (l : List (ℕ × Tree ℕ)). (c, shuffle_form p.generators x.1) ∷ l) one (sorted_forms f h.1)
-
--- an element and its collected form have the same shuffle form
-collected_form : (p : Presentation) (q n : ℕ) (e f : List (ℕ × Tree ℕ)) → p.q ≡ q - 1 → AllTerms e (Rattle.labelled_trees.specs.Labelled.IsLabelled (arity_of p) n) → IsCollected q (parts p) e f
-    → Same tree_discrete p.q (shuffled p f) (shuffled p e)
-collected_form p q n e f z h c =
-    let sorted = recursion_from_All (λ (x : ℕ × Tree ℕ). IsSorted (parts p) x.1) f c.reduced.sorted in
-    let same : Same tree_discrete p.q f (spelled_sum p.q (parts p) e) = subst (λ m. Same tree_discrete m f (spelled_sum m (parts p) e)) (sym z) c.same in
-    λ t. ap (λ l. coef tree_discrete l t % suc p.q) (sorted_forms p f sorted)
-    ∙ Same-moved tree_discrete tree_discrete p.q (shuffle_form p.generators) f (spelled_sum p.q (parts p) e) same t
-    ∙ ap (λ l. coef tree_discrete l t % suc p.q) (sym (spelled_forms p n e h))
+use Rattle.shuffle_transfer.proofs.SortedForms.{collected_same}
 
 pub transfer_of_answers : TransferOfAnswers
 transfer_of_answers q gens rels n e f answer sound h c answers = (
-  λ m. combination-same tree_discrete (inserted_answer p n answer) p.q {e = shuffled p f} {f = shuffled p e} (collected_form p q n e f refl h c)
+  λ m. combination-same tree_discrete (inserted_answer p n answer) p.q {e = shuffled p f} {f = shuffled p e} (collected_same p q n e f refl h c)
       (member_through tree_discrete p.q (inserted_relation p n) (inserted_answer p n answer)
       (λ i. combination-same tree_discrete (inserted_answer p n answer) p.q {e = inserted_relation p n i} {f = inserted_answer p n answer i} (λ t. sym (values i t)) (member_one tree_discrete (inserted_answer p n answer) p.q i))
       (shuffled p e) ((transfer_law p n e is_sound h).0 m)),
-  λ m. (transfer_law p n e is_sound h).1 (combination-same tree_discrete (inserted_relation p n) p.q {e = shuffled p e} {f = shuffled p f} (λ t. sym (collected_form p q n e f refl h c t))
+  λ m. (transfer_law p n e is_sound h).1 (combination-same tree_discrete (inserted_relation p n) p.q {e = shuffled p e} {f = shuffled p f} (λ t. sym (collected_same p q n e f refl h c t))
       (member_through tree_discrete p.q (inserted_answer p n answer) (inserted_relation p n)
       (λ i. combination-same tree_discrete (inserted_relation p n) p.q {e = inserted_answer p n answer i} {f = inserted_relation p n i} (values i) (member_one tree_discrete (inserted_relation p n) p.q i))
       (shuffled p f) m)),

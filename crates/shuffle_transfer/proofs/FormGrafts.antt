@@ -12,6 +12,7 @@ use Rattle.operad_ideals.proofs.SortedLists.{every_sort_by, length-sort_by, map-
 use Rattle.operad_ideals.proofs.SameOrder.{sort_by-order}
 use Rattle.shuffle_transfer.specs.ShuffleForms.{ranks, form, form_row}
 use Rattle.shuffle_transfer.proofs.Ranks.{ranks-order}
+use Rattle.labelled_trees.proofs.Grafts.{graft_row-row}
 
 -- how often skew inputs change places, summed over the vertices; `twist g w` counts it for a generator with a word
 module _ (label twist : ℕ → List ℕ → ℕ) where
@@ -23,10 +24,6 @@ module _ (label twist : ℕ → List ℕ → ℕ) where
     pub turns_row : Row ℕ → ℕ
     turns_row none = 0
     turns_row (more t r) = turns t + turns_row r
-
-pub graft_row-row : {A B : Type 0} (ts : List (Tree A)) (s : A → Tree B) → graft_row (row ts) s ≡ row (map (λ t. graft t s) ts)
-graft_row-row [] s = refl
-graft_row-row (t ∷ ts) s = ap (more (graft t s)) (graft_row-row ts s)
 
 pub length-form_row : (label : ℕ → List ℕ → ℕ) (r : Row ℕ) → length (form_row label r) ≡ width r
 length-form_row label none = refl

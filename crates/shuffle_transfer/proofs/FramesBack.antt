@@ -19,7 +19,7 @@ use Rattle.shuffle_transfer.proofs.Permutes.{Picked, now, later, Permutes, done,
 use Rattle.shuffle_transfer.proofs.Orderings.{ordering_permutes}
 use Rattle.shuffle_transfer.proofs.Ranks.{map_same, items_all}
 use Rattle.shuffle_transfer.proofs.Labels.{word_of_label}
-use Rattle.shuffle_transfer.proofs.FormGrafts.{graft_row-row}
+use Rattle.labelled_trees.proofs.Grafts.{graft_row-row}
 use Rattle.shuffle_transfer.proofs.TreesOfShuffleTrees.{item-map}
 
 -- the items with these numbers, summed: a permutation has the same sum

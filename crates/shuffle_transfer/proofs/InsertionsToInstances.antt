@@ -20,7 +20,7 @@ use Rattle.labelled_trees.proofs.ContextLeaves.{adds}
 use Rattle.labelled_trees.proofs.Numbered.{numbered_of_labelled, labelled_once, numbered_sums}
 use Rattle.labelled_trees.proofs.GraftLeaves.{graft_ext, AllLeaves-graft, AllLeaves_of_graft, sum_leaves-graft}
 use Rattle.labelled_trees.proofs.Holes.{At, hole_at, one_context}
-use Rattle.labelled_trees.proofs.Fitting.{fits_of_fill, fits-fill, fits_parts, fits-graft}
+use Rattle.labelled_trees.proofs.Fitting.{fits_of_fill, fits-fill, fits_parts, fits-graft, fits-renamed}
 use Rattle.shuffle_insertions.specs.ShuffleTrees.{least, IsRising, IsShuffleTree}
 use Rattle.shuffle_insertions.specs.Slots.{Slot, fill_slot, PartsRise}
 use Rattle.shuffle_insertions.proofs.Insertions.{InRange}
@@ -208,13 +208,10 @@ module _ (p : Presentation) (n : ℕ) where
     abbrev inputs : ℕ → Tree ℕ
     inputs i = lifts (w i)
 
-    named_fits : (y : Tree ℕ) → IsLabelled arity m y → Fits arity (named y)
-    named_fits y h = fits-graft arity y (λ i. leaf (w i)) h.fits (AllLeaves-each y (λ i. Fits {A = ℕ} arity (leaf (w i))) (λ i. tt))
-
     part_form : (y : Tree ℕ) → IsLabelled arity m y → F (graft y inputs) ≡ graft (F (named y)) f.parts
     part_form y h =
         ap F (sym (graft_assoc y (λ i. leaf (w i)) lifts))
-        ∙ form-graft arity lab Named lifts forth back_again (named y) (named_fits y h) (all_named y h)
+        ∙ form-graft arity lab Named lifts forth back_again (named y) (fits-renamed arity y w h.fits) (all_named y h)
         ∙ graft_ext (F (named y)) (λ j. F (lifts j)) f.parts
         (AllLeaves-imp (F (named y)) Named (λ j. F (lifts j) ≡ f.parts j) (λ j k. (part_back j k).form_is) (to_form (named y) Named (all_named y h)))
 
@@ -223,7 +220,7 @@ module _ (p : Presentation) (n : ℕ) where
         let z : sum_leaves (named y) (λ j. turns_of p (lifts j)) ≡ 0
         = sum_leaves-all_zero (named y) (λ j. turns_of p (lifts j)) (AllLeaves-imp (named y) Named (λ j. turns_of p (lifts j) ≡ 0) (λ j k. (part_back j k).no_turns) (all_named y h)) in
         let e : turns_of p (graft (named y) lifts) ≡ turns_of p (named y) + sum_leaves (named y) (λ j. turns_of p (lifts j))
-        = turns-graft arity lab Named lifts forth back_again turn (named y) (named_fits y h) (all_named y h) in
+        = turns-graft arity lab Named lifts forth back_again turn (named y) (fits-renamed arity y w h.fits) (all_named y h) in
         ap (turns_of p) (sym (graft_assoc y (λ i. leaf (w i)) lifts)) ∙ (omega (arith, z, e))
 
     lifted : Lifted (least (graft (F (named x0)) f.parts)) f.context

@@ -15,7 +15,7 @@ use Rattle.labelled_trees.specs.Labelled.{Fits, IsLabelled}
 use Rattle.labelled_trees.proofs.Leaves.{by_leaf, AllLeaves-each}
 use Rattle.labelled_trees.proofs.GraftLeaves.{graft_ext, sum_leaves-graft}
 use Rattle.labelled_trees.proofs.ContextLeaves.{sum_of_fill, once_inside}
-use Rattle.labelled_trees.proofs.Fitting.{fits_of_fill, fits-graft}
+use Rattle.labelled_trees.proofs.Fitting.{fits_of_fill, fits-graft, fits-renamed}
 use Rattle.shuffle_insertions.specs.ShuffleTrees.{least, IsShuffleTree}
 use Rattle.shuffle_insertions.specs.Slots.{Slot, fill_slot, PartsRise}
 use Rattle.labelled_trees.proofs.Numbered.{numbered_of_labelled, numbered_sums}
@@ -112,20 +112,17 @@ module _ (p : Presentation) (n : ℕ) where
         (λ i. occurs-form lab i (graft y s) ∙ sum_leaves-graft y s (λ k. one_if (ℕ_discrete k i)) ∙ numbered_sums (numbered_of_labelled h) (numbered_of_labelled h0) (λ a. occurs i (s a))
         ∙ sym (sum_leaves-graft x0 s (λ k. one_if (ℕ_discrete k i))) ∙ sym (occurs-form lab i (graft x0 s)))
 
-    named_fits : (y : Tree ℕ) → IsLabelled arity m y → Fits arity (named y)
-    named_fits y h = fits-graft arity y (λ i. leaf (rank i)) h.fits (AllLeaves-each y (λ i. Fits {A = ℕ} arity (leaf (rank i))) (λ i. tt))
-
     part_form : (y : Tree ℕ) → IsLabelled arity m y → shuffle_form p.generators (graft y s) ≡ graft (shuffle_form p.generators (named y)) (λ j. shuffle_form p.generators (lines j))
     part_form y h =
         ap (shuffle_form p.generators) (lined_graft lab arity m n given y h)
         ∙ form-graft arity lab (InRange m) lines (lined_order lab arity m n given) (lined_back lab arity m n given)
-        (named y) (named_fits y h) (relabel_among lab arity m n given y h)
+        (named y) (fits-renamed arity y rank h.fits) (relabel_among lab arity m n given y h)
 
     part_turns : (y : Tree ℕ) → IsLabelled arity m y → turns_of p (graft y s) ≡ turns_of p (named y) + inner
     part_turns y h =
         ap (turns_of p) (lined_graft lab arity m n given y h)
         ∙ turns-graft arity lab (InRange m) lines (lined_order lab arity m n given) (lined_back lab arity m n given) turn
-        (named y) (named_fits y h) (relabel_among lab arity m n given y h)
+        (named y) (fits-renamed arity y rank h.fits) (relabel_among lab arity m n given y h)
         ∙ ap (λ k. turns_of p (named y) + k) (inner_is y h)
 
     form_at : (y : Tree ℕ) → IsLabelled arity m y → IsLabelled arity n (fill c (graft y s)) → shuffle_form p.generators (fill c (graft y s)) ≡ fill_slot slot (shuffle_form p.generators (named y))

@@ -9,7 +9,7 @@ use Rattle.labelled_trees.specs.Leaves.{AllLeaves, AllRow}
 use Rattle.labelled_trees.specs.Meaning.{tree_of}
 use Rattle.labelled_trees.specs.declared.Tree as program
 use Rattle.labelled_trees.specs.declared.Tree.TheVariants.{Node}
-use Rattle.labelled_trees.proofs.ProgramTrees.{tree_of-node}
+use Rattle.labelled_trees.proofs.ProgramTrees.{tree_of-node, graft_row-trees}
 use Rattle.labelled_trees.proofs.Rows.{width-row}
 use Rattle.shuffle_insertions.specs.ShuffleTrees.{least, least_row, IsRising, IsRisingRow}
 use Rattle.shuffle_trees.specs.ValidTrees.{IsWide, AreWide}
@@ -20,12 +20,8 @@ use Rattle.shuffle_trees.specs.ValidTrees.{IsWide, AreWide}
 abbrev pub with_hole : Tree ℕ → List program.Tree → List (Tree ℕ)
 with_hole x ts = map (λ t. put (tree_of t) x) ts
 
-pub graft_row-row : (ts : List program.Tree) (s : ℕ → Tree ℕ) → graft_row (row (map tree_of ts)) s ≡ row (map (λ t. graft (tree_of t) s) ts)
-graft_row-row [] s = refl
-graft_row-row (t ∷ ts) s = ap (λ r. more (graft (tree_of t) s) r) (graft_row-row ts s)
-
 pub graft-node : (g : ℕ) (ts : List program.Tree) (s : ℕ → Tree ℕ) → graft (tree_of (Node g ts)) s ≡ node g (row (map (λ t. graft (tree_of t) s) ts))
-graft-node g ts s = ap (λ u. graft u s) (tree_of-node g ts) ∙ ap (node g) (graft_row-row ts s)
+graft-node g ts s = ap (λ u. graft u s) (tree_of-node g ts) ∙ ap (node g) (graft_row-trees ts s)
 
 pub put-node : (g : ℕ) (ts : List program.Tree) (x : Tree ℕ) → put (tree_of (Node g ts)) x ≡ node g (row (with_hole x ts))
 put-node g ts x = graft-node g ts (at_zero x)

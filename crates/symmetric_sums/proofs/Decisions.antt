@@ -3,7 +3,7 @@ use Rattle.std.proofs.Common.{◌≡◌, ℕ, suc, ◌+◌, ◌-◌, ◌*◌, �
 use mathlib.Core.List.{◌++◌}
 use Rattle.modular_sums.specs.Sums.{coef, scale, Same, AllTerms}
 use Rattle.modular_sums.proofs.Residues.{congruent_add, congruent_mul}
-use Rattle.modular_sums.proofs.Sums.{coef-append, coef-scale}
+use Rattle.modular_sums.proofs.Sums.{coef-append, coef-scale, coef-less}
 use Rattle.labelled_trees.specs.Trees.{Tree}
 use Rattle.labelled_trees.specs.Equality.{tree_discrete}
 use Rattle.labelled_trees.specs.Labelled.{IsLabelled}
@@ -19,16 +19,13 @@ module _ (p : Presentation) (n : ℕ) where
   pub form-same : (e f : List (ℕ × Tree ℕ)) → IsCollected (p.q + 1) (parts p) e f → Same tree_discrete p.q f (spelled_sum p.q (parts p) e)
   form-same e f c = let z : p.q + 1 - 1 ≡ p.q = omega arith in subst (λ m. Same tree_discrete m f (spelled_sum m (parts p) e)) z c.same
 
-  less-coef : (e f : List (ℕ × Tree ℕ)) (t : Tree ℕ) → coef tree_discrete (e ++ scale p.q f) t ≡ coef tree_discrete e t + p.q * coef tree_discrete f t
-  less-coef e f t = coef-append tree_discrete e (scale p.q f) t ∙ ap (λ m. coef tree_discrete e t + m) (coef-scale tree_discrete p.q f t)
-
   -- a sum less its collected form
   less-form : (e f : List (ℕ × Tree ℕ)) → AllTerms e (IsLabelled (arity_of p) n) → IsCollected (p.q + 1) (parts p) e f → InIdeal (without_relations p) n (e ++ scale p.q f)
   less-form e f l c = ideal-same (without_relations p) n (e ++ scale p.q f) (e ++ scale p.q (spelled_sum p.q (parts p) e))
-      (λ t. ap (λ m. m % suc p.q) (less-coef e f t)
+      (λ t. ap (λ m. m % suc p.q) (coef-less tree_discrete p.q e f t)
       ∙ congruent_add p.q (coef tree_discrete e t) (coef tree_discrete e t) (p.q * coef tree_discrete f t) (p.q * coef tree_discrete (spelled_sum p.q (parts p) e) t) refl
       (congruent_mul p.q p.q p.q (coef tree_discrete f t) (coef tree_discrete (spelled_sum p.q (parts p) e) t) refl (form-same e f c t))
-      ∙ ap (λ m. m % suc p.q) (sym (less-coef e (spelled_sum p.q (parts p) e) t)))
+      ∙ ap (λ m. m % suc p.q) (sym (coef-less tree_discrete p.q e (spelled_sum p.q (parts p) e) t)))
       (less_collected p n e l)
 
   pub collected_decide : CollectedFormsDecide p n

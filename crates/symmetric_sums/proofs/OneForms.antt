@@ -5,7 +5,7 @@ use native.Mathlib.Decide.{ℕ_discrete}
 use Rattle.modular_sums.specs.Residues.{IsCongruent}
 use Rattle.modular_sums.specs.Sums.{coef, scale, moved, AllTerms}
 use Rattle.modular_sums.proofs.Residues.{congruent_add, congruent_mul, congruent_drop}
-use Rattle.modular_sums.proofs.Sums.{coef-append, coef-scale, expand-moved}
+use Rattle.modular_sums.proofs.Sums.{coef-append, coef-scale, expand-moved, coef-less}
 use Rattle.labelled_trees.specs.Trees.{Tree, graft}
 use Rattle.labelled_trees.specs.Contexts.{fill}
 use Rattle.labelled_trees.specs.Leaves.{leaf_count}
@@ -85,9 +85,6 @@ module _ (p : Presentation) where
     spelled_leaves n e h.1,
   )
 
-  less-coef : (e f : List (ℕ × Tree ℕ)) (t : Tree ℕ) → coef tree_discrete (e ++ scale p.q f) t ≡ coef tree_discrete e t + p.q * coef tree_discrete f t
-  less-coef e f t = coef-append tree_discrete e (scale p.q f) t ∙ ap (λ k. coef tree_discrete e t + k) (coef-scale tree_discrete p.q f t)
-
   -- where the arities differ, the one form is nothing
   other_arity : IsSound p → (m n : ℕ) (e f : List (ℕ × Tree ℕ)) → m ≢ n → AllTerms e (IsLabelled (arity_of p) m) → AllTerms f (IsLabelled (arity_of p) n) → HaveOneForm (p.q + 1) (parts p) e f → InIdeal p m e
   other_arity sound m n e f ne le lf h = ideal-same p m e (e ++ scale p.q (spelled_sum p.q (parts p) e))
@@ -96,7 +93,7 @@ module _ (p : Presentation) where
       ap (λ k. k % suc p.q) (sym z)
       ∙ congruent_add p.q (coef tree_discrete e t) (coef tree_discrete e t) (p.q * 0) (p.q * coef tree_discrete (spelled_sum p.q (parts p) e) t) refl
       (congruent_mul p.q p.q p.q 0 (coef tree_discrete (spelled_sum p.q (parts p) e) t) refl (sym (none t (ℕ_discrete (leaf_count t) m))))
-      ∙ ap (λ k. k % suc p.q) (sym (less-coef e (spelled_sum p.q (parts p) e) t)))
+      ∙ ap (λ k. k % suc p.q) (sym (coef-less tree_discrete p.q e (spelled_sum p.q (parts p) e) t)))
       (ideal_lifted sound m (e ++ scale p.q (spelled_sum p.q (parts p) e)) (less_collected p m e le))
     where
       none : (t : Tree ℕ) → Dec (leaf_count t ≡ m) → IsCongruent p.q (coef tree_discrete (spelled_sum p.q (parts p) e) t) 0
@@ -112,7 +109,7 @@ module _ (p : Presentation) where
       (λ t.
       let turned : coef tree_discrete e t + (coef tree_discrete f t + p.q * coef tree_discrete f t) ≡ coef tree_discrete e t + p.q * coef tree_discrete f t + coef tree_discrete f t = omega arith in
       sym (congruent_drop p.q (coef tree_discrete e t) (coef tree_discrete f t)) ∙ ap (λ k. k % suc p.q) turned
-      ∙ ap (λ k. k % suc p.q) (sym (coef-append tree_discrete (e ++ scale p.q f) f t ∙ ap (λ k. k + coef tree_discrete f t) (less-coef e f t))))
+      ∙ ap (λ k. k % suc p.q) (sym (coef-append tree_discrete (e ++ scale p.q f) f t ∙ ap (λ k. k + coef tree_discrete f t) (coef-less tree_discrete p.q e f t))))
       (ideal-append p n (e ++ scale p.q f) f less member)
 
   -- of two sums with one collected form, the one is in the ideal where the other is

@@ -8,15 +8,11 @@ use Rattle.labelled_trees.specs.Insertions.{item}
 use Rattle.labelled_trees.specs.Meaning.{tree_of}
 use Rattle.labelled_trees.specs.declared.Tree as program
 use Rattle.labelled_trees.specs.declared.Tree.TheVariants.{Leaf, Node}
-use Rattle.labelled_trees.proofs.ProgramTrees.{tree_of-leaf, tree_of-node}
-
-graft_row-row : (ts : List program.Tree) (s : ℕ → Tree ℕ) → graft_row (row (map tree_of ts)) s ≡ row (map (λ t. graft (tree_of t) s) ts)
-graft_row-row [] s = refl
-graft_row-row (t ∷ ts) s = ap (more (graft (tree_of t) s)) (graft_row-row ts s)
+use Rattle.labelled_trees.proofs.ProgramTrees.{tree_of-leaf, tree_of-node, graft_row-trees}
 
 -- a vertex over the grafted inputs is the grafted vertex
 pub graft-node : (g : ℕ) (ts us : List program.Tree) (s : ℕ → Tree ℕ) → map tree_of us ≡ map (λ t. graft (tree_of t) s) ts → tree_of (Node g us) ≡ graft (tree_of (Node g ts)) s
-graft-node g ts us s e = tree_of-node g us ∙ ap (λ vs. node g (row vs)) e ∙ ap (node g) (sym (graft_row-row ts s)) ∙ ap (λ t. graft t s) (sym (tree_of-node g ts))
+graft-node g ts us s e = tree_of-node g us ∙ ap (λ vs. node g (row vs)) e ∙ ap (node g) (sym (graft_row-trees ts s)) ∙ ap (λ t. graft t s) (sym (tree_of-node g ts))
 
 all_row-each : (ts : List program.Tree) (P : ℕ → Type 0) → AllRow (row (map tree_of ts)) P → AllByRecursion (λ t. AllLeaves (tree_of t) P) ts
 all_row-each [] P h = tt
