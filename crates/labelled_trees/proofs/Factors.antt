@@ -10,6 +10,7 @@ use Rattle.labelled_trees.proofs.Grafts.{graft_assoc}
 use Rattle.labelled_trees.proofs.GraftLeaves.{graft_row_ext, graft_ext, agree}
 use Rattle.labelled_trees.proofs.Leaves.{by_row, by_leaf, at_leaf}
 use Rattle.modular_sums.specs.Lists.{choose}
+use Rattle.modular_sums.proofs.Choices.{choose-yes, choose-no}
 
 -- the choice at a row: the first tree's where the number occurs there
 unfoldable pub both_ways : {B : Type 0} (t : Tree ℕ) (f g : ℕ → B) → ℕ → B

@@ -65,8 +65,8 @@ Ranks X = (less : X → X → Bool)
     → (x y : X) → Mem x l → Mem y l
     → (less x y ≡ true → count_less less l x < count_less less l y) × (count_less less l x ≡ count_less less l y → x ≡ y)
 
--- Monic instances of which any two with one host differ by a sum of instances with lower hosts, where hosts of one rank are one:
--- each sum of instances is zero, or its greatest monomial is the host of an instance.
+-- Monic instances of which any two with one leading monomial differ by a sum of instances with lower ones, where leading monomials of
+-- one rank are one: each sum of instances is zero, or its greatest monomial is the leading one of an instance.
 abbrev pub AbstractDiamondLemma : Type 0 → Type 0 → Type 0
 AbstractDiamondLemma M I = (dec : Discrete M) (rank : M → ℕ) (q : ℕ) (value : I → List (ℕ × M)) (lead : I → M) → HaveLeadingTerms dec rank q value lead
     → ((i j : I) → lead i ≡ lead j → Meet dec rank q value lead i j) → ((i j : I) → rank (lead i) ≡ rank (lead j) → lead i ≡ lead j)

@@ -13,6 +13,7 @@ use Rattle.shuffle_trees.proofs.Counts.{fewer_vertices, count_of_shuffle}
 use Rattle.path_orders.proofs.WordLists.{length-leaves}
 use Rattle.shuffle_insertions.specs.KeyBlocks.{AreShort}
 use Rattle.path_orders.specs.Laws.{KeysAreAlike}
+use Rattle.modular_sums.specs.Lists.{choose}
 
 -- each word has at most n letters
 abbrev AreWithin : ℕ → List (List ℕ) → Type 0

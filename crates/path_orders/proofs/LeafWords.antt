@@ -21,6 +21,7 @@ use Rattle.shuffle_insertions.specs.Keys.{words_at}
 use Rattle.shuffle_insertions.proofs.Keys.{length-words_at}
 use Rattle.shuffle_trees.proofs.Walking.{words_in, words-node, left_from, none_left, walked_past}
 use Rattle.path_orders.specs.WordSteps.{WordsCompared, SameWord}
+use Rattle.modular_sums.specs.Lists.{choose}
 
 -- ---- where a number stands
 

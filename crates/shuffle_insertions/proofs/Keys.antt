@@ -18,6 +18,7 @@ use Rattle.shuffle_insertions.proofs.LabelSums.{same_counts, once_of}
 use Rattle.shuffle_insertions.proofs.Paths.{word_of, word-occurs, word-occurs_row}
 use Rattle.shuffle_insertions.proofs.Comparing.{then_less, then_first, then_second, list_same, itself, slice_cmp-append}
 use Rattle.modular_sums.proofs.Lists.{tail_same}
+use Rattle.modular_sums.specs.Lists.{choose}
 
 length_only : (n j : ℕ) (d : Dec (n ≡ j)) → length (choose {B = List (List ℕ)} d ([] ∷ []) []) ≡ one_if d
 length_only n j (yes _) = refl
