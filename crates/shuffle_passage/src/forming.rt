@@ -13,12 +13,11 @@ ghost use Rattle.shuffle_passage.specs.Passage.{IsFormOf, OneShuffleForm};
 ghost use Rattle.shuffle_passage.specs.Branches.{forms_of};
 
 use crate::branch::Branch;
-use crate::parts::sort_parts;
 use crate::words::{Words, word_number, words_of};
 use shuffle_trees::{STree, Shape};
 use sqlite_items::Items;
 use std::alloc::{AllocError, Global};
-use symmetric_trees::{GenTable, Sign, Tree};
+use symmetric_trees::{GenTable, Sign, Tree, sort_parts};
 
 // The least leaf of the first branch; 0 where there is none.
 fn first_least(branches: &[Branch]) -> u8

@@ -5,7 +5,6 @@ mod branch;
 mod forming;
 mod framing;
 mod labelling;
-mod parts;
 mod permuting;
 mod relabelling;
 mod spelling_back;

@@ -6,6 +6,7 @@ mod branch;
 mod generators;
 mod grafting;
 mod order;
+mod parts;
 mod spelling;
 
 pub use arity::{arity_of, numbered};
@@ -13,4 +14,5 @@ pub use generators::{GenFail, GenTable, Generator, Name, Part, PartKind};
 pub use grafting::{fill, graft};
 pub use labelled_trees::Tree;
 pub use order::{spelling_order, spelling_order_is_total};
+pub use parts::{Keyed, sort_parts};
 pub use spelling::{Sign, spelled};

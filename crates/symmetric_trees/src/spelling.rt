@@ -1,15 +1,15 @@
-ghost use Rattle.std.specs.Prelude.{◌≡◌, ◌≢◌, ◌<◌, ◌≤◌, ℕ, IfOk, length, map};
-ghost use Rattle.std.specs.List.{AllPairs, sum_by};
+ghost use Rattle.std.specs.Prelude.{◌≡◌, ◌<◌, ◌≤◌, ℕ, IfOk, length};
 ghost use Rattle.labelled_trees.specs.Meaning.{tree_of};
 ghost use Rattle.labelled_trees.specs.Leaves.{occurs};
 ghost use Rattle.operad_ideals.specs.Parts as math;
 ghost use Rattle.operad_ideals.specs.Sorting as plain;
-ghost use Rattle.symmetric_trees.specs.Generators.{kind_of, part_of, parts_at};
+ghost use Rattle.symmetric_trees.specs.Generators.{parts_at};
 ghost use Rattle.symmetric_trees.specs.Trees as trees;
 ghost use Rattle.symmetric_trees.specs.Spelling as spec;
 
+use crate::GenTable;
 use crate::branch::Branch;
-use crate::{GenTable, Part, PartKind};
+use crate::parts::sort_parts;
 use labelled_trees::Tree;
 use sqlite_items::Items;
 use std::alloc::{AllocError, Global};
@@ -38,7 +38,7 @@ impl Sign {
     }
 
     // The sign of so many changes of sign.
-    fn of_count(count: usize) -> Sign
+    pub(crate) fn of_count(count: usize) -> Sign
         ensures { spec.meaning_of result ≡ math.sign_of count }
     {
         if count % 2 == 1 {
@@ -47,60 +47,6 @@ impl Sign {
             Sign::Plus
         }
     }
-}
-
-// The sign of the permutation that sorts the branches.
-fn order_sign(branches: &[Branch]) -> Sign
-    ensures { spec.meaning_of result ≡ plain.order_sign (spec.least_leaves branches.now) }
-{
-    let mut sign = Sign::Plus;
-    let mut rest = branches;
-    while let [first, others @ ..] = rest {
-        let smaller = others
-            .iter()
-            .filter(|other| other.least < first.least)
-            .count();
-        sign = sign.times(Sign::of_count(smaller));
-        rest = others;
-    }
-    sign
-}
-
-// Sorts the branches of one part by their least leaves, unless the part is free, and answers the sign.
-fn sort_part(kind: PartKind, branches: &mut [Branch]) -> Sign
-    requires { AllPairs (λ one other. one.least ≢ other.least) branches.old }
-    ensures order { branches.new ≡ plain.sort_part (λ branch. branch.least) (kind_of kind) branches.old }
-    ensures sign { spec.meaning_of result ≡ plain.part_sign (kind_of kind) (spec.least_leaves branches.old) }
-{
-    match kind {
-        PartKind::Sym => {
-            branches.sort_unstable_by_key(|branch| branch.least);
-            Sign::Plus
-        }
-        PartKind::Alt => {
-            let sign = order_sign(branches);
-            branches.sort_unstable_by_key(|branch| branch.least);
-            sign
-        }
-        PartKind::Free => Sign::Plus,
-    }
-}
-
-// Sorts each symmetric and each skew part, and answers the product of the signs.
-fn sort_parts(parts: &[Part], branches: &mut [Branch]) -> Sign
-    requires sizes { sum_by (λ part. part.size) parts.now ≡ length branches.old }
-    requires apart { AllPairs (λ one other. one.least ≢ other.least) branches.old }
-    ensures order { branches.new ≡ plain.sort_parts (λ branch. branch.least) (map part_of parts.now) branches.old }
-    ensures sign { spec.meaning_of result ≡ plain.parts_sign (map part_of parts.now) (spec.least_leaves branches.old) }
-{
-    let mut sign = Sign::Plus;
-    let mut from = 0;
-    for part in parts {
-        let to = from + part.size as usize;
-        sign = sign.times(sort_part(part.kind, &mut branches[from..to]));
-        from = to;
-    }
-    sign
 }
 
 // The vertex over the branches.

@@ -1,6 +1,6 @@
 use Rattle.std.proofs.Common.{◌≡◌, ◌∙◌, ◌++◌, ◌+◌, ◌≤◌, ℕ, List, length, map, take, drop, sym, ap, ap₂, arith, subst, rules}
 use Rattle.std.proofs.Math.Seq.{take-append_seam}
-use Rattle.std.proofs.lemmas.List.{take_all, length-map}
+use Rattle.std.proofs.lemmas.List.{take_all, length-map, map-id}
 use Rattle.std.specs.List.{sum_by}
 use Rattle.labelled_trees.specs.Leaves.{occurs}
 use Rattle.labelled_trees.specs.Trees.{row}
@@ -52,6 +52,23 @@ all_trees : (form : program.Tree → Rattle.labelled_trees.specs.Trees.Tree ℕ)
     → forms_of bs ≡ map form (take i items) → forms_of bs ≡ map form ts
 all_trees form items ts i bs l e is = is ∙ ap (map form) (take_all i items l ∙ e)
 
+-- What is known of the vertex behind its inputs: it fits, its leaves stand once, and the branches are the forms of the inputs.
+record AtVertex (gens : List Generator) (g : ℕ) (ts : List program.Tree) (bs : List Branch) : Type 0 where
+  fits : Fits gens (tree_of (Node g ts))
+  parts_fit : (2 ≤ arity (parts_at gens) g) × (length ts ≡ arity (parts_at gens) g)
+  once : (k : ℕ) → occurs k (tree_of (Node g ts)) ≤ 1
+  trees : forms_of bs ≡ map (λ u. shuffle_form (generators_of gens) (tree_of u)) ts
+  count : length bs ≡ arity (parts_at gens) g
+
+at_vertex : {t : program.Tree} (gens : List Generator) (g : ℕ) (ts items : List program.Tree) (i : ℕ) (bs : List Branch) → t ≡ Node g ts → Fits gens (tree_of t)
+    → ((k : ℕ) → occurs k (tree_of t) ≤ 1) → length items ≤ i → items ≡ ts → forms_of bs ≡ map (λ u. shuffle_form (generators_of gens) (tree_of u)) (take i items) → AtVertex gens g ts bs
+at_vertex gens g ts items i bs is h o l e forms =
+    let fits = subst (λ u. Fits gens (tree_of u)) is h in
+    let once = subst (λ u. (k : ℕ) → occurs k (tree_of u) ≤ 1) is o in
+    let trees = all_trees (λ u. shuffle_form (generators_of gens) (tree_of u)) items ts i bs l e forms in
+    let parts_fit = fits-inputs (arity (parts_at gens)) g ts fits in
+    record { fits = fits; parts_fit = (parts_fit.0, parts_fit.1); once = once; trees = trees; count = count_branches gens g ts bs fits once trees ∙ parts_fit.1 }
+
 -- what the list holds after the slice was sorted
 written : (new items : List ℕ) (n : ℕ) → length new ≡ length items → n ≡ length items → take n (new ++ drop (length new) items) ≡ new
 written new items n e f = ap (λ m. take m (new ++ drop (length new) items)) (f ∙ sym e) ∙ take-append_seam new (drop (length new) items)
@@ -68,13 +85,9 @@ sort_parts-requires-clause-sizes t c =
     let g = c.in-Node.generator in
     let ts = c.in-Node.inputs in
     let bs = c.loop-input.branches.items in
-    let fits = subst (λ u. Fits gens (tree_of u)) c.in-Node.is c.requires.fits in
-    let parts_fit = fits-inputs (arity (parts_at gens)) g ts fits in
-    let once = subst (λ u. (k : ℕ) → occurs k (tree_of u) ≤ 1) c.in-Node.is c.requires.once in
-    let trees = all_trees (λ u. shuffle_form (generators_of gens) (tree_of u)) c.as_slice-input-items.result.now ts c.loop-input.input-index bs c.loop-input-test.false c.as_slice-input-items.ensures c.loop-input.invariant.trees in
-    let count : length bs ≡ arity (parts_at gens) g = count_branches gens g ts bs fits once trees ∙ parts_fit.1 in
+    let at = at_vertex gens g ts c.as_slice-input-items.result.now c.loop-input.input-index bs c.in-Node.is c.requires.fits c.requires.once c.loop-input-test.false c.as_slice-input-items.ensures c.loop-input.invariant.trees in
     let keys : length c.loop-input.word.items ≡ length bs = ap length c.loop-input.invariant.keys ∙ length-map bs (λ (b : Branch). b.least) in
-    ap (sum_by (λ (part : Part). part.size)) c.as_slice-parts.ensures ∙ sym (sizes-held gens g c.get.result.now c.get.ensures.found) ∙ sym count ∙ sym keys ∙ ap length (sym c.as_mut_slice.ensures.value)
+    ap (sum_by (λ (part : Part). part.size)) c.as_slice-parts.ensures ∙ sym (sizes-held gens g c.get.result.now c.get.ensures.found) ∙ sym at.count ∙ sym keys ∙ ap length (sym c.as_mut_slice.ensures.value)
 
 pub sort_parts-requires-clause-apart : goal.sort_parts-requires-clause-apart
 sort_parts-requires-clause-apart t c =
@@ -82,13 +95,9 @@ sort_parts-requires-clause-apart t c =
     let g = c.in-Node.generator in
     let ts = c.in-Node.inputs in
     let bs = c.loop-input.branches.items in
-    let fits = subst (λ u. Fits gens (tree_of u)) c.in-Node.is c.requires.fits in
-    let parts_fit = fits-inputs (arity (parts_at gens)) g ts fits in
-    let once = subst (λ u. (k : ℕ) → occurs k (tree_of u) ≤ 1) c.in-Node.is c.requires.once in
-    let trees = all_trees (λ u. shuffle_form (generators_of gens) (tree_of u)) c.as_slice-input-items.result.now ts c.loop-input.input-index bs c.loop-input-test.false c.as_slice-input-items.ensures c.loop-input.invariant.trees in
-    let count : length bs ≡ arity (parts_at gens) g = count_branches gens g ts bs fits once trees ∙ parts_fit.1 in
+    let at = at_vertex gens g ts c.as_slice-input-items.result.now c.loop-input.input-index bs c.in-Node.is c.requires.fits c.requires.once c.loop-input-test.false c.as_slice-input-items.ensures c.loop-input.invariant.trees in
     let keys : length c.loop-input.word.items ≡ length bs = ap length c.loop-input.invariant.keys ∙ length-map bs (λ (b : Branch). b.least) in
-    apart-at (λ n. n) c.as_mut_slice.result.now (subst (Apart (λ n. n)) (sym (c.as_mut_slice.ensures.value ∙ c.loop-input.invariant.keys)) (leaves_apart gens g ts bs fits once trees))
+    apart-at (λ n. n) c.as_mut_slice.result.now (subst (Apart (λ n. n)) (sym (c.as_mut_slice.ensures.value ∙ c.loop-input.invariant.keys)) (leaves_apart gens g ts bs at.fits at.once at.trees))
 
 pub bounds-words-generator : goal.bounds-words-generator
 bounds-words-generator t c =
@@ -120,20 +129,16 @@ word_number-requires-clause-same t c =
     let g = c.in-Node.generator in
     let ts = c.in-Node.inputs in
     let bs = c.loop-input.branches.items in
-    let fits = subst (λ u. Fits gens (tree_of u)) c.in-Node.is c.requires.fits in
-    let parts_fit = fits-inputs (arity (parts_at gens)) g ts fits in
-    let once = subst (λ u. (k : ℕ) → occurs k (tree_of u) ≤ 1) c.in-Node.is c.requires.once in
-    let trees = all_trees (λ u. shuffle_form (generators_of gens) (tree_of u)) c.as_slice-input-items.result.now ts c.loop-input.input-index bs c.loop-input-test.false c.as_slice-input-items.ensures c.loop-input.invariant.trees in
-    let count : length bs ≡ arity (parts_at gens) g = count_branches gens g ts bs fits once trees ∙ parts_fit.1 in
+    let at = at_vertex gens g ts c.as_slice-input-items.result.now c.loop-input.input-index bs c.in-Node.is c.requires.fits c.requires.once c.loop-input-test.false c.as_slice-input-items.ensures c.loop-input.invariant.trees in
     let keys : length c.loop-input.word.items ≡ length bs = ap length c.loop-input.invariant.keys ∙ length-map bs (λ (b : Branch). b.least) in
-    let held = held_if_wide gens g parts_fit.0 in
+    let held = held_if_wide gens g at.parts_fit.0 in
     let own = read_words gens c.args.words.now g c.index-words-generator.result c.requires.words held c.index-words-generator.is in
     let bounds : c.as_slice.result.now ≡ spec.bounds_of (parts_at gens g) = c.as_slice.ensures ∙ ap (λ w. w.bounds) own in
     let parts : parts_at gens g ≡ map part_of c.as_slice-parts.result.now = parts_at-held gens g c.get.result.now c.get.ensures.found ∙ ap (map part_of) (sym c.as_slice-parts.ensures) in
     let sorted : c.as_slice-in-Node.result.now ≡ plain.sort_parts (λ n. n) (parts_at gens g) (least_leaves bs) =
-    c.as_slice-in-Node.ensures.value ∙ sorted_is c.loop-input.word.items c.as_mut_slice.result.now c.sort_parts.new.numbers (map part_of c.as_slice-parts.result.now) c.loop-input.word.len c.as_mut_slice.ensures.value c.loop-input.word.ok.0 c.sort_parts.ensures.order
+    c.as_slice-in-Node.ensures.value ∙ sorted_is c.loop-input.word.items c.as_mut_slice.result.now c.sort_parts.new.items (map part_of c.as_slice-parts.result.now) c.loop-input.word.len c.as_mut_slice.ensures.value c.loop-input.word.ok.0 c.sort_parts.ensures.order
     ∙ ap₂ (λ ps ks. plain.sort_parts (λ n. n) ps ks) (sym parts) c.loop-input.invariant.keys in
-    ap length sorted ∙ length-sort_parts (λ n. n) (parts_at gens g) (least_leaves bs) ∙ length-map bs (λ (b : Branch). b.least) ∙ count ∙ sym (length-bounds (parts_at gens g)) ∙ ap length (sym bounds)
+    ap length sorted ∙ length-sort_parts (λ n. n) (parts_at gens g) (least_leaves bs) ∙ length-map bs (λ (b : Branch). b.least) ∙ at.count ∙ sym (length-bounds (parts_at gens g)) ∙ ap length (sym bounds)
 
 pub overflow_add-label : goal.overflow_add-label
 overflow_add-label t c =
@@ -141,22 +146,18 @@ overflow_add-label t c =
     let g = c.in-Node.generator in
     let ts = c.in-Node.inputs in
     let bs = c.loop-input.branches.items in
-    let fits = subst (λ u. Fits gens (tree_of u)) c.in-Node.is c.requires.fits in
-    let parts_fit = fits-inputs (arity (parts_at gens)) g ts fits in
-    let once = subst (λ u. (k : ℕ) → occurs k (tree_of u) ≤ 1) c.in-Node.is c.requires.once in
-    let trees = all_trees (λ u. shuffle_form (generators_of gens) (tree_of u)) c.as_slice-input-items.result.now ts c.loop-input.input-index bs c.loop-input-test.false c.as_slice-input-items.ensures c.loop-input.invariant.trees in
-    let count : length bs ≡ arity (parts_at gens) g = count_branches gens g ts bs fits once trees ∙ parts_fit.1 in
+    let at = at_vertex gens g ts c.as_slice-input-items.result.now c.loop-input.input-index bs c.in-Node.is c.requires.fits c.requires.once c.loop-input-test.false c.as_slice-input-items.ensures c.loop-input.invariant.trees in
     let keys : length c.loop-input.word.items ≡ length bs = ap length c.loop-input.invariant.keys ∙ length-map bs (λ (b : Branch). b.least) in
-    let held = held_if_wide gens g parts_fit.0 in
+    let held = held_if_wide gens g at.parts_fit.0 in
     let own = read_words gens c.args.words.now g c.index-words-generator.result c.requires.words held c.index-words-generator.is in
     let bounds : c.as_slice.result.now ≡ spec.bounds_of (parts_at gens g) = c.as_slice.ensures ∙ ap (λ w. w.bounds) own in
     let parts : parts_at gens g ≡ map part_of c.as_slice-parts.result.now = parts_at-held gens g c.get.result.now c.get.ensures.found ∙ ap (map part_of) (sym c.as_slice-parts.ensures) in
     let sorted : c.as_slice-in-Node.result.now ≡ plain.sort_parts (λ n. n) (parts_at gens g) (least_leaves bs) =
-    c.as_slice-in-Node.ensures.value ∙ sorted_is c.loop-input.word.items c.as_mut_slice.result.now c.sort_parts.new.numbers (map part_of c.as_slice-parts.result.now) c.loop-input.word.len c.as_mut_slice.ensures.value c.loop-input.word.ok.0 c.sort_parts.ensures.order
+    c.as_slice-in-Node.ensures.value ∙ sorted_is c.loop-input.word.items c.as_mut_slice.result.now c.sort_parts.new.items (map part_of c.as_slice-parts.result.now) c.loop-input.word.len c.as_mut_slice.ensures.value c.loop-input.word.ok.0 c.sort_parts.ensures.order
     ∙ ap₂ (λ ps ks. plain.sort_parts (λ n. n) ps ks) (sym parts) c.loop-input.invariant.keys in
     let few = bounds_few gens g c.get.ensures.table held in
     let size : length c.as_slice-in-Node.result.now ≡ length c.as_slice.result.now =
-    ap length sorted ∙ length-sort_parts (λ n. n) (parts_at gens g) (least_leaves bs) ∙ length-map bs (λ (b : Branch). b.least) ∙ count ∙ sym (length-bounds (parts_at gens g)) ∙ ap length (sym bounds) in
+    ap length sorted ∙ length-sort_parts (λ n. n) (parts_at gens g) (least_leaves bs) ∙ length-map bs (λ (b : Branch). b.least) ∙ at.count ∙ sym (length-bounds (parts_at gens g)) ∙ ap length (sym bounds) in
     let before = few_before c.as_slice.result.now 0 c.as_slice-in-Node.result.now size (omega (arith, ap length bounds, few)) in
     let first : c.index-words-generator.result.first ≡ spec.first_label (generators_of gens) g = ap (λ w. w.first) own in
     let most = first_label-most gens g c.get.ensures.table (omega (arith, held)) in
@@ -168,17 +169,13 @@ returns-in_ok-vertex-in-Node-clause-sign t c =
     let g = c.in-Node.generator in
     let ts = c.in-Node.inputs in
     let bs = c.loop-input.branches.items in
-    let fits = subst (λ u. Fits gens (tree_of u)) c.in-Node.is c.requires.fits in
-    let parts_fit = fits-inputs (arity (parts_at gens)) g ts fits in
-    let once = subst (λ u. (k : ℕ) → occurs k (tree_of u) ≤ 1) c.in-Node.is c.requires.once in
-    let trees = all_trees (λ u. shuffle_form (generators_of gens) (tree_of u)) c.as_slice-input-items.result.now ts c.loop-input.input-index bs c.loop-input-test.false c.as_slice-input-items.ensures c.loop-input.invariant.trees in
-    let count : length bs ≡ arity (parts_at gens) g = count_branches gens g ts bs fits once trees ∙ parts_fit.1 in
+    let at = at_vertex gens g ts c.as_slice-input-items.result.now c.loop-input.input-index bs c.in-Node.is c.requires.fits c.requires.once c.loop-input-test.false c.as_slice-input-items.ensures c.loop-input.invariant.trees in
     let keys : length c.loop-input.word.items ≡ length bs = ap length c.loop-input.invariant.keys ∙ length-map bs (λ (b : Branch). b.least) in
     let parts : parts_at gens g ≡ map part_of c.as_slice-parts.result.now = parts_at-held gens g c.get.result.now c.get.ensures.found ∙ ap (map part_of) (sym c.as_slice-parts.ensures) in
     let before = no_inputs_left (parts_at gens) c.as_slice-input-items.result.now c.loop-input.input-index (meaning_of c.loop-input.sign) _ c.loop-input-test.false c.loop-input.invariant.sign
     ∙ ap (λ us. plain.spelled_sign_row (parts_at gens) (row (map tree_of us))) c.as_slice-input-items.ensures in
-    form_sign gens g ts bs fits once trees (meaning_of c.loop-input.sign) (meaning_of c.sort_parts.result) (meaning_of c.times-sign-in-Node.result) before
-    (c.sort_parts.ensures.sign ∙ ap₂ plain.parts_sign (sym parts) (c.as_mut_slice.ensures.value ∙ c.loop-input.invariant.keys))
+    form_sign gens g ts bs at.fits at.once at.trees (meaning_of c.loop-input.sign) (meaning_of c.sort_parts.result) (meaning_of c.times-sign-in-Node.result) before
+    (c.sort_parts.ensures.sign ∙ ap₂ plain.parts_sign (sym parts) (map-id c.as_mut_slice.result.now ∙ c.as_mut_slice.ensures.value ∙ c.loop-input.invariant.keys))
     c.times-sign-in-Node.ensures.product
     ∙ ap (λ u. plain.spelled_sign (parts_at gens) (tree_of u)) (sym c.in-Node.is)
 
@@ -188,23 +185,19 @@ returns-in_ok-vertex-in-Node-clause-tree t c =
     let g = c.in-Node.generator in
     let ts = c.in-Node.inputs in
     let bs = c.loop-input.branches.items in
-    let fits = subst (λ u. Fits gens (tree_of u)) c.in-Node.is c.requires.fits in
-    let parts_fit = fits-inputs (arity (parts_at gens)) g ts fits in
-    let once = subst (λ u. (k : ℕ) → occurs k (tree_of u) ≤ 1) c.in-Node.is c.requires.once in
-    let trees = all_trees (λ u. shuffle_form (generators_of gens) (tree_of u)) c.as_slice-input-items.result.now ts c.loop-input.input-index bs c.loop-input-test.false c.as_slice-input-items.ensures c.loop-input.invariant.trees in
-    let count : length bs ≡ arity (parts_at gens) g = count_branches gens g ts bs fits once trees ∙ parts_fit.1 in
+    let at = at_vertex gens g ts c.as_slice-input-items.result.now c.loop-input.input-index bs c.in-Node.is c.requires.fits c.requires.once c.loop-input-test.false c.as_slice-input-items.ensures c.loop-input.invariant.trees in
     let keys : length c.loop-input.word.items ≡ length bs = ap length c.loop-input.invariant.keys ∙ length-map bs (λ (b : Branch). b.least) in
-    let held = held_if_wide gens g parts_fit.0 in
+    let held = held_if_wide gens g at.parts_fit.0 in
     let own = read_words gens c.args.words.now g c.index-words-generator.result c.requires.words held c.index-words-generator.is in
     let bounds : c.as_slice.result.now ≡ spec.bounds_of (parts_at gens g) = c.as_slice.ensures ∙ ap (λ w. w.bounds) own in
     let parts : parts_at gens g ≡ map part_of c.as_slice-parts.result.now = parts_at-held gens g c.get.result.now c.get.ensures.found ∙ ap (map part_of) (sym c.as_slice-parts.ensures) in
     let sorted : c.as_slice-in-Node.result.now ≡ plain.sort_parts (λ n. n) (parts_at gens g) (least_leaves bs) =
-    c.as_slice-in-Node.ensures.value ∙ sorted_is c.loop-input.word.items c.as_mut_slice.result.now c.sort_parts.new.numbers (map part_of c.as_slice-parts.result.now) c.loop-input.word.len c.as_mut_slice.ensures.value c.loop-input.word.ok.0 c.sort_parts.ensures.order
+    c.as_slice-in-Node.ensures.value ∙ sorted_is c.loop-input.word.items c.as_mut_slice.result.now c.sort_parts.new.items (map part_of c.as_slice-parts.result.now) c.loop-input.word.len c.as_mut_slice.ensures.value c.loop-input.word.ok.0 c.sort_parts.ensures.order
     ∙ ap₂ (λ ps ks. plain.sort_parts (λ n. n) ps ks) (sym parts) c.loop-input.invariant.keys in
     let first : c.index-words-generator.result.first ≡ spec.first_label (generators_of gens) g = ap (λ w. w.first) own in
     let label = ap₂ (λ m n. m + n) first (c.word_number.ensures ∙ ap₂ (λ ps ks. spec.word_number ps 0 (spec.digits ks)) bounds sorted) in
     let all = sorted-permutation_apart (λ (b : Branch). b.least) bs c.sort_unstable_by_key.new.self.items c.sort_unstable_by_key.ensures.permutation
-    (c.sort_unstable_by_key.ensures.sorted (λ b. b.least) (answers_always _ _ _ (λ f a r g h. search rules))) (branches_apart gens g ts bs fits once trees) in
+    (c.sort_unstable_by_key.ensures.sorted (λ b. b.least) (answers_always _ _ _ (λ f a r g h. search rules))) (branches_apart gens g ts bs at.fits at.once at.trees) in
     c.in_ok-vertex-in-Node.ensures
-    ∙ form_vertex gens g ts bs fits once trees _ c.sort_unstable_by_key.new.self.items held parts_fit.1 label all
+    ∙ form_vertex gens g ts bs at.fits at.once at.trees _ c.sort_unstable_by_key.new.self.items held at.parts_fit.1 label all
     ∙ ap (λ u. shuffle_form (generators_of gens) (tree_of u)) (sym c.in-Node.is)

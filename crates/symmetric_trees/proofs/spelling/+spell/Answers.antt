@@ -99,7 +99,7 @@ vertex-requires t c =
     let bs = c.loop-input.branches.items in
     let fits = fits-inputs (arity (parts_at gens)) g ts (subst (λ u. Fits gens (tree_of u)) c.in-Node.is c.requires.fits) in
     let trees = all_trees (parts_at gens) c.as_slice-input-items.result.now ts c.loop-input.input-index bs c.loop-input-test.false c.as_slice-input-items.ensures c.loop-input.invariant.trees in
-    let sorted = sorted_is bs c.as_mut_slice.result.now c.sort_parts-moved.new.branches (map part_of c.as_slice.result.now) c.loop-input.branches.len c.as_mut_slice.ensures.value c.loop-input.branches.ok.0 c.sort_parts-moved.ensures.order in
+    let sorted = sorted_is bs c.as_mut_slice.result.now c.sort_parts-moved.new.items (map part_of c.as_slice.result.now) c.loop-input.branches.len c.as_mut_slice.ensures.value c.loop-input.branches.ok.0 c.sort_parts-moved.ensures.order in
     omega (arith, ap length sorted, length-sort_parts (λ (b : Branch). b.least) (map part_of c.as_slice.result.now) bs, as_many (parts_at gens) ts bs trees, fits.1, fits.0)
 
 pub returns-in_ok-vertex-in-Node-clause-sign : goal.returns-in_ok-vertex-in-Node-clause-sign
@@ -126,6 +126,6 @@ returns-in_ok-vertex-in-Node-clause-tree t c =
     let bs = c.loop-input.branches.items in
     let trees = all_trees (parts_at gens) c.as_slice-input-items.result.now ts c.loop-input.input-index bs c.loop-input-test.false c.as_slice-input-items.ensures c.loop-input.invariant.trees in
     let parts : parts_at gens g ≡ map part_of c.as_slice.result.now = parts_at-held gens g c.get.result.now c.get.ensures.found ∙ ap (map part_of) (sym c.as_slice.ensures) in
-    let sorted = sorted_is bs c.as_mut_slice.result.now c.sort_parts-moved.new.branches (map part_of c.as_slice.result.now) c.loop-input.branches.len c.as_mut_slice.ensures.value c.loop-input.branches.ok.0
+    let sorted = sorted_is bs c.as_mut_slice.result.now c.sort_parts-moved.new.items (map part_of c.as_slice.result.now) c.loop-input.branches.len c.as_mut_slice.ensures.value c.loop-input.branches.ok.0
     c.sort_parts-moved.ensures.order in
     c.in_ok-vertex-in-Node.ensures ∙ vertex-spelled gens g ts bs _ (map part_of c.as_slice.result.now) parts trees sorted ∙ ap (λ u. plain.spelled (parts_at gens) (tree_of u)) (sym c.in-Node.is)
