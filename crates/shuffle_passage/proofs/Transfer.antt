@@ -53,6 +53,6 @@ transfer_of_answers q gens rels n e f answer sound h c answers = (
         let k = mem_of_map relation_of i.relation rels i.there in
         let own : AreRelabellings q gens i.relation (answer i.relation) = subst (λ (s : Relation). AreRelabellings q gens s (answer s)) (sym k.2) (answers k.0 k.1) in
         Same-moved tree_discrete tree_discrete (q - 1) (insert i.frame) (shuffled p (answer i.relation i.permutation)) (shuffled p (relabelled i.permutation i.relation.terms))
-        (collected_form p q i.relation.arity (relabelled i.permutation i.relation.terms) (answer i.relation i.permutation) refl
+        (collected_same p q i.relation.arity (relabelled i.permutation i.relation.terms) (answer i.relation i.permutation) refl
         (labelled-relabelled (arity_of p) i.relation.arity i.permutation i.permutes i.relation.terms (is_sound i.relation i.there))
         (own i.permutation i.permutes))

@@ -31,6 +31,7 @@ use Rattle.shuffle_passage.proofs.WordTables.{length-words, read_words, bounds_f
 use Rattle.shuffle_passage.proofs.Vertices.{input_fits, input_once}
 use Rattle.shuffle_passage.proofs.FormVertices.{leaves_apart, branches_apart, count_branches, form_vertex, form_sign}
 use Rattle.shuffle_passage.proofs.forming.+form.Goals as goal
+use Rattle.symmetric_trees.specs.declared.generators.Generator.{Generator}
 
 pub form-requires : goal.form-requires
 form-requires t c =
