@@ -37,7 +37,7 @@ use Rattle.action_characters.proofs.CycleForms.{each_has_type}
 use Rattle.action_characters.proofs.Traces.{forms_are_unique, traces_exist, trace_is_invariant, conjugates_have_one_trace, types_suffice, rows_give_trace, identity_counts}
 use Rattle.shuffle_transfer.proofs.RelabelledIdeals.{ideal_is_relabelled}
 use Rattle.action_characters.proofs.ShuffleRows.{shuffle_forms_pass_back, shuffle_rows_give_trace}
-use Rattle.action_characters.proofs.NormalTraces.{listing_has_normal_trees, normal_trees_give_trace}
+use Rattle.action_characters.proofs.NormalTraces.{listing, normal_trees_give_trace}
 
 -- the normal trees of arity 3: l(l(1,3),2) and l(1,l(2,3))
 abbrev pub trees : List (Tree ℕ)
@@ -50,7 +50,7 @@ basis = subst (IsBasis lie 3) two_normal record {
 }
 
 normal : HasNormalTrees lie (compare lie.generators by_path) 3 trees
-normal = subst (HasNormalTrees lie (compare lie.generators by_path) 3) two_normal (listing_has_normal_trees lie sound wide (omega arith) (compare lie.generators by_path) (order_of lie.generators by_path) (jacobi ∷ []) 4 certified 3 (omega arith))
+normal = subst (HasNormalTrees lie (compare lie.generators by_path) 3) two_normal (listing lie sound wide (omega arith) (compare lie.generators by_path) (order_of lie.generators by_path) (jacobi ∷ []) 4 certified 3 (omega arith))
 
 -- ---- the relation
 

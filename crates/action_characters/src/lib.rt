@@ -2,7 +2,7 @@
 #![tactic(auto)]
 
 ghost use Rattle.action_characters.specs.CycleTypes.{CycleTypesCounted, CycleTypesListed, EachHasType, TypesArePermutations};
-ghost use Rattle.action_characters.specs.Laws.{ConjugatesHaveOneTrace, FormsAreUnique, IdentityCounts, ListingHasNormalTrees, NormalTreesGiveTrace, RowsGiveTrace, ShuffleFormsPassBack, ShuffleRowsGiveTrace, TraceIsInvariant, TracesExist, TypesSuffice};
+ghost use Rattle.action_characters.specs.Laws.{ConjugatesHaveOneTrace, FormsAreUnique, IdentityCounts, NormalTreesGiveTrace, RowsGiveTrace, ShuffleFormsPassBack, ShuffleRowsGiveTrace, TraceIsInvariant, TracesExist, TypesSuffice};
 ghost use Rattle.action_characters.specs.ModularLaws.{BasesAgree, FormsOnIndependentLists, LinearTracesExist, TracesCommute};
 
 /// Law: modulo the ideal each element on labelled trees is exactly one combination of an independent and spanning list.
@@ -28,11 +28,9 @@ pub fn rows_give_trace()
     ensures law { RowsGiveTrace }
 {}
 
-/// Law: for elements certified through an arity, their listing has the normal trees, each once; any such list is a basis, and
-/// the trace on it is that on every basis.
+/// Law: for a Groebner basis through an arity, each list of the normal trees is a basis, and the trace on it is that on every basis.
 pub fn normal_trees_give_trace()
-    ensures listing { ListingHasNormalTrees }
-    ensures trace { NormalTreesGiveTrace }
+    ensures law { NormalTreesGiveTrace }
 {}
 
 /// Law: for such elements, rows that were computed with shuffle trees give the trace on every basis.

@@ -31,7 +31,7 @@ use Rattle.shuffle_transfer.specs.GroebnerBases.{setting}
 use Rattle.shuffle_transfer.specs.NormalTrees.{by_path, compare}
 use Rattle.shuffle_transfer.proofs.Orderings.{all_orderings}
 use Rattle.shuffle_transfer.proofs.Labels.{are_labels}
-use Rattle.shuffle_transfer.proofs.Jacobi.{lie, sound, certified}
+use Rattle.shuffle_transfer.proofs.Jacobi.{lie, sound, certified, wide, valid_t1}
 use Rattle.shuffle_completion.proofs.Lie.{lie_basis}
 use Rattle.counted_runs.specs.Items.{Problem, completion, Item, relabelling, two_places, tail_of}
 use Rattle.counted_runs.specs.Rows.{AreIdealElements}
@@ -44,7 +44,7 @@ use Rattle.counted_runs.proofs.Entries.{entries_come_about}
 use Rattle.counted_runs.proofs.RowTrees.{relabelled_trees}
 use Rattle.counted_runs.proofs.LastLeads.{last_leads_are_one}
 use Rattle.counted_runs.proofs.RunsSoFar.{serves_all, follows_same, runs_so_far}
-use Rattle.counted_runs.proofs.Lie.{bracket, wide, ordered, valid_t1, three_trees, none_above}
+use Rattle.counted_runs.proofs.Lie.{bracket, ordered, three_trees, none_above}
 use Rattle.counted_runs.proofs.LieRuns.{BracketEntry, insertion_t1, second_order, lie_elements, jacobi_relation, first_order, coefs}
 
 abbrev pub d : Problem

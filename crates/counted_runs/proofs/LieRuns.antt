@@ -23,14 +23,14 @@ use Rattle.shuffle_transfer.specs.Transfer.{relabelled, shuffled}
 use Rattle.shuffle_transfer.specs.GroebnerBases.{setting}
 use Rattle.shuffle_transfer.specs.NormalTrees.{by_path, compare}
 use Rattle.shuffle_transfer.proofs.Orderings.{all_orderings}
-use Rattle.shuffle_transfer.proofs.Jacobi.{lie, sound, certified}
+use Rattle.shuffle_transfer.proofs.Jacobi.{lie, sound, certified, wide, valid_t1}
 use Rattle.counted_runs.specs.Items.{Question, Problem, AsksElements, Purpose, relabelling, question, IsItem}
 use Rattle.counted_runs.specs.Rows.{SameSum, AreIdealElements, IsRow}
 use Rattle.counted_runs.specs.Runs.{Entry, HasFinished, HasStopped, IsEntry, IsStoppedRun, run_length}
 use Rattle.counted_runs.specs.Enough.{enough}
 use Rattle.counted_runs.specs.FullRuns.{InSequence, IsRelationOrPair, HasLeadingTree, IsLastLead, KeepsLead, IsFullRun}
 use Rattle.counted_runs.proofs.StoppedRuns.{stopped_runs_short, stopped_chains_stop}
-use Rattle.counted_runs.proofs.Lie.{bracket, one_question, wide, ordered, valid_t1, none_above, place_t1}
+use Rattle.counted_runs.proofs.Lie.{bracket, one_question, ordered, none_above, place_t1}
 
 abbrev pub BracketEntry : Type 0
 BracketEntry = Entry lie (compare lie.generators by_path)

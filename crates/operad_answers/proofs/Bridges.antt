@@ -82,7 +82,7 @@ module _ (o : OrderedPresentation) (well_formed : IsWellFormed o) (elements : Li
     has_rule t k =
         let g = basis.all n two le t k in
         let r = rule g.0 g.1 g.2 in
-        let same : (r.0).0 ≡ t = r.2.tree_is ∙ ap S g.3 ∙ sorted_back (presentation o) n t k.labelled k.sorted in
+        let same : (r.0).0 ≡ t = r.2.tree_is ∙ ap S g.3 ∙ sorted_back (presentation o) n t k.leads.leads.labelled k.leads.leads.sorted in
         subst (λ u. Mem u (map (λ (r : Rule). r.0) rules)) same (mem_map (λ (r : Rule). r.0) r.0 rules r.1)
 
     form_of_rule : (r : Rule) → Mem r rules → IsForm o n ((1, r.0) ∷ []) r.1

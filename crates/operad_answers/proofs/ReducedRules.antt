@@ -74,7 +74,7 @@ module _ (o : OrderedPresentation) (well_formed : IsWellFormed o) (N : ℕ) (ele
       each r m =
           let k : IsMinimal (presentation o) (comparison o) n r.0 = (h.are_minimal.all r.0).0 (mem_map (λ (s : Rule). s.0) r h.rules m) in
           let g = basis.all n two most r.0 k in
-          let tree : r.0 ≡ S (g.0).lead = sym (ap S g.3 ∙ sorted_back (presentation o) n r.0 k.labelled k.sorted) in
+          let tree : r.0 ≡ S (g.0).lead = sym (ap S g.3 ∙ sorted_back (presentation o) n r.0 k.leads.leads.labelled k.leads.leads.sorted) in
           (g.0, g.1, g.2, rule_is n r g.0 g.1 g.2 tree (form_of r m))
 
       all : (g : Element) → Mem g elements → g.arity ≡ n → (r : Rule) × Mem r h.rules × IsPrintedRule o g r

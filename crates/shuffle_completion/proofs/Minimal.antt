@@ -81,7 +81,7 @@ module _ (p : Presentation) (compare : Tree ℕ → Tree ℕ → Ordering) (n : 
         there : (t : Tree ℕ) → IsMinimal p compare n t → Mem t (leads_back basis)
         there t k =
             let g = r.all n two le t k in
-            subst (λ u. Mem u (leads_back basis)) (ap (symmetric_tree p.generators) g.3 ∙ sorted_back p n t k.labelled k.sorted) (listed basis g.0 g.1 g.2)
+            subst (λ u. Mem u (leads_back basis)) (ap (symmetric_tree p.generators) g.3 ∙ sorted_back p n t k.leads.leads.labelled k.leads.leads.sorted) (listed basis g.0 g.1 g.2)
 
 pub minimal_trees : (p : Presentation) → IsOverField p → (compare : Tree ℕ → Tree ℕ → Ordering) → IsTreeOrder (inputs_of p.generators) compare → (n : ℕ) → 2 ≤ n
     → (l : List (Tree ℕ)) × AreThose (IsMinimal p compare n) l

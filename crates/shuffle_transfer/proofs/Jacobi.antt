@@ -59,10 +59,10 @@ pub wide : IsWide lie
 wide zero h = omega arith
 wide (suc g) h = absurd (omega (arith, h))
 
-valid_at : (n : ℕ) (t : Tree ℕ) → has_by tree_discrete (all_trees (labels lie.generators) (inputs_of lie.generators) n) t ≡ true → IsShuffleTree (inputs_of lie.generators) n t
+pub valid_at : (n : ℕ) (t : Tree ℕ) → has_by tree_discrete (all_trees (labels lie.generators) (inputs_of lie.generators) n) t ≡ true → IsShuffleTree (inputs_of lie.generators) n t
 valid_at n t h = (listed (labels lie.generators) (inputs_of lie.generators) (are_labels lie wide) n).0.only t (has_by_mem tree_discrete (all_trees (labels lie.generators) (inputs_of lie.generators) n) t h)
 
-valid_t1 : IsShuffleTree (inputs_of lie.generators) 3 t1
+pub valid_t1 : IsShuffleTree (inputs_of lie.generators) 3 t1
 unfolding ℕ_discrete tree_discrete tree_discrete_by row_discrete_by same_leaf same_node same_more
 valid_t1 = valid_at 3 t1 refl
 
