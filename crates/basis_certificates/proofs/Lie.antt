@@ -44,6 +44,7 @@ use Rattle.basis_certificates.proofs.Lookups.{nth_within}
 use Rattle.basis_certificates.proofs.Goodness.{each_mem}
 use Rattle.basis_certificates.proofs.Spellings.{one_form, back_spelled}
 use Rattle.basis_certificates.proofs.Elements.{holds_or_zero}
+use Rattle.shuffle_places.proofs.FewMultiples.{no_multiples}
 
 abbrev pub cmp : Tree ℕ → Tree ℕ → Ordering
 cmp = compare lie.generators by_path
@@ -323,11 +324,6 @@ good_six = (
 
 abbrev Triple : Type 0
 Triple = Tree ℕ × List ℕ × List ℕ
-
--- t1 has no small common multiple with itself below arity 4
-no_multiples : (multiples t1 t1 0 ≡ []) × (multiples t1 t1 1 ≡ []) × (multiples t1 t1 2 ≡ []) × (multiples t1 t1 3 ≡ [])
-unfolding ℕ_discrete tree_discrete tree_discrete_by row_discrete_by same_leaf same_node same_more shape_discrete one_unit
-no_multiples = (refl, refl, refl, refl)
 
 listed_multiple : (n : ℕ) (t : Tree ℕ) (first second : List ℕ) → IsMultiple n t1 t1 t first second → Mem {X = Triple} (t, first, second) (multiples t1 t1 n)
 listed_multiple n t first second h = ((multiples_listed t1 t1 n tt tt).0 t first second).1 h

@@ -46,6 +46,7 @@ use Rattle.counted_runs.proofs.LastLeads.{last_leads_are_one}
 use Rattle.counted_runs.proofs.RunsSoFar.{serves_all, follows_same, runs_so_far}
 use Rattle.counted_runs.proofs.Lie.{bracket, ordered, three_trees, none_above}
 use Rattle.counted_runs.proofs.LieRuns.{BracketEntry, insertion_t1, second_order, lie_elements, jacobi_relation, first_order, coefs}
+use Rattle.shuffle_places.proofs.FewMultiples.{no_multiples}
 
 abbrev pub d : Problem
 d = bracket [] false
@@ -357,19 +358,15 @@ all_relations zero r e w o = absurd e
 all_relations (suc zero) r e w o = (the_items (item_by w)).1 (inl (run_items (item_by w) (each_order w (subst (λ (x : Relation). IsOrdering x.arity w) e o))))
 all_relations (suc (suc k)) r e w o = absurd e
 
-few_multiples : (multiples t1 t1 0 ≡ []) × (multiples t1 t1 1 ≡ []) × (multiples t1 t1 2 ≡ []) × (multiples t1 t1 3 ≡ [])
-unfolding ℕ_discrete tree_discrete tree_discrete_by row_discrete_by same_leaf same_node same_more shape_discrete one_unit
-few_multiples = (refl, refl, refl, refl)
-
 abbrev Triple : Type 0
 Triple = Tree ℕ × List ℕ × List ℕ
 
 -- of arity at most 4 there is one small common multiple
 one_multiple : (m : ℕ) → m ≤ 4 → (x : Triple) → Mem x (multiples t1 t1 m) → (3 < m) × (x ≡ (comb, top_two, lower_two))
-one_multiple zero le x h = absurd (subst (Mem x) few_multiples.0 h)
-one_multiple (suc zero) le x h = absurd (subst (Mem x) few_multiples.1 h)
-one_multiple (suc (suc zero)) le x h = absurd (subst (Mem x) few_multiples.2 h)
-one_multiple (suc (suc (suc zero))) le x h = absurd (subst (Mem x) few_multiples.3 h)
+one_multiple zero le x h = absurd (subst (Mem x) no_multiples.0 h)
+one_multiple (suc zero) le x h = absurd (subst (Mem x) no_multiples.1 h)
+one_multiple (suc (suc zero)) le x h = absurd (subst (Mem x) no_multiples.2 h)
+one_multiple (suc (suc (suc zero))) le x h = absurd (subst (Mem x) no_multiples.3 h)
 one_multiple (suc (suc (suc (suc zero)))) le x h = go (subst (Mem x) multiples_of_t1 h)
   where
     go : (x ≡ (comb, top_two, lower_two)) ⊎ ⊥ → (3 < 4) × (x ≡ (comb, top_two, lower_two))

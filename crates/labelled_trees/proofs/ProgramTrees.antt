@@ -110,3 +110,8 @@ fits-inputs arity g ts h =
 pub graft_row-trees : (ts : List program.Tree) (s : ℕ → Tree ℕ) → graft_row (row (map tree_of ts)) s ≡ row (map (λ t. graft (tree_of t) s) ts)
 graft_row-trees [] s = refl
 graft_row-trees (t ∷ ts) s = ap (more (graft (tree_of t) s)) (graft_row-trees ts s)
+
+-- what holds at all leaves of the inputs holds at those of each input
+pub all_row-trees : (ts : List program.Tree) (P : ℕ → Type 0) → AllRow (row (map tree_of ts)) P → AllByRecursion (λ t. AllLeaves (tree_of t) P) ts
+all_row-trees [] P h = tt
+all_row-trees (t ∷ ts) P h = (h.0, all_row-trees ts P h.1)

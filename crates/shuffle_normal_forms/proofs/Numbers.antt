@@ -20,17 +20,9 @@ use Rattle.shuffle_normal_forms.specs.FreeTreeLists.{undivided, free_on, KeepsOr
 use Rattle.shuffle_normal_forms.proofs.Filters.{each_passes, filter-ext, filter-map, below-ext, splits-ext, rows-ext}
 use Rattle.shuffle_normal_forms.proofs.ByInputs.{empty_joined, empty_where, free_by_inputs, leaf_free}
 use Rattle.modular_sums.specs.Lists.{choose}
+use Rattle.labelled_trees.proofs.Grafts.{graft_assoc}
 
--- ---- grafts of grafts
-
-mutual
-  graft_twice : {A B C : Type 0} (t : Tree A) (s : A → Tree B) (u : B → Tree C) → graft (graft t s) u ≡ graft t (λ a. graft (s a) u)
-  graft_twice (leaf a) s u = refl
-  graft_twice (node l r) s u = ap (node l) (graft_twice_row r s u)
-
-  graft_twice_row : {A B C : Type 0} (r : Row A) (s : A → Tree B) (u : B → Tree C) → graft_row (graft_row r s) u ≡ graft_row r (λ a. graft (s a) u)
-  graft_twice_row none s u = refl
-  graft_twice_row (more t r) s u = ap₂ more (graft_twice t s u) (graft_twice_row r s u)
+-- ---- grafts
 
 mutual
   graft-ext : {A B : Type 0} (t : Tree A) (s u : A → Tree B) → ((a : A) → s a ≡ u a) → graft t s ≡ graft t u
@@ -98,7 +90,7 @@ module _ (f : ℕ → ℕ) (keeps : KeepsOrder f) where
 
   pub same_standard : (t : Tree ℕ) → standard (other t) ≡ standard t
   same_standard t =
-      graft_twice t (λ i. leaf (f i)) (λ i. leaf (suc (below i (other t))))
+      graft_assoc t (λ i. leaf (f i)) (λ i. leaf (suc (below i (other t))))
       ∙ graft-ext t (λ i. leaf (suc (below (f i) (other t)))) (λ i. leaf (suc (below i t))) (λ i. ap (λ n. leaf (suc n)) (same_rank i t))
 
   mutual
@@ -120,9 +112,9 @@ module _ (f : ℕ → ℕ) (keeps : KeepsOrder f) where
   same_divisor : (q : Tree (Tree ℕ)) → divisor_of (others q) ≡ divisor_of q
   same_divisor q =
       ap standard
-      (graft_twice q (λ v. leaf (other v)) (λ v. leaf (least v))
+      (graft_assoc q (λ v. leaf (other v)) (λ v. leaf (least v))
       ∙ graft-ext q (λ v. leaf (least (other v))) (λ v. leaf (f (least v))) (λ v. ap leaf (least_renamed v))
-      ∙ sym (graft_twice q (λ v. leaf (least v)) (λ i. leaf (f i))))
+      ∙ sym (graft_assoc q (λ v. leaf (least v)) (λ i. leaf (f i))))
       ∙ same_standard (graft q (λ v. leaf (least v)))
 
   -- ---- what is laid on the tree

@@ -4,6 +4,7 @@ pub mod Commuting
 pub mod Covers
 pub mod Cuts
 pub mod Examples
+pub mod FewMultiples
 pub mod Fitting
 pub mod Frames
 pub mod Independent

@@ -9,7 +9,7 @@ use Rattle.labelled_trees.specs.Leaves.{AllLeaves, AllRow}
 use Rattle.labelled_trees.specs.Meaning.{tree_of}
 use Rattle.labelled_trees.specs.declared.Tree as program
 use Rattle.labelled_trees.specs.declared.Tree.TheVariants.{Node}
-use Rattle.labelled_trees.proofs.ProgramTrees.{tree_of-node, graft_row-trees}
+use Rattle.labelled_trees.proofs.ProgramTrees.{tree_of-node, graft_row-trees, all_row-trees}
 use Rattle.labelled_trees.proofs.Rows.{width-row}
 use Rattle.shuffle_insertions.specs.ShuffleTrees.{least, least_row, IsRising, IsRisingRow}
 use Rattle.shuffle_trees.specs.ValidTrees.{IsWide, AreWide}
@@ -113,11 +113,7 @@ first_least (u ∷ ts) (suc i) t x first found now lt e is before start later = 
 
 -- ---- facts of leaves
 
-inputs_all : (ts : List program.Tree) (P : ℕ → Type 0) → AllRow (row (map tree_of ts)) P → AllByRecursion (λ t. AllLeaves (tree_of t) P) ts
-inputs_all [] P h = tt
-inputs_all (t ∷ ts) P h = (h.0, inputs_all ts P h.1)
-
 -- what holds at the leaves of a vertex holds at those of an input
 pub input_all : (g : ℕ) (ts : List program.Tree) (i : ℕ) (t : program.Tree) (P : ℕ → Type 0) → i < length ts → t ≡ get_or ts i t → AllLeaves (tree_of (Node g ts)) P → AllLeaves (tree_of t) P
 input_all g ts i t P lt e h =
-    subst (λ u. AllLeaves (tree_of u) P) (sym e) (All-from_recursion (λ u. AllLeaves (tree_of u) P) ts (inputs_all ts P (subst (λ u. AllLeaves u P) (tree_of-node g ts) h)) i t lt)
+    subst (λ u. AllLeaves (tree_of u) P) (sym e) (All-from_recursion (λ u. AllLeaves (tree_of u) P) ts (all_row-trees ts P (subst (λ u. AllLeaves u P) (tree_of-node g ts) h)) i t lt)

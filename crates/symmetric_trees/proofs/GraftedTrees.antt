@@ -8,19 +8,15 @@ use Rattle.labelled_trees.specs.Insertions.{item}
 use Rattle.labelled_trees.specs.Meaning.{tree_of}
 use Rattle.labelled_trees.specs.declared.Tree as program
 use Rattle.labelled_trees.specs.declared.Tree.TheVariants.{Leaf, Node}
-use Rattle.labelled_trees.proofs.ProgramTrees.{tree_of-leaf, tree_of-node, graft_row-trees}
+use Rattle.labelled_trees.proofs.ProgramTrees.{tree_of-leaf, tree_of-node, graft_row-trees, all_row-trees}
 
 -- a vertex over the grafted inputs is the grafted vertex
 pub graft-node : (g : ℕ) (ts us : List program.Tree) (s : ℕ → Tree ℕ) → map tree_of us ≡ map (λ t. graft (tree_of t) s) ts → tree_of (Node g us) ≡ graft (tree_of (Node g ts)) s
 graft-node g ts us s e = tree_of-node g us ∙ ap (λ vs. node g (row vs)) e ∙ ap (node g) (sym (graft_row-trees ts s)) ∙ ap (λ t. graft t s) (sym (tree_of-node g ts))
 
-all_row-each : (ts : List program.Tree) (P : ℕ → Type 0) → AllRow (row (map tree_of ts)) P → AllByRecursion (λ t. AllLeaves (tree_of t) P) ts
-all_row-each [] P h = tt
-all_row-each (t ∷ ts) P h = (h.0, all_row-each ts P h.1)
-
 -- what holds of the leaves of a vertex holds of those of each input
 pub leaves-inputs : (g : ℕ) (ts : List program.Tree) (P : ℕ → Type 0) → AllLeaves (tree_of (Node g ts)) P → All (λ t. AllLeaves (tree_of t) P) ts
-leaves-inputs g ts P h = All-from_recursion (λ t. AllLeaves (tree_of t) P) ts (all_row-each ts P (subst (λ t. AllLeaves t P) (tree_of-node g ts) h))
+leaves-inputs g ts P h = All-from_recursion (λ t. AllLeaves (tree_of t) P) ts (all_row-trees ts P (subst (λ t. AllLeaves t P) (tree_of-node g ts) h))
 
 -- the input with a number
 pub item-at : (ts : List program.Tree) (i : ℕ) (d : program.Tree) → i < length ts → item (map tree_of ts) (suc i) ≡ tree_of (get_or ts i d)
