@@ -15,7 +15,7 @@ use Rattle.basis_certificates.specs.Laws.{IsUndividedSpelling}
 use Rattle.operad_answers.specs.OrderedPresentations.{presentation, comparison, written, IsWellFormed}
 use Rattle.operad_answers.specs.CertifiedDocuments.{BlockShows, HoldsOver, IsFaultOver, HasElementSteps}
 
--- Where a certificate holds over a well-formed document through N, whoever wrote it, its elements in shuffle form are certified through N, and
+-- Where a certificate holds over a well-formed document through N, whoever wrote it, its elements in shuffle form are a Groebner basis through N, and
 -- in each arity up to N the sorted spellings that no leading tree of it divides are the normal trees, independent and spanning.
 abbrev pub HeldCertificatesListNormalTrees : Type 0
 HeldCertificatesListNormalTrees = (d : Document) → IsWellFormed (written d) → (N : ℕ) (cert : Certificate (List Step)) → HasElementSteps d cert → HoldsOver d N cert

@@ -131,7 +131,7 @@ pub fn done_exists()
     ensures law { DoneExists }
 {}
 
-/// Law: the elements of a certificate that holds over a document are certified, and the sorted spellings that no leading tree of it
+/// Law: the elements of a certificate that holds over a document are a Groebner basis, and the sorted spellings that no leading tree of it
 /// divides are the normal trees, independent and spanning modulo the ideal.
 pub fn held_certificates_list_normal_trees()
     ensures law { HeldCertificatesListNormalTrees }

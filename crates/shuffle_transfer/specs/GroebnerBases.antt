@@ -16,7 +16,7 @@ use Rattle.shuffle_transfer.specs.Transfer.{relabelled, shuffled, IsSumOfInserti
 abbrev pub setting : Presentation → (Tree ℕ → Tree ℕ → Ordering) → List Element → Setting
 setting p compare elements = record { arity = inputs_of p.generators; compare = compare; elements = elements; q = p.q }
 
--- The elements are certified through arity N: they are monic with different leading trees, each stands once, and they lie in the ideal of
+-- The elements are a Groebner basis through arity N: they are monic with different leading trees, each stands once, and they lie in the ideal of
 -- the shuffle forms; each relation of arity at most N, relabelled by each permutation, is a sum of insertions of them; and for any two of
 -- them, in the order of the list, each S-element of arity at most N reduces
 -- (Dotsenko and Khoroshkin 2010, Groebner bases of shuffle operads, up to an arity).

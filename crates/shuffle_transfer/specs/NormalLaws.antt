@@ -36,7 +36,7 @@ abbrev pub NormalFormsByLists : Type 0
 NormalFormsByLists = (p : Presentation) (cmp : Tree ℕ → Tree ℕ → Ordering) (n : ℕ) (l : List (Tree ℕ)) → ((t : Tree ℕ) → Mem t l ↔ IsNormalTree p cmp n t)
     → IsIndependent p n l → IsSpanning p n l → NormalLaw p cmp n l
 
--- Elements that are certified through N for an order of the trees over the labels: in each arity up to N their listing has the normal
+-- A Groebner basis through N for an order of the trees over the labels: in each arity up to N its listing has the normal
 -- trees, each once; and it, like each list of these, has these properties.
 abbrev pub NormalTreesListed : Type 0
 NormalTreesListed = (p : Presentation) → IsSound p → IsWide p → 0 < p.q → (cmp : Tree ℕ → Tree ℕ → Ordering) → IsTreeOrder (inputs_of p.generators) cmp

@@ -42,7 +42,7 @@ pub fn normal_forms_by_lists()
     ensures law { NormalFormsByLists }
 {}
 
-/// Law: for elements certified through an arity, the trees that no leading tree divides are the normal trees, and each list of
+/// Law: for a Groebner basis through an arity, the trees that no leading tree divides are the normal trees, and each list of
 /// these is independent and spanning modulo the ideal.
 pub fn normal_trees_listed()
     ensures law { NormalTreesListed }
