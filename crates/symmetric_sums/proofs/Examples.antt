@@ -49,7 +49,6 @@ plain_exchange = record {
 }
   where
     no_zero : (t : Tree ℕ) → Mem t (leaf 1 ∷ (leaf 2 ∷ [])) → occurs 0 t ≡ 0
-    unfolding ℕ_discrete
     no_zero t (inl e) = ap (occurs 0) e
     no_zero t (inr (inl e)) = ap (occurs 0) e
     no_zero t (inr (inr m)) = absurd m
@@ -62,6 +61,7 @@ exchange_law : InstanceLaw 101 generators [] [] 2 exchange
 exchange_law = (expand_answers_instances 101 generators [] [] exchange (omega arith) tt).0 2
 
 exchange_valid : IsValidInstance generators (rule_element 101 generators [] [] (Swap 0 1)) 2 exchange
+unfolding plain_exchange
 exchange_valid = exchange_law.valid plain_exchange one_exchange (λ e. cc e)
 
 exchange_element : Same tree_discrete 100 (instance_element 101 (rule_element 101 generators [] [] (Swap 0 1)) exchange) ((3, bracket 1 2) ∷ ((3, bracket 2 1) ∷ []))
