@@ -215,8 +215,10 @@ module _ (a b : Tree ℕ) (na : IsNode a) (nb : IsNode b) (n : ℕ) where
       (λ j k x y lt h g e.
       let c = (from_cond (test a b t i j) x (t, i, j) h).1 in
       let d = (from_cond (test a b t i k) y (t, i, k) g).1 in
-      inr (ap (λ (z : Tree ℕ × List ℕ × List ℕ). z.1) c ∙ sym (ap (λ (z : Tree ℕ × List ℕ × List ℕ). z.1) d),
-      ap₂ (slice_cmp nat_cmp) (ap (λ (z : Tree ℕ × List ℕ × List ℕ). z.2) c) (ap (λ (z : Tree ℕ × List ℕ × List ℕ). z.2) d) ∙ lt))
+      inr (
+        ap (λ (z : Tree ℕ × List ℕ × List ℕ). z.1) c ∙ sym (ap (λ (z : Tree ℕ × List ℕ × List ℕ). z.1) d),
+        ap₂ (slice_cmp nat_cmp) (ap (λ (z : Tree ℕ × List ℕ × List ℕ). z.2) c) (ap (λ (z : Tree ℕ × List ℕ × List ℕ). z.2) d) ∙ lt,
+      ))
 
   first_rise : (t : Tree ℕ) → IsInOrder ComesFirst (in_tree t)
   first_rise t = in_order-joined ComesFirst Precedes (places a 1 t) (λ i. joined (places b 1 t) (in_places t i)) (places_in_order a t na) (λ i m. second_rise t i)

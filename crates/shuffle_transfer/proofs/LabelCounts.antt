@@ -3,7 +3,7 @@ use Rattle.std.proofs.Common.{◌≡◌, ℕ, zero, suc, ◌+◌, ◌*◌, ◌<�
 use native.Mathlib.Decide.{ℕ_discrete}
 use Rattle.labelled_trees.specs.Leaves.{one_if}
 use Rattle.labelled_trees.specs.RangeSums.{range_sum}
-use Rattle.labelled_trees.proofs.Leaves.{one_if-yes}
+use Rattle.labelled_trees.proofs.Leaves.{one_if-yes, one_if-no}
 use Rattle.operad_ideals.specs.Parts.{Part, total, parts_of}
 use Rattle.shuffle_insertions.specs.Listing.{upto}
 use Rattle.shuffle_insertions.proofs.Counting.{length-upto, sum_first}
@@ -33,7 +33,7 @@ own_letters g (w ∷ ws) = let e = one_if-yes (ℕ_discrete g g) refl in omega (
 
 other_letters : (g h : ℕ) (ws : List (List ℕ)) → (h ≡ g → ⊥) → of_generator g (map (lettered h) ws) ≡ 0
 other_letters g h [] f = refl
-other_letters g h (w ∷ ws) f = let e = none_if-yes (ℕ_discrete h g) f in omega (arith, e, other_letters g h ws f)
+other_letters g h (w ∷ ws) f = let e = one_if-no (ℕ_discrete h g) f in omega (arith, e, other_letters g h ws f)
 
 later_letters : (g h : ℕ) (generators : List (List Part)) → g < h → of_generator g (letters h generators) ≡ 0
 later_letters g h [] lt = refl
