@@ -17,7 +17,7 @@ use Rattle.shuffle_places.proofs.Places.{place_of_cut}
 
 -- ---- lists in order
 
-in_order-append : {X : Type 0} (R : X → X → Type 0) (k l : List X) → IsInOrder R k → IsInOrder R l → ((x y : X) → Mem x k → Mem y l → R x y) → IsInOrder R (k ++ l)
+pub in_order-append : {X : Type 0} (R : X → X → Type 0) (k l : List X) → IsInOrder R k → IsInOrder R l → ((x y : X) → Mem x k → Mem y l → R x y) → IsInOrder R (k ++ l)
 in_order-append R [] l a b h = b
 in_order-append R (x ∷ k) l a b h = (
   λ y m. ⊎_elim (λ i. a.0 y i) (λ i. h x y (inl refl) i) (mem_either y k l m),

@@ -14,11 +14,11 @@ abbrev pub IsInOrder : {X : Type 0} → (X → X → Type 0) → List X → Type
 IsInOrder R [] = Unit {0}
 IsInOrder {X} R (x ∷ l) = ((y : X) → Mem y l → R x y) × IsInOrder R l
 
--- one place of a tree comes before another: as a list of vertex numbers it is less
+-- the order of places: as a list of vertex numbers the one is less than the other, by the first numbers that differ
 abbrev pub Precedes : List ℕ → List ℕ → Type 0
 Precedes k l = slice_cmp nat_cmp k l ≡ Less
 
--- each list is less than those after it, so none stands twice
+-- each list of numbers precedes those after it, so none stands twice
 abbrev pub AreRising : List (List ℕ) → Type 0
 AreRising = IsInOrder Precedes
 

@@ -8,7 +8,7 @@ use Rattle.operad_ideals.specs.Laws.{arity}
 use Rattle.shuffle_insertions.specs.Counting.{factorial}
 use Rattle.shuffle_transfer.specs.Labels.{labels, gen}
 
--- in how many orders a part of this kind and size may have its inputs where all of them are one up to sign
+-- how many orders of the inputs of a part one label stands for: all of a symmetric or a skew part, one of a free part
 abbrev pub kind_orders : Kind → ℕ → ℕ
 kind_orders symmetric n = factorial n
 kind_orders skew n = factorial n
