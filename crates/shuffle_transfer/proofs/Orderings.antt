@@ -1,12 +1,11 @@
 -- The list of all permutations, in lexicographic order.
-use Rattle.std.proofs.Common.{◌≡◌, ℕ, zero, suc, ◌+◌, ◌<◌, ◌≤◌, List, [], ◌∷◌, map, length, refl, sym, ◌∙◌, ap, arith, subst, inl, inr, ◌⊎◌}
+use Rattle.std.proofs.Common.{◌≡◌, ℕ, zero, suc, ◌+◌, ◌<◌, ◌≤◌, List, [], ◌∷◌, map, length, refl, sym, ◌∙◌, ap, arith, subst, inl, inr}
 use Rattle.std.specs.Prelude.{flat_map}
-use mathlib.Core.List.{◌++◌}
 use Rattle.std.specs.declared.cmp.Ordering.TheVariants.{Less}
 use Rattle.std.specs.Ordering.{nat_cmp}
 use Rattle.std.specs.Cmp.Lexicographic.{slice_cmp}
 use Rattle.modular_sums.specs.Lists.{Mem, Distinct, Rises}
-use Rattle.modular_sums.proofs.Lists.{mem_either, mem_of_map, mem_of_flat}
+use Rattle.modular_sums.proofs.Lists.{mem_of_map, mem_of_flat}
 use Rattle.shuffle_insertions.specs.Listing.{upto}
 use Rattle.labelled_trees.specs.Insertions.{listed}
 use Rattle.labelled_trees.proofs.Insertions.{length-listed}
