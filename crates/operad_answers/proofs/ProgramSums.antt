@@ -13,7 +13,7 @@ use Rattle.symmetric_trees.specs.Trees.{IsLabelled}
 use Rattle.symmetric_trees.specs.declared.generators.Generator.{Generator}
 use Rattle.symmetric_sums.specs.Instances.{products, without_zeros}
 use Rattle.symmetric_sums.proofs.Expansions.{without_zeros-zero, without_zeros-some}
-use Rattle.symmetric_sums.proofs.Members.{without_zeros-same, products-same}
+use Rattle.symmetric_sums.proofs.PlainInstances.{without_zeros-same, products-same}
 use Rattle.presentation_text.specs.Elements.{IsElementTree}
 use Rattle.presentation_text.specs.PrintedElements.{IsWrittenTerm}
 use Rattle.operad_answers.specs.Texts.{Sum}

@@ -13,7 +13,7 @@ ext_below : (b : ℕ) (f g : ℕ → ℕ) → ((i : ℕ) → i < b → f i ≡ g
 ext_below zero f g h = refl
 ext_below (suc b) f g h = ap₂ (λ m n. m + n) (ext_below b f g (λ i lt. h i (omega arith))) (h b (omega arith))
 
-sum_first : (b : ℕ) (f : ℕ → ℕ) → range_sum (suc b) f ≡ f 0 + range_sum b (λ i. f (suc i))
+pub sum_first : (b : ℕ) (f : ℕ → ℕ) → range_sum (suc b) f ≡ f 0 + range_sum b (λ i. f (suc i))
 sum_first zero f = omega arith
 sum_first (suc b) f = omega (arith, sum_first b f)
 
@@ -22,13 +22,13 @@ sum_plus zero f g = refl
 sum_plus (suc b) f g = omega (arith, sum_plus b f g)
 
 -- no choice of more than there are
-too_many : (n k : ℕ) → n < k → binomial n k ≡ 0
+pub too_many : (n k : ℕ) → n < k → binomial n k ≡ 0
 too_many zero zero h = absurd (omega arith)
 too_many zero (suc k) h = refl
 too_many (suc n) zero h = absurd (omega arith)
 too_many (suc n) (suc k) h = omega (arith, too_many n k (omega arith), too_many n (suc k) (omega arith))
 
-choose_none : (n : ℕ) → binomial n 0 ≡ 1
+pub choose_none : (n : ℕ) → binomial n 0 ≡ 1
 choose_none zero = refl
 choose_none (suc n) = refl
 

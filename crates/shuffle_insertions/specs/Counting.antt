@@ -10,6 +10,11 @@ binomial zero (suc k) = 0
 binomial (suc n) zero = 1
 binomial (suc n) (suc k) = binomial n k + binomial n (suc k)
 
+-- n!: the product of 1 to n
+abbrev pub factorial : ℕ → ℕ
+factorial zero = 1
+factorial (suc n) = suc n * factorial n
+
 -- the number of rows of k inputs over n leaves, where f tells the number of trees over so many leaves: the first input
 -- has the least leaf and some j of the others
 abbrev pub row_count : (ℕ → ℕ) → ℕ → ℕ → ℕ

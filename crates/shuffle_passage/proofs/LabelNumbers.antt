@@ -14,6 +14,7 @@ use Rattle.operad_ideals.specs.Laws.{arity}
 use Rattle.operad_ideals.proofs.SortedLists.{Apart, tested, below, below_less, below_more, below_none, in_itself}
 use Rattle.operad_ideals.proofs.SortedParts.{map-sort_parts, every_sort_parts}
 use Rattle.operad_ideals.proofs.SameOrder.{sort_parts-order, below-order}
+use Rattle.shuffle_insertions.specs.Counting.{factorial}
 use Rattle.shuffle_insertions.specs.Listing.{upto}
 use Rattle.shuffle_insertions.proofs.Upto.{upto_rises}
 use Rattle.shuffle_insertions.proofs.Counting.{length-upto}
@@ -267,11 +268,6 @@ pub chosen_items : (us : List (Tree ℕ)) (ds : List ℕ) → map (item us) (cho
 chosen_items us ds = map-chosen (item us) 0 (upto (length us)) ds ∙ ap₂ (λ e l. chosen e l ds) (item_zero us) (items_all us)
 
 -- ---- no number is great
-
--- n!
-abbrev pub factorial : ℕ → ℕ
-factorial zero = 1
-factorial (suc n) = suc n * factorial n
 
 pub sum_from-most : (f : ℕ → ℕ) (a n m : ℕ) → ((i : ℕ) → f i ≤ m) → sum_from f a n ≤ n * m
 sum_from-most f a zero m h = omega arith

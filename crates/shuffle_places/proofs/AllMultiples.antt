@@ -1,5 +1,5 @@
 -- The list of multiples has exactly the small common multiples.
-use Rattle.std.proofs.Common.{◌≡◌, ℕ, ◌<◌, ◌≤◌, List, [], ◌∷◌, Bool, true, false, cond, refl, sym, ◌∙◌, ap, arith, subst, inl, inr, ◌⊎◌}
+use Rattle.std.proofs.Common.{◌≡◌, ℕ, ◌<◌, ◌≤◌, List, [], ◌∷◌, Bool, true, false, cond, refl, sym, ◌∙◌, ap, ap₂, arith, subst, inl, inr, ◌⊎◌}
 use native.Mathlib.Decide.{dec_lt}
 use Rattle.std.specs.declared.cmp.Ordering.TheVariants.{Less}
 use Rattle.std.specs.Ordering.{nat_cmp, is_lt}
@@ -15,11 +15,13 @@ use Rattle.shuffle_places.specs.Overlays.{shape_discrete, shape, shapes_of}
 use Rattle.shuffle_places.specs.Numberings.{numberings}
 use Rattle.shuffle_places.specs.AllPlaces.{places}
 use Rattle.shuffle_places.specs.Multiples.{IsMultiple}
+use Rattle.shuffle_places.specs.PlaceOrder.{IsInOrder, Precedes, ComesFirst}
 use Rattle.shuffle_places.specs.AllMultiples.{meet, cover, in_order, test, joined, different, multiples}
-use Rattle.modular_sums.proofs.Lists.{both_true, true_both, mem_has_by, has_by_mem, has_mem, mem_has, mem_flat, mem_of_flat, Distinct-append}
+use Rattle.modular_sums.proofs.Lists.{both_true, true_both, mem_has_by, has_by_mem, has_mem, mem_has, mem_flat, mem_of_flat}
 use Rattle.shuffle_places.proofs.Overlays.{multiple_shape}
 use Rattle.shuffle_places.proofs.Numberings.{all_numbered}
-use Rattle.shuffle_places.proofs.AllPlaces.{listed_place, place_listed, places_distinct}
+use Rattle.shuffle_places.proofs.AllPlaces.{listed_place, place_listed}
+use Rattle.shuffle_places.proofs.PlaceOrder.{in_order-joined, distinct_in_order, in_order_distinct, not_before_itself, places_in_order}
 use Rattle.shuffle_insertions.proofs.Counted.{mem_times, times_mem, distinct_times}
 use Rattle.shuffle_insertions.proofs.Upto.{in_upto, upto_mem}
 use Rattle.labelled_trees.specs.Leaves.{times}
@@ -131,17 +133,19 @@ different_distinct (y ∷ l) = go (has_by shape_discrete l y) refl (different_di
         no_false : has_by shape_discrete l y ≡ true → has_by shape_discrete l y ≡ false → ⊥
         no_false p q = cc (p, q)
 
--- where each item of a joined list tells from which item it comes
-distinct_joined : {X Y : Type 0} (g : Y → X) (l : List X) (f : X → List Y) → Distinct l → ((x : X) → Mem x l → Distinct (f x)) → ((x : X) (y : Y) → Mem x l → Mem y (f x) → g y ≡ x) → Distinct (joined l f)
-distinct_joined g [] f d e h = tt
-distinct_joined g (x ∷ l) f d e h = Distinct-append (f x) (joined l f) (e x (inl refl)) (distinct_joined g l f d.1 (λ z m. e z (inr m)) (λ z y m n. h z y (inr m) n))
-    (λ y m n. let r = mem_of_flat f y l n in d.0 (subst (λ z. Mem z l) (sym (h r.0 y (inr r.1) r.2) ∙ h x y (inl refl) m) r.1))
-
-distinct_cond : {Y : Type 0} (b : Bool) (z : Y) → Distinct (cond b (z ∷ []) [])
-distinct_cond true z = (λ h. h, tt)
-distinct_cond false z = tt
+in_order_cond : {Y : Type 0} (R : Y → Y → Type 0) (b : Bool) (z : Y) → IsInOrder R (cond b (z ∷ []) [])
+in_order_cond R true z = (λ y m. absurd m, tt)
+in_order_cond R false z = tt
 
 module _ (a b : Tree ℕ) (na : IsNode a) (nb : IsNode b) (n : ℕ) where
+  -- a tree with two places, where they pass the test
+  abbrev in_places : Tree ℕ → List ℕ → List ℕ → List (Tree ℕ × List ℕ × List ℕ)
+  in_places t i j = cond (test a b t i j) ((t, i, j) ∷ []) []
+
+  -- the multiples in a tree
+  abbrev in_tree : Tree ℕ → List (Tree ℕ × List ℕ × List ℕ)
+  in_tree t = joined (places a 1 t) (λ i. joined (places b 1 t) (in_places t i))
+
   -- each listed triple is a small common multiple
   pub listed_multiple : (tree : Tree ℕ) (k l : List ℕ) → Mem (tree, k, l) (multiples a b n) → IsMultiple n a b tree k l
   listed_multiple tree k l h =
@@ -199,18 +203,41 @@ module _ (a b : Tree ℕ) (na : IsNode a) (nb : IsNode b) (n : ℕ) where
       let j = mem_of_flat (λ j. cond (test a b t i j) ((t, i, j) ∷ []) []) x (places b 1 t) h in
       ap (λ (x : Tree ℕ × List ℕ × List ℕ). x.1) (from_cond (test a b t i j.0) x (t, i, j.0) j.2).1
 
-  -- each once
+  shape_is : (x : Tree ℕ × List ℕ × List ℕ) (form : Tree (Unit {0})) → Mem x (joined (numberings form (upto n)) in_tree) → shape x.0 ≡ form
+  shape_is x form h =
+      let t = mem_of_flat in_tree x (numberings form (upto n)) h in
+      ap shape (tree_is x t.0 t.2) ∙ ((all_numbered n form tree_discrete).only t.0 (mem_times tree_discrete t.0 (numberings form (upto n)) t.1)).1
+
+  -- ---- in order
+
+  second_rise : (t : Tree ℕ) (i : List ℕ) → IsInOrder ComesFirst (joined (places b 1 t) (in_places t i))
+  second_rise t i = in_order-joined ComesFirst Precedes (places b 1 t) (in_places t i) (places_in_order b t nb) (λ j m. in_order_cond ComesFirst (test a b t i j) (t, i, j))
+      (λ j k x y lt h g e.
+      let c = (from_cond (test a b t i j) x (t, i, j) h).1 in
+      let d = (from_cond (test a b t i k) y (t, i, k) g).1 in
+      inr (
+        ap (λ (z : Tree ℕ × List ℕ × List ℕ). z.1) c ∙ sym (ap (λ (z : Tree ℕ × List ℕ × List ℕ). z.1) d),
+        ap₂ (slice_cmp nat_cmp) (ap (λ (z : Tree ℕ × List ℕ × List ℕ). z.2) c) (ap (λ (z : Tree ℕ × List ℕ × List ℕ). z.2) d) ∙ lt,
+      ))
+
+  first_rise : (t : Tree ℕ) → IsInOrder ComesFirst (in_tree t)
+  first_rise t = in_order-joined ComesFirst Precedes (places a 1 t) (λ i. joined (places b 1 t) (in_places t i)) (places_in_order a t na) (λ i m. second_rise t i)
+      (λ i k x y lt h g e. inl (ap₂ (slice_cmp nat_cmp) (first_is x t i h) (first_is y t k g) ∙ lt))
+
+  trees_apart : (form : Tree (Unit {0})) → IsInOrder ComesFirst (joined (numberings form (upto n)) in_tree)
+  trees_apart form = in_order-joined ComesFirst (λ t u. t ≡ u → ⊥) (numberings form (upto n)) in_tree
+      (distinct_in_order (numberings form (upto n)) (distinct_times tree_discrete (numberings form (upto n)) (at_most_once form))) (λ t m. first_rise t)
+      (λ t u x y other h g e. absurd (other (sym (tree_is x t h) ∙ e ∙ tree_is y u g)))
+
+  pub multiples_rise : IsInOrder ComesFirst (multiples a b n)
+  multiples_rise = in_order-joined ComesFirst (λ form other. form ≡ other → ⊥) (different (shapes_of a b)) (λ form. joined (numberings form (upto n)) in_tree)
+      (distinct_in_order (different (shapes_of a b)) (different_distinct (shapes_of a b))) (λ form m. trees_apart form)
+      (λ form next x y other h g e. absurd (other (sym (shape_is x form h) ∙ ap shape e ∙ shape_is y next g)))
+
+  not_first : (x : Tree ℕ × List ℕ × List ℕ) → Precedes x.1 x.1 ⊎ ((x.1 ≡ x.1) × Precedes x.2 x.2) → ⊥
+  not_first x (inl h) = not_before_itself x.1 h
+  not_first x (inr h) = not_before_itself x.2 h.1
+
+  -- so each stands once
   pub multiples_once : Distinct (multiples a b n)
-  multiples_once = distinct_joined (λ (x : Tree ℕ × List ℕ × List ℕ). shape x.0) (different (shapes_of a b)) (λ form. joined (numberings form (upto n)) (λ t. joined (places a 1 t) (λ i. joined (places b 1 t) (λ j. cond (test a b t i j) ((t, i, j) ∷ []) []))))
-      (different_distinct (shapes_of a b))
-      (λ form m. distinct_joined (λ (x : Tree ℕ × List ℕ × List ℕ). x.0) (numberings form (upto n)) (λ t. joined (places a 1 t) (λ i. joined (places b 1 t) (λ j. cond (test a b t i j) ((t, i, j) ∷ []) [])))
-      (distinct_times tree_discrete (numberings form (upto n)) (at_most_once form))
-      (λ t p. distinct_joined (λ (x : Tree ℕ × List ℕ × List ℕ). x.1) (places a 1 t) (λ i. joined (places b 1 t) (λ j. cond (test a b t i j) ((t, i, j) ∷ []) []))
-      (places_distinct a na 1 t)
-      (λ i q. distinct_joined (λ (x : Tree ℕ × List ℕ × List ℕ). x.2) (places b 1 t) (λ j. cond (test a b t i j) ((t, i, j) ∷ []) []) (places_distinct b nb 1 t)
-      (λ j r. distinct_cond (test a b t i j) (t, i, j)) (λ j x r h. ap (λ (x : Tree ℕ × List ℕ × List ℕ). x.2) (from_cond (test a b t i j) x (t, i, j) h).1))
-      (λ i x q h. first_is x t i h))
-      (λ t x p h. tree_is x t h))
-      (λ form x m h.
-      let t = mem_of_flat (λ t. joined (places a 1 t) (λ i. joined (places b 1 t) (λ j. cond (test a b t i j) ((t, i, j) ∷ []) []))) x (numberings form (upto n)) h in
-      ap shape (tree_is x t.0 t.2) ∙ ((all_numbered n form tree_discrete).only t.0 (mem_times tree_discrete t.0 (numberings form (upto n)) t.1)).1)
+  multiples_once = in_order_distinct ComesFirst (λ x h. not_first x (h refl)) (multiples a b n) multiples_rise

@@ -184,7 +184,7 @@ unfolding tops
 tops-append [] l = refl
 tops-append (s ∷ k) l = ap (λ m. head_of s ∷ m) (tops-append k l)
 
-among_tops : (s : List ℕ) (l : List (List ℕ)) → Mem s l → Mem (head_of s) (tops l)
+pub among_tops : (s : List ℕ) (l : List (List ℕ)) → Mem s l → Mem (head_of s) (tops l)
 unfolding tops
 among_tops s [] h = absurd h
 among_tops s (x ∷ l) (inl e) = inl (ap head_of e)

@@ -15,9 +15,12 @@ use Rattle.shuffle_places.specs.Cuts.{IsCut}
 use Rattle.shuffle_places.specs.Multiples.{IsMultiple}
 use Rattle.shuffle_places.specs.Independent.{Commute}
 use Rattle.shuffle_places.proofs.Laws.{place_sets, place_frames, places_listed, multiples_listed, multiples_fit}
+use Rattle.shuffle_places.proofs.AllMultiples.{multiples_rise}
 use Rattle.shuffle_places.proofs.Commuting.{insertions_commute}
 use Rattle.shuffle_places.specs.Places.{IsPlace, divisor_at, frame_at}
 use Rattle.shuffle_places.specs.AllPlaces.{places}
+use Rattle.shuffle_places.specs.PlaceOrder.{IsInOrder, AreRising, ComesFirst}
+use Rattle.shuffle_places.proofs.PlaceOrder.{places_in_order}
 use Rattle.shuffle_places.specs.Overlays.{shape_discrete, one_unit}
 use Rattle.shuffle_places.specs.AllMultiples.{multiples}
 
@@ -110,3 +113,16 @@ apart v (inr m) n = m
 root_and_lowest : Commute 2 2 c2 c2 (frame_at (1 ∷ []) comb) (frame_at (3 ∷ []) comb)
 root_and_lowest = insertions_commute 4 2 2 comb (1 ∷ []) (3 ∷ []) c2 c2 comb_valid.shuffle (single (1 ∷ []) (inl refl)) (single (3 ∷ []) (inr (inr (inl refl)))) apart
     c2_valid.shuffle c2_valid.shuffle
+
+-- ---- lists in order
+
+two_rise : AreRising (top_two ∷ (lower_two ∷ []))
+two_rise = subst AreRising places_in_comb (places_in_order t1 comb tt)
+
+-- t1 and the comb have two small common multiples in the comb
+two_multiples : multiples t1 comb 4 ≡ (comb, top_two, 1 ∷ (2 ∷ (3 ∷ []))) ∷ ((comb, lower_two, 1 ∷ (2 ∷ (3 ∷ []))) ∷ [])
+unfolding ℕ_discrete tree_discrete tree_discrete_by row_discrete_by same_leaf same_node same_more shape_discrete one_unit
+two_multiples = refl
+
+two_in_order : IsInOrder ComesFirst ((comb, top_two, 1 ∷ (2 ∷ (3 ∷ []))) ∷ ((comb, lower_two, 1 ∷ (2 ∷ (3 ∷ []))) ∷ []))
+two_in_order = subst (IsInOrder ComesFirst) two_multiples (multiples_rise t1 comb tt tt 4)

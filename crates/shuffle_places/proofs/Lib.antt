@@ -14,6 +14,7 @@ pub mod Numberings
 pub mod Overlaps
 pub mod Overlays
 pub mod PatternSets
+pub mod PlaceOrder
 pub mod Places
 pub mod RankedParts
 pub mod RootLaws

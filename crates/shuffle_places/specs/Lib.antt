@@ -7,6 +7,7 @@ pub mod Laws
 pub mod Multiples
 pub mod Numberings
 pub mod Overlays
+pub mod PlaceOrder
 pub mod Places
 pub mod RootLaws
 pub mod RootPlaces

@@ -2,6 +2,7 @@
 #![tactic(auto)]
 
 ghost use Rattle.shuffle_places.specs.Laws.{InsertionsCommute, MultiplesFit, MultiplesListed, PlaceFrames, PlaceSets, PlacesListed};
+ghost use Rattle.shuffle_places.specs.PlaceOrder.{MultiplesRise, PlacesRise};
 ghost use Rattle.shuffle_places.specs.RootLaws.{DivisorsSplit, InputPlaces, RootPlaces};
 
 /// Law: a connected set of vertices is the set of exactly one place.
@@ -22,6 +23,16 @@ pub fn places_listed()
 /// Law: the small common multiples of two trees, each once.
 pub fn multiples_listed()
     ensures law { MultiplesListed }
+{}
+
+/// Law: the places with a divisor are listed in the order of places, rising.
+pub fn places_rise()
+    ensures law { PlacesRise }
+{}
+
+/// Law: the small common multiples in one tree are listed in the order of their first places, and then of their second ones.
+pub fn multiples_rise()
+    ensures law { MultiplesRise }
 {}
 
 /// Law: small common multiples of shuffle trees over labels are over the labels.

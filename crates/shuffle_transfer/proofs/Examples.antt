@@ -1,5 +1,5 @@
 -- Labels, signs, shuffle forms, relabellings and frames of small trees, computed.
-use Rattle.std.proofs.Common.{◌≡◌, ℕ, List, [], ◌∷◌, refl}
+use Rattle.std.proofs.Common.{◌≡◌, ℕ, ◌*◌, List, [], ◌∷◌, refl, arith}
 use native.Mathlib.Decide.{ℕ_discrete}
 use Rattle.labelled_trees.specs.Trees.{Tree, leaf, node, none, more}
 use Rattle.labelled_trees.specs.Insertions.{put, item}
@@ -8,7 +8,9 @@ use Rattle.shuffle_insertions.specs.Frames.{Frame, insert}
 use Rattle.operad_ideals.specs.Parts.{symmetric, skew, free, Part, minus}
 use Rattle.operad_ideals.specs.Sorting.{spelled_sign}
 use Rattle.operad_ideals.specs.Presentations.{Presentation, parts}
+use Rattle.shuffle_transfer.proofs.LabelCounts.{labels_counted}
 use Rattle.shuffle_transfer.proofs.Labels.{lettered}
+use Rattle.shuffle_transfer.specs.LabelCounts.{label_count}
 use Rattle.shuffle_transfer.specs.Orderings.{orderings}
 use Rattle.shuffle_transfer.specs.Labels.{letters, labels, inputs_of, shuffle_form, symmetric_tree, word_discrete, same_cons, letter_discrete, same_letter}
 use Rattle.shuffle_transfer.specs.Transfer.{relabellings, shuffled}
@@ -43,6 +45,14 @@ two_labels = (refl, refl, refl, refl)
 six_labels : letters 0 three_kinds.generators ≡
     lettered 0 (1 ∷ (2 ∷ [])) ∷ (lettered 1 (1 ∷ (2 ∷ [])) ∷ (lettered 1 (2 ∷ (1 ∷ [])) ∷ (lettered 2 (1 ∷ (2 ∷ (3 ∷ []))) ∷ (lettered 2 (1 ∷ (3 ∷ (2 ∷ []))) ∷ (lettered 2 (2 ∷ (3 ∷ (1 ∷ []))) ∷ [])))))
 six_labels = refl
+
+-- l has 2! / 2! labels, p has 2!, and b has 3! / 2!
+counted_labels : (label_count three_kinds.generators 0 ≡ 1) × (label_count three_kinds.generators 1 ≡ 2) × (label_count three_kinds.generators 2 ≡ 3)
+unfolding ℕ_discrete
+counted_labels = (refl, refl, refl)
+
+three_of_b : 2 * label_count three_kinds.generators 2 ≡ 6
+three_of_b = labels_counted three_kinds.generators 2 (omega arith)
 
 -- the labels of p(1,2) and p(2,1)
 free_labels : (shuffle_form one_free.generators (two 0 (leaf 1) (leaf 2)) ≡ two 0 (leaf 1) (leaf 2)) × (shuffle_form one_free.generators (two 0 (leaf 2) (leaf 1)) ≡ two 1 (leaf 1) (leaf 2))

@@ -1,5 +1,5 @@
 -- Labels stand one to one for the generators with their words.
-use Rattle.std.proofs.Common.{◌≡◌, ◌⊎◌, inl, inr, ⊎_elim, ℕ, zero, suc, ◌+◌, ◌<◌, ◌≤◌, List, [], ◌∷◌, ◌++◌, map, length, refl, sym, ap, ◌∙◌, subst, arith}
+use Rattle.std.proofs.Common.{◌≡◌, ◌⊎◌, inl, inr, ⊎_elim, ℕ, zero, suc, ◌+◌, ◌<◌, ◌≤◌, List, [], ◌∷◌, map, length, refl, sym, ap, ◌∙◌, subst, arith}
 use Rattle.std.specs.declared.cmp.Ordering.TheVariants.{Less}
 use Rattle.std.specs.Ordering.{nat_cmp}
 use Rattle.std.specs.Cmp.Lexicographic.{slice_cmp}
@@ -11,7 +11,9 @@ use Rattle.operad_ideals.specs.Presentations.{Presentation, IsWide}
 use Rattle.operad_ideals.specs.Laws.{arity}
 use Rattle.operad_ideals.proofs.SortedLists.{tested}
 use Rattle.shuffle_insertions.specs.Labels.{AreLabels}
-use Rattle.shuffle_transfer.specs.Orderings.{IsOrdering, Ascending}
+use Rattle.shuffle_places.specs.PlaceOrder.{IsInOrder, AreRising}
+use Rattle.shuffle_places.proofs.PlaceOrder.{in_order-append}
+use Rattle.shuffle_transfer.specs.Orderings.{IsOrdering}
 use Rattle.shuffle_transfer.specs.Labels.{words_of, Letter, letter_discrete, letters, zero_if, place_of, letter_at, labels, label, letter, gen, word, inputs_of}
 use Rattle.shuffle_transfer.specs.Laws.{IsWordOf, LabelsAreWords}
 use Rattle.shuffle_transfer.proofs.Orderings.{ascending_distinct}
@@ -69,15 +71,7 @@ distinct_letters g (ps ∷ gens) = Distinct-append (map (lettered g) (words_of p
 abbrev Before : Letter → Letter → Type 0
 Before x y = (x.gen < y.gen) ⊎ ((x.gen ≡ y.gen) × (slice_cmp nat_cmp x.word y.word ≡ Less))
 
-abbrev InOrder : List Letter → Type 0
-InOrder [] = Unit {0}
-InOrder (x ∷ l) = ((y : Letter) → Mem y l → Before x y) × InOrder l
-
-in_order_append : (k l : List Letter) → InOrder k → InOrder l → ((x y : Letter) → Mem x k → Mem y l → Before x y) → InOrder (k ++ l)
-in_order_append [] l a b h = b
-in_order_append (x ∷ k) l a b h = (λ y m. ⊎_elim (λ i. a.0 y i) (λ i. h x y (inl refl) i) (mem_either y k l m), in_order_append k l a.1 b (λ y z i j. h y z (inr i) j))
-
-words_in_order : (g : ℕ) (ws : List (List ℕ)) → Ascending ws → InOrder (map (lettered g) ws)
+words_in_order : (g : ℕ) (ws : List (List ℕ)) → AreRising ws → IsInOrder Before (map (lettered g) ws)
 words_in_order g [] h = tt
 words_in_order g (w ∷ ws) h = (
   λ y m. let k = mem_of_map (lettered g) y ws m in
@@ -85,9 +79,9 @@ words_in_order g (w ∷ ws) h = (
   words_in_order g ws h.1,
 )
 
-letters_in_order : (g : ℕ) (gens : List (List Part)) → InOrder (letters g gens)
+letters_in_order : (g : ℕ) (gens : List (List Part)) → IsInOrder Before (letters g gens)
 letters_in_order g [] = tt
-letters_in_order g (ps ∷ gens) = in_order_append (map (lettered g) (words_of ps)) (letters (suc g) gens) (words_in_order g (words_of ps) (words_ascend ps)) (letters_in_order (suc g) gens)
+letters_in_order g (ps ∷ gens) = in_order-append Before (map (lettered g) (words_of ps)) (letters (suc g) gens) (words_in_order g (words_of ps) (words_ascend ps)) (letters_in_order (suc g) gens)
     (λ x y i j.
     let a = mem_of_map (lettered g) x (words_of ps) i in
     let e : x.gen ≡ g = ap (λ z. z.gen) a.2 in
@@ -136,7 +130,7 @@ place_at d (suc i) (x ∷ l) o h = go (letter_discrete x (letter_at d i l)) (pla
     go (yes e) ih = absurd (o.0 (subst (λ y. Mem y l) (sym e) (mem_at d i l (omega (arith, h)))))
     go (no f) ih = ap suc ih
 
-at_in_order : (d : Letter) (i j : ℕ) (l : List Letter) → InOrder l → i < j → j < length l → Before (letter_at d i l) (letter_at d j l)
+at_in_order : (d : Letter) (i j : ℕ) (l : List Letter) → IsInOrder Before l → i < j → j < length l → Before (letter_at d i l) (letter_at d j l)
 at_in_order d i j [] o lt h = absurd (omega (arith, h))
 at_in_order d i zero (x ∷ l) o lt h = absurd (omega (arith, lt))
 at_in_order d zero (suc j) (x ∷ l) o lt h = o.0 (letter_at d j l) (mem_at d j l (omega (arith, h)))

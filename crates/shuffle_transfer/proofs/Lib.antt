@@ -9,6 +9,7 @@ pub mod Independent
 pub mod InsertionsToInstances
 pub mod InstancesToInsertions
 pub mod Jacobi
+pub mod LabelCounts
 pub mod Labels
 pub mod NormalForms
 pub mod NormalTrees
@@ -28,4 +29,5 @@ pub mod TransferLaw
 pub mod TreesOfShuffleTrees
 pub mod Turned
 pub mod Vanish
+pub mod WordCounts
 pub mod Words

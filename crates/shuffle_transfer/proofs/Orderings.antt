@@ -1,19 +1,20 @@
 -- The list of all permutations, in lexicographic order.
-use Rattle.std.proofs.Common.{◌≡◌, ℕ, zero, suc, ◌+◌, ◌<◌, ◌≤◌, List, [], ◌∷◌, map, length, refl, sym, ◌∙◌, ap, arith, subst, inl, inr, ◌⊎◌}
+use Rattle.std.proofs.Common.{◌≡◌, ℕ, zero, suc, ◌+◌, ◌<◌, ◌≤◌, List, [], ◌∷◌, map, length, refl, sym, ◌∙◌, ap, arith, subst, inl, inr}
 use Rattle.std.specs.Prelude.{flat_map}
-use mathlib.Core.List.{◌++◌}
 use Rattle.std.specs.declared.cmp.Ordering.TheVariants.{Less}
 use Rattle.std.specs.Ordering.{nat_cmp}
 use Rattle.std.specs.Cmp.Lexicographic.{slice_cmp}
 use Rattle.modular_sums.specs.Lists.{Mem, Distinct, Rises}
-use Rattle.modular_sums.proofs.Lists.{mem_either, mem_of_map, mem_of_flat}
+use Rattle.modular_sums.proofs.Lists.{mem_of_map, mem_of_flat}
 use Rattle.shuffle_insertions.specs.Listing.{upto}
 use Rattle.labelled_trees.specs.Insertions.{listed}
 use Rattle.labelled_trees.proofs.Insertions.{length-listed}
 use Rattle.shuffle_insertions.proofs.Counting.{length-upto}
 use Rattle.shuffle_insertions.proofs.Upto.{upto_mem, upto_rises, in_upto}
 use Rattle.shuffle_insertions.proofs.Comparing.{less_nat, same_nat, then_first, then_second}
-use Rattle.shuffle_transfer.specs.Orderings.{IsOrdering, entry, Pick, behind, picks, permutations, orderings, Ascending}
+use Rattle.shuffle_places.specs.PlaceOrder.{IsInOrder, Precedes, AreRising}
+use Rattle.shuffle_places.proofs.PlaceOrder.{in_order-append, in_order_distinct, not_before_itself}
+use Rattle.shuffle_transfer.specs.Orderings.{IsOrdering, entry, Pick, behind, picks, permutations, orderings}
 use Rattle.shuffle_transfer.specs.Laws.{AllOrderings}
 use Rattle.shuffle_transfer.proofs.Permutes.{mem_of_behind, picked, Permutes, pick_mem, rest_rises, permutes_within, permutes_distinct, permutes_length, permutes_of, mem_permutations, permutations_mem}
 
@@ -31,15 +32,7 @@ is_ordering m v h =
 
 -- ---- lexicographic order
 
-pub ascending_append : (k l : List (List ℕ)) → Ascending k → Ascending l → ((v w : List ℕ) → Mem v k → Mem w l → slice_cmp nat_cmp v w ≡ Less) → Ascending (k ++ l)
-ascending_append [] l a b h = b
-ascending_append (v ∷ k) l a b h = (λ w m. go w (mem_either w k l m), ascending_append k l a.1 b (λ u w m n. h u w (inr m) n))
-  where
-    go : (w : List ℕ) → Mem w k ⊎ Mem w l → slice_cmp nat_cmp v w ≡ Less
-    go w (inl m) = a.0 w m
-    go w (inr m) = h v w (inl refl) m
-
-ascending_map : (x : ℕ) (l : List (List ℕ)) → Ascending l → Ascending (map (λ w. x ∷ w) l)
+ascending_map : (x : ℕ) (l : List (List ℕ)) → AreRising l → AreRising (map (λ w. x ∷ w) l)
 ascending_map x [] h = tt
 ascending_map x (v ∷ l) h = (
   λ w m. let k = mem_of_map (λ u. x ∷ u) w l m in
@@ -48,8 +41,7 @@ ascending_map x (v ∷ l) h = (
 )
 
 abbrev FirstsRise : List Pick → Type 0
-FirstsRise [] = Unit {0}
-FirstsRise (p ∷ l) = ((q : Pick) → Mem q l → p.first < q.first) × FirstsRise l
+FirstsRise = IsInOrder (λ p q. p.first < q.first)
 
 behind_rises : (x : ℕ) (l : List Pick) → FirstsRise l → FirstsRise (behind x l)
 behind_rises x [] h = tt
@@ -63,9 +55,9 @@ picks_rise (x ∷ l) h = (
   behind_rises x (picks l) (picks_rise l h.1),
 )
 
-ascending_flat : (f : Pick → List (List ℕ)) (l : List Pick) → FirstsRise l → ((p : Pick) → Mem p l → Ascending (f p)) → Ascending (flat_map (λ p. map (λ w. p.first ∷ w) (f p)) l)
+ascending_flat : (f : Pick → List (List ℕ)) (l : List Pick) → FirstsRise l → ((p : Pick) → Mem p l → AreRising (f p)) → AreRising (flat_map (λ p. map (λ w. p.first ∷ w) (f p)) l)
 ascending_flat f [] h g = tt
-ascending_flat f (p ∷ l) h g = ascending_append (map (λ w. p.first ∷ w) (f p)) (flat_map (λ p. map (λ w. p.first ∷ w) (f p)) l)
+ascending_flat f (p ∷ l) h g = in_order-append Precedes (map (λ w. p.first ∷ w) (f p)) (flat_map (λ p. map (λ w. p.first ∷ w) (f p)) l)
     (ascending_map p.first (f p) (g p (inl refl))) (ascending_flat f l h.1 (λ q m. g q (inr m)))
     (λ v w m n.
     let a = mem_of_map (λ u. p.first ∷ u) v (f p) m in
@@ -74,17 +66,12 @@ ascending_flat f (p ∷ l) h g = ascending_append (map (λ w. p.first ∷ w) (f 
     subst (λ z. slice_cmp nat_cmp z w ≡ Less) (sym a.2) (subst (λ z. slice_cmp nat_cmp (p.first ∷ a.0) z ≡ Less) (sym c.2)
     (then_first (nat_cmp p.first b.0.first) (slice_cmp nat_cmp a.0 c.0) (less_nat p.first b.0.first (h.0 b.0 b.1)))))
 
-ascending_permutations : (k : ℕ) (l : List ℕ) → Rises l → Ascending (permutations k l)
+ascending_permutations : (k : ℕ) (l : List ℕ) → Rises l → AreRising (permutations k l)
 ascending_permutations zero l h = (λ w m. absurd m, tt)
 ascending_permutations (suc k) l h = ascending_flat (λ p. permutations k p.others) (picks l) (picks_rise l h) (λ p m. ascending_permutations k p.others (rest_rises p.first l p.others (picked p l m) h))
 
-itself_less : (v : List ℕ) → slice_cmp nat_cmp v v ≡ Less → ⊥
-itself_less [] h = absurd (cc h)
-itself_less (x ∷ v) h = let e : slice_cmp nat_cmp (x ∷ v) (x ∷ v) ≡ slice_cmp nat_cmp v v = then_second (nat_cmp x x) (slice_cmp nat_cmp v v) (slice_cmp nat_cmp v v) (same_nat x x refl) refl in itself_less v (sym e ∙ h)
-
-pub ascending_distinct : (l : List (List ℕ)) → Ascending l → Distinct l
-ascending_distinct [] h = tt
-ascending_distinct (v ∷ l) h = (λ m. itself_less v (h.0 v m), ascending_distinct l h.1)
+pub ascending_distinct : (l : List (List ℕ)) → AreRising l → Distinct l
+ascending_distinct l h = in_order_distinct Precedes not_before_itself l h
 
 pub all_orderings : AllOrderings
 all_orderings m =

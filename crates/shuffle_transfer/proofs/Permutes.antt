@@ -66,6 +66,14 @@ pub length_rest : (x : ℕ) (l r : List ℕ) → Picked x l r → length l ≡ s
 length_rest x l r now = refl
 length_rest x l r (later y {l = k} {r = s} h) = ap suc (length_rest x k s h)
 
+length_behind : (x : ℕ) (l : List Pick) → length (behind x l) ≡ length l
+length_behind x [] = refl
+length_behind x (p ∷ l) = ap suc (length_behind x l)
+
+pub length_picks : (l : List ℕ) → length (picks l) ≡ length l
+length_picks [] = refl
+length_picks (x ∷ l) = ap suc (length_behind x (picks l) ∙ length_picks l)
+
 gone_rest : (x : ℕ) (l r : List ℕ) → Picked x l r → Rises l → Mem x r → ⊥
 gone_rest x l r now h m = let k = h.0 x m in absurd (omega (arith, k))
 gone_rest x l r (later y {l = k} {r = s} p) h (inl e) = let o = h.0 x (pick_mem x k s p) in absurd (omega (arith, o, e))

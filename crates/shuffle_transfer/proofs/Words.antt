@@ -7,7 +7,8 @@ use Rattle.operad_ideals.specs.Parts.{Kind, symmetric, skew, free, Part, plus, t
 use Rattle.operad_ideals.specs.Sorting.{sort_by, sort_part, part_sign, sort_parts, parts_sign}
 use Rattle.operad_ideals.proofs.SortedLists.{Apart, Ascends, every_weaker, tested, every_in, in_itself, sort_by-ascends, sort_by-same, order_sign-ascending, apart-take, apart-drop}
 use Rattle.operad_ideals.proofs.SortedParts.{every_sort_parts, length-sort_part, length-sort_parts}
-use Rattle.shuffle_transfer.specs.Orderings.{IsOrdering, orderings, Ascending}
+use Rattle.shuffle_places.specs.PlaceOrder.{AreRising}
+use Rattle.shuffle_transfer.specs.Orderings.{IsOrdering, orderings}
 use Rattle.shuffle_transfer.specs.Labels.{rises, part_rises, parts_rise, rising_words, words_of}
 use Rattle.shuffle_transfer.proofs.Orderings.{all_orderings}
 use Rattle.shuffle_transfer.proofs.Ranks.{sort_mem, ordering_apart}
@@ -153,15 +154,15 @@ mem_rising ps (v ∷ ws) w m h = go (parts_rise ps v) refl m (λ i. mem_rising p
     go false e (inl f) ih = absurd (let k : true ≡ false = sym h ∙ ap (parts_rise ps) f ∙ e in cc)
     go false e (inr i) ih = ih i
 
-rising_ascending : (ps : List Part) (ws : List (List ℕ)) → Ascending ws → Ascending (rising_words ps ws)
+rising_ascending : (ps : List Part) (ws : List (List ℕ)) → AreRising ws → AreRising (rising_words ps ws)
 rising_ascending ps [] h = tt
 rising_ascending ps (v ∷ ws) h = go (parts_rise ps v) (rising_ascending ps ws h.1)
   where
-    go : (b : Bool) → Ascending (rising_words ps ws) → Ascending (cond b (v ∷ rising_words ps ws) (rising_words ps ws))
+    go : (b : Bool) → AreRising (rising_words ps ws) → AreRising (cond b (v ∷ rising_words ps ws) (rising_words ps ws))
     go true k = (λ w m. h.0 w (rising_mem ps ws w m).0, k)
     go false k = k
 
-pub words_ascend : (ps : List Part) → Ascending (words_of ps)
+pub words_ascend : (ps : List Part) → AreRising (words_of ps)
 words_ascend ps = rising_ascending ps (orderings (total ps)) (all_orderings (total ps)).0
 
 pub mem_words : (ps : List Part) (w : List ℕ) → IsOrdering (total ps) w → parts_rise ps w ≡ true → Mem w (words_of ps)

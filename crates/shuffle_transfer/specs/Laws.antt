@@ -18,13 +18,14 @@ use Rattle.operad_ideals.specs.Sorting.{spelled, spelled_sign}
 use Rattle.operad_ideals.specs.Laws.{arity}
 use Rattle.operad_ideals.specs.Presentations.{Presentation, arity_of, without_relations}
 use Rattle.operad_ideals.specs.Ideals.{InIdeal}
-use Rattle.shuffle_transfer.specs.Orderings.{IsOrdering, orderings, Ascending}
+use Rattle.shuffle_places.specs.PlaceOrder.{AreRising}
+use Rattle.shuffle_transfer.specs.Orderings.{IsOrdering, orderings}
 use Rattle.shuffle_transfer.specs.Labels.{parts_rise, labels, label, gen, word, inputs_of, shuffle_form, symmetric_tree}
 use Rattle.shuffle_transfer.specs.Transfer.{shuffled}
 
 -- The list has all permutations of 1 to m, each once, in lexicographic order.
 abbrev pub AllOrderings : Type 0
-AllOrderings = (m : ℕ) → Ascending (orderings m) × Distinct (orderings m) × ((v : List ℕ) → Mem v (orderings m) ↔ IsOrdering m v)
+AllOrderings = (m : ℕ) → AreRising (orderings m) × Distinct (orderings m) × ((v : List ℕ) → Mem v (orderings m) ↔ IsOrdering m v)
 
 -- the word w is one of generator g
 pub record IsWordOf (generators : List (List Part)) (g : ℕ) (w : List ℕ) : Type 0 where

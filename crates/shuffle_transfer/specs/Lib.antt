@@ -1,4 +1,5 @@
 pub mod GroebnerBases
+pub mod LabelCounts
 pub mod Labels
 pub mod Laws
 pub mod NormalLaws

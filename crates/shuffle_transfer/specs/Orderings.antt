@@ -1,9 +1,6 @@
 -- The permutations of 1 to m, as lists.
 use Rattle.std.specs.Prelude.{ℕ, ◌≡◌, ◌<◌, ◌≤◌, List, [], ◌∷◌, map, flat_map, length}
 use Rattle.std.proofs.Common.{zero, suc}
-use Rattle.std.specs.declared.cmp.Ordering.TheVariants.{Less}
-use Rattle.std.specs.Ordering.{nat_cmp}
-use Rattle.std.specs.Cmp.Lexicographic.{slice_cmp}
 use Rattle.modular_sums.specs.Lists.{Mem, Distinct, nth_or}
 use Rattle.shuffle_insertions.specs.Listing.{upto}
 
@@ -40,8 +37,3 @@ permutations (suc k) l = flat_map (λ p. map (λ w. p.first ∷ w) (permutations
 -- All permutations of 1 to m; the law `all_relabellings` says: each once, in lexicographic order.
 abbrev pub orderings : ℕ → List (List ℕ)
 orderings m = permutations m (upto m)
-
--- Lexicographic order: each list is less than those after it, by the first numbers that differ.
-abbrev pub Ascending : List (List ℕ) → Type 0
-Ascending [] = Unit {0}
-Ascending (v ∷ l) = ((w : List ℕ) → Mem w l → slice_cmp nat_cmp v w ≡ Less) × Ascending l

@@ -1,6 +1,7 @@
 //! From symmetric to shuffle operads and back: definitions and laws, without code.
 #![tactic(auto)]
 
+ghost use Rattle.shuffle_transfer.specs.LabelCounts.{LabelsCounted};
 ghost use Rattle.shuffle_transfer.specs.Laws.{AllOrderings, Back, Forth, FramesBack, Kernel, LabelsAreWords, Spelling};
 ghost use Rattle.shuffle_transfer.specs.NormalLaws.{NormalFormsByLists, NormalTreesListed};
 ghost use Rattle.shuffle_transfer.specs.Transfer.{Transfer};
@@ -15,6 +16,11 @@ pub fn all_relabellings()
 /// Law: labels stand one to one for the generators with their words.
 pub fn labels_are_words()
     ensures law { LabelsAreWords }
+{}
+
+/// Law: a generator of k inputs has k! labels divided by the factorials of the sizes of its symmetric and skew parts.
+pub fn labels_counted()
+    ensures law { LabelsCounted }
 {}
 
 /// Law: shuffle forms of labelled trees are the shuffle trees over the labels; the way back gives the sorted spelling;

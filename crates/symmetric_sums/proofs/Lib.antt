@@ -1,5 +1,6 @@
 pub mod Decisions
 pub mod EqualTerms
+pub mod Examples
 pub mod Expansions
 pub mod FormTrees
 pub mod Joining
@@ -8,6 +9,7 @@ pub mod Members
 pub mod Numberings
 pub mod OneForms
 pub mod PlacedIdeals
+pub mod PlainInstances
 pub mod SpelledTerms
 pub mod SymmetryRules
 pub mod UseMembers

@@ -3,6 +3,7 @@ pub mod Collecting
 pub mod Expanding
 pub mod Instances
 pub mod Membership
+pub mod PlainInstances
 pub mod Symmetries
 pub mod Terms
 pub mod Uses

@@ -6,6 +6,7 @@ ghost use Rattle.symmetric_trees.specs.Trees.{IsLabelled};
 ghost use Rattle.symmetric_sums.specs.Terms.{FitsOver, HaveArity, HaveResidues, terms_of};
 ghost use Rattle.symmetric_sums.specs.Instances.{IsExpanded, IsExpandedTo, rule_element, sum_at};
 ghost use Rattle.symmetric_sums.specs.Membership.{InstancesAreMembers};
+ghost use Rattle.symmetric_sums.specs.PlainInstances.{ExpandAnswersInstances};
 ghost use Rattle.symmetric_sums.specs.Expanding.{HasPlace, IsFilled};
 
 use crate::symmetry::symmetry_rule;
@@ -230,4 +231,11 @@ fn holes(tree: &Tree) -> u8
 /// an element in the ideal.
 pub fn instances_are_members()
     ensures law { InstancesAreMembers }
+{}
+
+/// Law: an instance of a relation or of a symmetry rule is valid exactly where it is an instance of the definitions around a
+/// rule with terms, and its element is that instance's; so what `expand` answers is the element of an instance of the
+/// definitions, and where it refuses there is none.
+pub fn expand_answers_instances()
+    ensures law { ExpandAnswersInstances }
 {}

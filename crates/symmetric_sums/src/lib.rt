@@ -13,7 +13,8 @@ mod term;
 pub use collecting::{collected, collected_forms_decide, one_collected_form};
 pub use comparing::have_one_form;
 pub use expanding::{
-    ExpandFail, Expanded, expand, expand_around, expand_with_arity, instances_are_members,
+    ExpandFail, Expanded, expand, expand_answers_instances, expand_around, expand_with_arity,
+    instances_are_members,
 };
 pub use instance::{Instance, Rule};
 pub use sum::{Sum, SumFail};
