@@ -47,8 +47,8 @@ pub struct Inputs {
 // How many generators may stand one inside the other.
 const MOST_NESTED: u8 = 8;
 
-// How many leaves a tree may have.
-const MOST_LEAVES: u8 = 9;
+/// How many leaves a tree may have.
+pub const MOST_LEAVES: u8 = 9;
 
 const GREATEST_LEAF: u64 = 99;
 
