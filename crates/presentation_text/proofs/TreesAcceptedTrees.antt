@@ -177,10 +177,10 @@ none_held false false true kind_a kind_b kind_c left x y e = absurd cc
 none_held false false false kind_a kind_b kind_c left x y e = (record { first = refl; second = refl; third = refl }, cc)
 
 pub no_rows : (a b c : Bool) (kind_a kind_b kind_c : DocKind) → NoneOfThree a b c → first_row ((a, kind_a) ∷ (b, kind_b) ∷ (c, kind_c) ∷ []) ≡ None
-no_rows true b c kind_a kind_b kind_c none = let f = none.first in absurd cc
-no_rows false true c kind_a kind_b kind_c none = let f = none.second in absurd cc
-no_rows false false true kind_a kind_b kind_c none = let f = none.third in absurd cc
-no_rows false false false kind_a kind_b kind_c none = refl
+no_rows true b c kind_a kind_b kind_c h = let f = h.first in absurd cc
+no_rows false true c kind_a kind_b kind_c h = let f = h.second in absurd cc
+no_rows false false true kind_a kind_b kind_c h = let f = h.third in absurd cc
+no_rows false false false kind_a kind_b kind_c h = refl
 
 not_le : (a b : ℕ) → nat_le a b ≡ false → b < a
 not_le a b e = grind (arith, nat_tests)

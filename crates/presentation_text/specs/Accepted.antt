@@ -1,5 +1,5 @@
 -- Which tokens reading accepts: exactly those of the grammar, within the limits.
-use Rattle.std.specs.Prelude.{ℕ, ◌≡◌, ◌≢◌, ◌≤◌, ◌↔◌, Bool, true, false, List, [], ◌∷◌, ◌++◌, length, Option, Some, None, Ok, Err}
+use Rattle.std.specs.Prelude.{ℕ, ◌≡◌, ◌≢◌, ◌≤◌, ◌↔◌, Bool, true, false, List, [], ◌∷◌, ◌++◌, length, Option, Some, Ok, Err}
 use Rattle.std.specs.List.{All}
 use Rattle.labelled_trees.specs.Trees.{Tree, leaf, node}
 use Rattle.labelled_trees.specs.Leaves.{AllLeaves, leaf_count}
