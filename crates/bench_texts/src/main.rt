@@ -3,12 +3,9 @@
 #![tactic(auto)]
 
 use outside_io::{RealSource, read_all};
-use presentation_text::{print_document, read_document};
+use presentation_text::{MOST_BYTES, print_document, read_document};
 use std::alloc::{AllocError, Global};
 use std::{env, io};
-
-// The most bytes of a document.
-const MOST_BYTES: u64 = 16_777_216;
 
 // The number that a word says; 0 where it says none.
 fn number(word: Option<&String>) -> u8 {

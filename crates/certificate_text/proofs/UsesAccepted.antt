@@ -6,7 +6,7 @@ use Rattle.labelled_trees.specs.Trees.{Tree}
 use Rattle.symmetric_trees.specs.Generators.{IsTable}
 use Rattle.symmetric_trees.specs.declared.generators.Generator.{Generator}
 use Rattle.symmetric_sums.specs.declared.instance.Rule.{Rule}
-use Rattle.presentation_text.specs.Accepted.{ElementsAreAccepted, TreesAreAccepted}
+use Rattle.presentation_text.specs.Accepted.{ElementsAreAccepted, NotMarked, TreesAreAccepted}
 use Rattle.presentation_text.specs.ElementReadings.{element_in}
 use Rattle.presentation_text.specs.Elements.{element_tokens, written_sum}
 use Rattle.presentation_text.specs.Readings.{end_in, mark_in}
@@ -23,7 +23,7 @@ use Rattle.presentation_text.proofs.LineFormsRead.{both_read, one_value}
 use Rattle.certificate_text.proofs.TokensRead.{cited_read, cited_there, coefficient_read, coefficient_there, minus}
 use Rattle.certificate_text.proofs.UseReading.{no_input}
 use Rattle.presentation_text.proofs.TreesAcceptedTrees.{mark_in-front}
-use Rattle.presentation_text.proofs.AcceptedLines.{ends_whole}
+use Rattle.presentation_text.proofs.AcceptedLines.{ends_whole, not_other}
 use Rattle.certificate_text.proofs.PrintedUses.{IsInput}
 
 -- ---- sums
@@ -55,6 +55,14 @@ module _ (elements : ElementsAreAccepted) (generators : List Generator) (table :
 
 -- ---- inputs
 
+-- no '*' stands where ';' does
+no_star : (rest : List Token) → NotMarked 42 (Byte 59 ∷ rest)
+no_star rest = not_other 59 42 (λ e. omega (arith, e))
+
+inputs_no_star : (generators : List Generator) (inputs : List (Tree ℕ)) → NotMarked 42 (inputs_tokens generators inputs)
+inputs_no_star generators [] = tt
+inputs_no_star generators (t ∷ ts) = no_star (tree_tokens generators t ++ inputs_tokens generators ts)
+
 module _ (trees : TreesAreAccepted) (generators : List Generator) (table : IsTable generators) where
   inputs_told : (most : ℕ) (ts : List Token) (inputs : List (Tree ℕ)) → inputs_in most generators ts ≡ Ok inputs → (ts ≡ inputs_tokens generators inputs) × All (IsInput generators) inputs
   unfolding inputs_in
@@ -81,7 +89,7 @@ module _ (trees : TreesAreAccepted) (generators : List Generator) (table : IsTab
   inputs_there (suc most) (t ∷ ts) l h =
       let others = inputs_tokens generators ts in
       let there : free_tree_in generators (tree_tokens generators t ++ others) ≡ Ok (t, others) =
-      (trees generators table (any_arity true) (tree_tokens generators t ++ others) others t).1 (refl, All-head (IsInput generators) t ts h) in
+      (trees generators table (any_arity true) (tree_tokens generators t ++ others) others t).1 (refl, All-head (IsInput generators) t ts h, λ _. inputs_no_star generators ts) in
       let further = inputs_there most ts (omega (arith, length-append (tree_tokens generators t) others)) (All-tail (IsInput generators) t ts h) in
       rw (there, further) refl
 
@@ -124,10 +132,11 @@ module _ (trees : TreesAreAccepted) (generators : List Generator) (table : IsTab
     use_read h =
         let w = h.written in
         let inputs = inputs_tokens generators w.inputs in
+        let behind_mark = Word (if w.cites_step then codes "step" else codes "rel") ∷ (Number w.cited ∷ inputs) in
         let behind = behind_tokens generators w.cites_step w.cited w.inputs in
         let coef = ap coefficient_in h.spelled ∙ coefficient_there w.negative w.number (Byte 59 ∷ (tree_tokens generators w.context ++ behind)) in
         let context : free_tree_in generators (tree_tokens generators w.context ++ behind) ≡ Ok (w.context, behind) =
-        (trees generators table (any_arity true) (tree_tokens generators w.context ++ behind) behind w.context).1 (refl, h.trees.context) in
+        (trees generators table (any_arity true) (tree_tokens generators w.context ++ behind) behind w.context).1 (refl, h.trees.context, λ _. no_star behind_mark) in
         let cited = cited_there w.cites_step w.cited inputs in
         let all = inputs_there (length inputs) w.inputs (omega arith) h.trees.inputs in
         rw (coef, context, cited, all) (ap Ok (sym h.item_is))

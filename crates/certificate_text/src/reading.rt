@@ -14,7 +14,9 @@ ghost use Rattle.certificate_text.specs.Tails.{AreReadAs, IsReadyBlock, IsTailRe
 use crate::block::Block;
 use crate::cert_fail::{CertFail, ReadCertFail};
 use crate::places::{Place, Progress, follow};
-use presentation_text::{DocKind, Document, PartFail, Token, counts, next_line, tokens};
+use presentation_text::{
+    DocKind, Document, MOST_BYTES, PartFail, Token, counts, next_line, tokens,
+};
 use sqlite_items::Items;
 use std::alloc::Global;
 
@@ -102,7 +104,7 @@ pub fn read_blocks(
     bytes: &[u8],
     document: &Document,
 ) -> Result<Items<Block>, ReadCertFail>
-    requires short { length bytes.now ≤ 16777216 }
+    requires short { length bytes.now ≤ MOST_BYTES }
     requires read { IsReadAs bytes.now document.now }
     ensures blocks { MatchResult result (AreReadAs bytes.now document.now) (IsTailRefused bytes.now document.now) }
     ensures ready { IfOk result (All (IsReadyBlock document.now.field document.now.gens)) }

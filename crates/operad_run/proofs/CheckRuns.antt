@@ -2,13 +2,13 @@
 use Rattle.std.proofs.Common.{ℕ, ◌++◌, inl, inr, List, ◌∷◌, refl, subst}
 use Rattle.operad_answers.specs.Verdicts.{Holds}
 use Rattle.operad_run.specs.CheckedTexts.{IsReadWithBlocks, IsFirstRefusedLine, IsAccepted, IsCheckRefusal, CheckTells}
-use Rattle.operad_run.specs.Runs.{Outside, Came, IsWrittenOut, Ends}
+use Rattle.operad_run.specs.Runs.{Outside, Came, IsWrittenOut, Ends, SaysUnread}
 use Rattle.operad_run.specs.CheckRuns.{IsMemberWord, CheckSays, CheckRunIsComplete, IsCheckRun}
 use Rattle.operad_run.specs.declared.status.Status.{Status}
 use Rattle.operad_run.specs.declared.status.Status.TheVariants.{Done, Refused, Usage, Document, Limit, Budget, ReadFault, WriteFault, NoMemory}
 use Rattle.operad_answers.proofs.Bounds.{in_the_middle}
 use Rattle.operad_run.proofs.OneVerdict.{never_faulty, all_hold_over}
-use Rattle.operad_run.proofs.Runs.{told_ends, same_bytes, not_too_many}
+use Rattle.operad_run.proofs.Runs.{told_ends, ends_more, same_bytes, not_too_many}
 
 -- a text whose blocks hold is accepted, and one whose blocks don't is refused
 complete_from_ends : (status : Status) (words : List (List ℕ)) (o : Outside) → Ends (IsMemberWord words) (CheckSays words o) status o → CheckRunIsComplete status words o
@@ -59,3 +59,20 @@ says_of words o bytes Budget text w came t = absurd t
 says_of words o bytes ReadFault text w came t = absurd t
 says_of words o bytes WriteFault text w came t = absurd t
 says_of words o bytes NoMemory text w came t = absurd t
+
+-- a run that ends without bytes
+unread_is_said : (words : List (List ℕ)) (o : Outside) → IsMemberWord words → (status : Status) (text : List ℕ) → SaysUnread o status text → CheckSays words o status text
+unread_is_said words o word ReadFault text says = (word, says.0, says.1)
+unread_is_said words o word Limit text says = (word, says.0, says.1)
+unread_is_said words o word Done text says = absurd says
+unread_is_said words o word Refused text says = absurd says
+unread_is_said words o word Usage text says = absurd says
+unread_is_said words o word Document text says = absurd says
+unread_is_said words o word Budget text says = absurd says
+unread_is_said words o word WriteFault text says = absurd says
+unread_is_said words o word NoMemory text says = absurd says
+
+pub unread_is_run : (status : Status) (words : List (List ℕ)) (o : Outside) → IsMemberWord words → Ends (Unit {0}) (SaysUnread o) status o → IsCheckRun status words o
+unread_is_run status words o word unread =
+    let ends = ends_more (SaysUnread o) (CheckSays words o) (λ _. word) (unread_is_said words o word) status o unread in
+    record { ends = ends; complete = complete_from_ends status words o ends }

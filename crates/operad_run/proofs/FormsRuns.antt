@@ -2,12 +2,12 @@
 use Rattle.std.proofs.Common.{◌≡◌, ℕ, ◌+◌, inl, inr, ⊎_elim, List, [], get_or, refl, ap, sym, ◌∙◌, subst, arith}
 use Rattle.operad_run.specs.Commands.{IsForms, IsCommand}
 use Rattle.operad_run.specs.FormsAnswers.{FormsTells}
-use Rattle.operad_run.specs.Runs.{Outside, Came, IsWrittenOut, Ends}
+use Rattle.operad_run.specs.Runs.{Outside, Came, IsWrittenOut, Ends, SaysUnread}
 use Rattle.operad_run.specs.FormsRuns.{FormsSays, FormsRunIsComplete, IsFormsRun}
 use Rattle.operad_run.specs.declared.status.Status.{Status}
 use Rattle.operad_run.specs.declared.status.Status.TheVariants.{Done, Refused, Usage, Document, Limit, Budget, ReadFault, WriteFault, NoMemory}
 use Rattle.operad_run.proofs.OneTelling.{free_or_refused, free_or_wide}
-use Rattle.operad_run.proofs.Runs.{told_ends, same_bytes, not_too_many}
+use Rattle.operad_run.proofs.Runs.{told_ends, ends_more, same_bytes, not_too_many}
 
 one_arity : (words : List (List ℕ)) (n m : ℕ) → IsForms words n → IsForms words m → n ≡ m
 one_arity words n m h g =
@@ -52,4 +52,21 @@ pub told_is_run : (meant status : Status) (words : List (List ℕ)) (o : Outside
     → IsWrittenOut meant text status o.taken o.taken_now o.write_faults o.write_faults_now → IsFormsRun status words o
 told_is_run meant status words o text says contents =
     let ends = told_ends (IsCommand words) (FormsSays words o) meant status o text (record { write = λ t s. s; memory = λ t s. s }) says contents in
+    record { ends = ends; complete = complete_from_ends status words o ends }
+
+-- a run that ends without bytes
+unread_is_said : (words : List (List ℕ)) (o : Outside) → IsCommand words → (status : Status) (text : List ℕ) → SaysUnread o status text → FormsSays words o status text
+unread_is_said words o command ReadFault text says = (command, says.0, says.1)
+unread_is_said words o command Limit text says = inl (command, says.0, says.1)
+unread_is_said words o command Done text says = absurd says
+unread_is_said words o command Refused text says = absurd says
+unread_is_said words o command Usage text says = absurd says
+unread_is_said words o command Document text says = absurd says
+unread_is_said words o command Budget text says = absurd says
+unread_is_said words o command WriteFault text says = absurd says
+unread_is_said words o command NoMemory text says = absurd says
+
+pub unread_is_run : (status : Status) (words : List (List ℕ)) (o : Outside) → IsCommand words → Ends (Unit {0}) (SaysUnread o) status o → IsFormsRun status words o
+unread_is_run status words o command unread =
+    let ends = ends_more (SaysUnread o) (FormsSays words o) (λ _. command) (unread_is_said words o command) status o unread in
     record { ends = ends; complete = complete_from_ends status words o ends }

@@ -3,10 +3,11 @@ use Rattle.std.specs.Prelude.{ℕ, ◌≡◌, ◌≤◌, ◌⊎◌, List, [], �
 use Rattle.std.specs.List.{All}
 use Rattle.outside_io.specs.Causes.{Rose}
 use Rattle.presentation_text.specs.declared.document.Document as document_of
+use Rattle.presentation_text.specs.declared.presentations.TheConstants.{MOST_BYTES}
 use Rattle.certificate_text.specs.declared.block.Block.{Block}
 use Rattle.operad_answers.specs.Verdicts.{Holds}
 use Rattle.operad_run.specs.CheckedTexts.{IsReadWithBlocks, CheckTells}
-use Rattle.operad_run.specs.Runs.{Outside, Came, most_bytes, IsMisused, IsUnreadable, IsTooLong, Ends}
+use Rattle.operad_run.specs.Runs.{Outside, Came, IsMisused, IsUnreadable, IsTooLong, Ends}
 use Rattle.operad_run.specs.declared.status.Status.{Status}
 use Rattle.operad_run.specs.declared.status.Status.TheVariants.{Done, Refused, Usage, Document, Limit, ReadFault, NoMemory}
 
@@ -28,7 +29,7 @@ CheckSays words o _ text = ⊥
 -- blocks hold and refused where one doesn't, or memory ran out.
 abbrev pub CheckRunIsComplete : Status → List (List ℕ) → Outside → Type 0
 CheckRunIsComplete status words o = (bytes : List ℕ) (document : document_of.Document) (blocks : List Block) → IsMemberWord words
-    → o.left ≡ Some bytes → length bytes ≤ most_bytes → IsReadWithBlocks bytes document blocks
+    → o.left ≡ Some bytes → length bytes ≤ MOST_BYTES → IsReadWithBlocks bytes document blocks
     → (Rose o.read_faults o.read_faults_now → ⊥) → (Rose o.write_faults o.write_faults_now → ⊥)
     → (All (Holds document) blocks → (status ≡ Done) ⊎ (status ≡ NoMemory))
     × ((All (Holds document) blocks → ⊥) → (status ≡ Refused) ⊎ (status ≡ NoMemory))

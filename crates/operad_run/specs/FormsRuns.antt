@@ -3,10 +3,11 @@ use Rattle.std.specs.Prelude.{ℕ, ◌≡◌, ◌≤◌, ◌⊎◌, List, length
 use Rattle.std.specs.List.{All}
 use Rattle.outside_io.specs.Causes.{Rose}
 use Rattle.presentation_text.specs.declared.document.Document as document_of
+use Rattle.presentation_text.specs.declared.presentations.TheConstants.{MOST_BYTES}
 use Rattle.operad_run.specs.Commands.{IsForms, IsCommand}
 use Rattle.operad_answers.specs.Limits.{IsAskWithin}
 use Rattle.operad_run.specs.FormsAnswers.{IsFreeDocument, FormsTells}
-use Rattle.operad_run.specs.Runs.{Outside, Came, most_bytes, IsMisused, IsUnreadable, IsTooLong, Ends}
+use Rattle.operad_run.specs.Runs.{Outside, Came, IsMisused, IsUnreadable, IsTooLong, Ends}
 use Rattle.operad_run.specs.declared.status.Status.{Status}
 use Rattle.operad_run.specs.declared.status.Status.TheVariants.{Done, Usage, Document, Limit, ReadFault, NoMemory}
 
@@ -23,7 +24,7 @@ FormsSays words o _ text = ⊥
 -- greater arity, and no count of faults rose, the run is done, or memory ran out.
 abbrev pub FormsRunIsComplete : Status → List (List ℕ) → Outside → Type 0
 FormsRunIsComplete status words o = (n : ℕ) (bytes : List ℕ) (document : document_of.Document) → IsForms words n
-    → o.left ≡ Some bytes → length bytes ≤ most_bytes → IsFreeDocument bytes document → All (λ ask. IsAskWithin n ask.kind) document.asks
+    → o.left ≡ Some bytes → length bytes ≤ MOST_BYTES → IsFreeDocument bytes document → All (λ ask. IsAskWithin n ask.kind) document.asks
     → (Rose o.read_faults o.read_faults_now → ⊥) → (Rose o.write_faults o.write_faults_now → ⊥) → (status ≡ Done) ⊎ (status ≡ NoMemory)
 
 -- what is proved of a run

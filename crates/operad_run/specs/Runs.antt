@@ -5,6 +5,7 @@ use Rattle.std.specs.Io.KnownBytes.{Consumes, IsAtEnd}
 use Rattle.outside_io.specs.Causes.{Rose}
 use Rattle.outside_io.specs.Taken.{Takes}
 use Rattle.presentation_text.specs.declared.kinds.DocKind.{DocKind}
+use Rattle.presentation_text.specs.declared.presentations.TheConstants.{MOST_BYTES}
 use Rattle.presentation_text.specs.declared.kinds.DocKind.TheVariants.{Header, Directive, Missing, FieldUnknown, OrderUnknown, NameBad, NameTaken, ArityOut, PartsOut, TooManyGens, Syntax, NameUnknown, InputCount, Labels, MixedArity, TooDeep, TooWide, NumberLong, TooManyRelations, Block, WeightTaken, WeightOut, NotBuilt}
 use Rattle.operad_answers.specs.Parts.{line}
 use Rattle.operad_run.specs.declared.status.Status.{Status}
@@ -21,10 +22,6 @@ pub record Outside : Type 0 where
   pub write_faults : ℕ
   pub write_faults_now : ℕ
 
--- the most bytes that a document has
-abbrev pub most_bytes : ℕ
-most_bytes = 16777216
-
 -- ---- what came from the source
 
 abbrev pub IsUnread : Outside → Type 0
@@ -34,14 +31,14 @@ IsUnread o = (o.left_now ≡ o.left) × (o.read_faults_now ≡ o.read_faults)
 pub record Came (o : Outside) (bytes : List ℕ) : Type 0 where
   pub given : Consumes o.left o.left_now bytes
   pub all : IsAtEnd o.left_now
-  pub few : length bytes ≤ most_bytes
+  pub few : length bytes ≤ MOST_BYTES
   pub sound : o.read_faults_now ≡ o.read_faults
 
 -- more bytes came than a document may have
 pub record CameTooMany (o : Outside) : Type 0 where
   pub bytes : List ℕ
   pub given : Consumes o.left o.left_now bytes
-  pub many : length bytes ≡ most_bytes + 1
+  pub many : length bytes ≡ MOST_BYTES + 1
   pub sound : o.read_faults_now ≡ o.read_faults
 
 -- ---- what goes before an answer
@@ -57,6 +54,16 @@ IsUnreadable IsCommand words o text = IsCommand words × Rose o.read_faults o.re
 -- more bytes came than a document may have
 abbrev pub IsTooLong : (List (List ℕ) → Type 0) → List (List ℕ) → Outside → List ℕ → Type 0
 IsTooLong IsCommand words o text = IsCommand words × CameTooMany o × (text ≡ line (codes "fault limit bytes"))
+
+-- The source gave no bytes to answer: it failed, or it gave more than a document may have; and the text says so.
+abbrev pub SaysUnread : Outside → Status → List ℕ → Type 0
+SaysUnread o ReadFault text = Rose o.read_faults o.read_faults_now × (text ≡ line (codes "fault read"))
+SaysUnread o Limit text = CameTooMany o × (text ≡ line (codes "fault limit bytes"))
+SaysUnread o _ text = ⊥
+
+-- nothing was written
+abbrev pub IsUnwritten : Outside → Type 0
+IsUnwritten o = (o.taken_now ≡ o.taken) × (o.write_faults_now ≡ o.write_faults)
 
 -- the name of a kind
 abbrev pub kind_name : DocKind → List ℕ

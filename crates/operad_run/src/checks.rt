@@ -11,7 +11,7 @@ use crate::run::fault_text;
 use crate::status::Status;
 use certificate_check::{CheckAnswer, CheckCause, check_block};
 use certificate_text::{Block, ReadCertFail, read_blocks};
-use presentation_text::{Document, ReadDocFail, read_document, write_number};
+use presentation_text::{Document, MOST_BYTES, ReadDocFail, read_document, write_number};
 use std::alloc::{AllocError, Global};
 
 /// The first block that doesn't hold, counted from 1, its failing step and the cause.
@@ -87,7 +87,7 @@ fn refused_text(alloc: Global, refusal: Refusal) -> Result<Vec<u8>, AllocError>
 /// presentation with blocks that hold, `Refused` and the first block that doesn't hold, or `Document` and the first line that
 /// is refused, with its kind. `AllocError` comes for want of memory alone.
 pub fn check_text(alloc: Global, bytes: &[u8]) -> Result<(Status, Vec<u8>), AllocError>
-    requires short { length bytes.now ≤ 16777216 }
+    requires short { length bytes.now ≤ MOST_BYTES }
     ensures contents { IfOk result (λ contents. CheckTells bytes.now contents.0 contents.1.items) }
 {
     let document = match read_document(alloc, bytes) {

@@ -3,9 +3,9 @@ ghost use Rattle.std.specs.Prelude.{◌≡◌, ◌↔◌, IsTrue, map, string_by
 ghost use Rattle.operad_run.specs.CheckRuns.{IsMemberWord, IsCheckRun};
 
 use crate::checks::check_text;
-use crate::run::{MOST_BYTES, tell};
+use crate::run::{source_bytes, tell};
 use crate::status::Status;
-use outside_io::{ReadFail, Sink, Source, read_all};
+use outside_io::{Sink, Source};
 use std::alloc::Global;
 
 fn is_same(text: &str, word: &str) -> bool
@@ -52,11 +52,9 @@ pub fn check_run<S: Source, K: Sink>(
     if !is_member(words) {
         return tell(sink, b"fault usage\n", Status::Usage);
     }
-    let bytes = match read_all(alloc, source, MOST_BYTES) {
+    let bytes = match source_bytes(alloc, source, sink) {
         Ok(bytes) => bytes,
-        Err(ReadFail::Fault) => return tell(sink, b"fault read\n", Status::ReadFault),
-        Err(ReadFail::TooLong) => return tell(sink, b"fault limit bytes\n", Status::Limit),
-        Err(ReadFail::NoMemory) => return Status::NoMemory,
+        Err(status) => return status,
     };
     match check_text(alloc, bytes.as_slice()) {
         Ok((status, text)) => tell(sink, text.as_slice(), status),

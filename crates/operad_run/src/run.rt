@@ -1,17 +1,14 @@
 //! A run: the words and the bytes of a source in, the text into a sink.
-ghost use Rattle.std.specs.Prelude.{◌≡◌, IfOk, map, string_bytes};
-ghost use Rattle.operad_run.specs.Runs.{IsWrittenOut, fault_text as text_of_fault, kind_name as name_of};
+ghost use Rattle.std.specs.Prelude.{◌≡◌, IfOk, MatchResult, map, string_bytes};
+ghost use Rattle.operad_run.specs.Runs.{Came, Ends, IsUnwritten, IsWrittenOut, Outside, SaysUnread, fault_text as text_of_fault, kind_name as name_of};
 ghost use Rattle.operad_run.specs.FormsRuns.{IsFormsRun};
 
 use crate::commands::forms_arity;
 use crate::forms::forms_text;
 use crate::status::Status;
 use outside_io::{ReadFail, Sink, Source, read_all, write_all};
-use presentation_text::{DocKind, write_number};
+use presentation_text::{DocKind, MOST_BYTES, write_number};
 use std::alloc::{AllocError, Global};
-
-// The most bytes that a document has.
-pub(crate) const MOST_BYTES: u64 = 16_777_216;
 
 // Writes the text; the status is then this one, or that the sink failed.
 pub(crate) fn tell<K: Sink>(sink: &mut K, text: &[u8], status: Status) -> Status
@@ -20,6 +17,31 @@ pub(crate) fn tell<K: Sink>(sink: &mut K, text: &[u8], status: Status) -> Status
     match write_all(sink, text) {
         Ok(()) => status,
         Err(_) => Status::WriteFault,
+    }
+}
+
+// All bytes of the source; or the status of a run that ends without them, once the sink took the text that says why.
+pub(crate) fn source_bytes<S: Source, K: Sink>(
+    alloc: Global,
+    source: &mut S,
+    sink: &mut K,
+) -> Result<Vec<u8>, Status>
+    ensures read { let o : Outside = record {
+      left = S.left source.old;
+      left_now = S.left source.new;
+      read_faults = S.faults source.old;
+      read_faults_now = S.faults source.new;
+      taken = K.taken sink.old;
+      taken_now = K.taken sink.new;
+      write_faults = K.faults sink.old;
+      write_faults_now = K.faults sink.new;
+    } in MatchResult result (λ bytes. Came o bytes.items × IsUnwritten o) (λ status. Ends (Unit {0}) (SaysUnread o) status o) }
+{
+    match read_all(alloc, source, MOST_BYTES) {
+        Ok(bytes) => Ok(bytes),
+        Err(ReadFail::Fault) => Err(tell(sink, b"fault read\n", Status::ReadFault)),
+        Err(ReadFail::TooLong) => Err(tell(sink, b"fault limit bytes\n", Status::Limit)),
+        Err(ReadFail::NoMemory) => Err(Status::NoMemory),
     }
 }
 
@@ -96,11 +118,9 @@ pub fn operad_run<S: Source, K: Sink>(
     let Some(most) = forms_arity(words) else {
         return tell(sink, b"fault usage\n", Status::Usage);
     };
-    let bytes = match read_all(alloc, source, MOST_BYTES) {
+    let bytes = match source_bytes(alloc, source, sink) {
         Ok(bytes) => bytes,
-        Err(ReadFail::Fault) => return tell(sink, b"fault read\n", Status::ReadFault),
-        Err(ReadFail::TooLong) => return tell(sink, b"fault limit bytes\n", Status::Limit),
-        Err(ReadFail::NoMemory) => return Status::NoMemory,
+        Err(status) => return status,
     };
     match forms_text(alloc, bytes.as_slice(), most) {
         Ok((status, text)) => tell(sink, text.as_slice(), status),

@@ -101,14 +101,14 @@ weight_accepted contents name g weight named free small = rw (named, free, not_b
 -- behind an element the line may end, and '=' may stand
 pub ends_whole : (terms : List Written) → EndsBefore terms []
 ends_whole [] = tt
-ends_whole (term ∷ terms) = (tt, tt, λ bare. tt)
+ends_whole (term ∷ terms) = (tt, tt, λ _. tt)
 
-not_other : (c d : ℕ) → (c ≡ d → ⊥) → Byte c ≡ Byte d → ⊥
+pub not_other : (c d : ℕ) → (c ≡ d → ⊥) → Byte c ≡ Byte d → ⊥
 not_other c d other e = let same : c ≡ d = cc in other same
 
 ends_at_equals : (terms : List Written) (rest : List Token) → EndsBefore terms (Byte 61 ∷ rest)
 ends_at_equals [] rest = not_other 61 42 (λ e. omega (arith, e))
-ends_at_equals (term ∷ terms) rest = (not_other 61 43 (λ e. omega (arith, e)), not_other 61 45 (λ e. omega (arith, e)), λ bare. not_other 61 42 (λ e. omega (arith, e)))
+ends_at_equals (term ∷ terms) rest = (not_other 61 43 (λ e. omega (arith, e)), not_other 61 45 (λ e. omega (arith, e)), λ _. not_other 61 42 (λ e. omega (arith, e)))
 
 byte_chosen : (b : Bool) (d : ℕ) (others rest : List Token) (fault : Fault) → (d == 61) ≡ b → (if b then Ok others else Err fault) ≡ Ok rest → Byte d ∷ others ≡ Byte 61 ∷ rest
 byte_chosen true d others rest fault is e = let same : d ≡ 61 = (Decides-eqb d 61).0 is in cc

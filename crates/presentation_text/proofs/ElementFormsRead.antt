@@ -19,8 +19,8 @@ use Rattle.presentation_text.specs.TreeReadings.{has_each, differs, tree_in, who
 use Rattle.presentation_text.specs.ElementReadings.{behind_one, coefficient, behind_coefficient, term_in, IsTermRead}
 use Rattle.presentation_text.proofs.TreeFormsLeaves.{numbered-had}
 use Rattle.presentation_text.proofs.TreeFormsSteps.{judged}
-use Rattle.presentation_text.proofs.TreesAcceptedTrees.{bound}
-use Rattle.presentation_text.proofs.TreesAccepted.{NoneOfThree, none_held, unlike_leaves, same_arity}
+use Rattle.presentation_text.proofs.TreesAcceptedTrees.{NoneOfThree, bound, none_held}
+use Rattle.presentation_text.proofs.TreesAccepted.{unlike_leaves, same_arity}
 
 -- ---- places and faults
 

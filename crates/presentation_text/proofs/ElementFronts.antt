@@ -13,7 +13,7 @@ use Rattle.presentation_text.specs.TreeReadings.{begins_with}
 use Rattle.presentation_text.specs.TreeText.{tree_tokens}
 use Rattle.presentation_text.specs.Elements.{coefficient_tokens, mark}
 use Rattle.presentation_text.specs.ElementReadings.{behind_one, is_zero, is_nothing, coefficient_of, coefficient, behind_coefficient, sign_of, sign}
-use Rattle.presentation_text.specs.Accepted.{NotMarked, is_bare_leaf}
+use Rattle.presentation_text.specs.Accepted.{NotMarked, EndsTree}
 use Rattle.presentation_text.proofs.LineFormsNumbers.{both_true}
 
 -- ---- single bytes
@@ -29,7 +29,7 @@ begins-marked c (token ∷ ts) e = by token e
     by Long h = absurd cc
     by Bad h = absurd cc
 
-not-marked : (c : ℕ) (ts : List Token) → begins_with c ts ≡ false → NotMarked c ts
+pub not-marked : (c : ℕ) (ts : List Token) → begins_with c ts ≡ false → NotMarked c ts
 not-marked c [] e = tt
 not-marked c (token ∷ ts) e = by token e
   where
@@ -44,7 +44,7 @@ other-byte : (b : Bool) (c d : ℕ) → (d == c) ≡ b → Byte d ≢ Byte c →
 other-byte false c d e h = refl
 other-byte true c d e h = absurd (h (ap Byte (eqb-true d c e)))
 
-unmarked : (c : ℕ) (ts : List Token) → NotMarked c ts → begins_with c ts ≡ false
+pub unmarked : (c : ℕ) (ts : List Token) → NotMarked c ts → begins_with c ts ≡ false
 unmarked c [] none = refl
 unmarked c (token ∷ ts) none = by token none
   where
@@ -74,21 +74,8 @@ coefficient-spelled (token ∷ ts) = by token
     by Long = refl
     by Bad = refl
 
-no-star : (b : Bool) (n : ℕ) → (if b then Some n else None) ≡ None → b ≡ false
-no-star true n e = absurd cc
-no-star false n e = refl
-
--- behind a leaf without a coefficient no '*' stands
-pub bare-ends : (generators : List Generator) (c : Option ℕ) (t : Tree ℕ) (ts rest : List Token) → coefficient ts ≡ c → behind_coefficient c ts ≡ tree_tokens generators t ++ rest
-    → is_bare_leaf c t ≡ true → NotMarked 42 rest
-bare-ends generators (Some c) t ts rest e spelled bare = absurd cc
-bare-ends generators None (node g r) ts rest e spelled bare = absurd cc
-bare-ends generators None (leaf n) ts rest e spelled bare =
-    let here : coefficient (Number n ∷ rest) ≡ None = ap coefficient (sym spelled) ∙ e in
-    not-marked 42 rest (no-star (begins_with 42 rest) n here)
-
 -- the coefficient of a term is the one that is read
-pub coefficient-is : (generators : List Generator) (c : Option ℕ) (t : Tree ℕ) (rest : List Token) → (is_bare_leaf c t ≡ true → NotMarked 42 rest)
+pub coefficient-is : (generators : List Generator) (c : Option ℕ) (t : Tree ℕ) (rest : List Token) → EndsTree t rest
     → coefficient ((coefficient_tokens c ++ tree_tokens generators t) ++ rest) ≡ c
 coefficient-is generators (Some c) t rest ends = refl
 coefficient-is generators None (node g r) rest ends = refl

@@ -19,11 +19,11 @@ use Rattle.presentation_text.specs.TreeReadings.{begins_with, demands_of, whole_
 use Rattle.presentation_text.specs.TreeText.{tree_tokens}
 use Rattle.presentation_text.specs.Elements.{Written, coefficient_tokens, term_tokens, mark, further_tokens, element_tokens, IsElementTree}
 use Rattle.presentation_text.specs.ElementReadings.{behind_one, is_nothing, coefficient, behind_coefficient, term_in, sign, further_in, element_in}
-use Rattle.presentation_text.specs.Accepted.{IsDemanded, TreesAreAccepted, NotMarked, is_bare_leaf, ends_bare, EndsBefore, HaveDemandedArity, AreDemanded, ElementsAreAccepted}
+use Rattle.presentation_text.specs.Accepted.{IsDemanded, TreesAreAccepted, NotMarked, is_leaf, EndsTree, ends_in_leaf, EndsBefore, HaveDemandedArity, AreDemanded, ElementsAreAccepted}
 use Rattle.presentation_text.proofs.TreesAcceptedTrees.{bound}
 use Rattle.presentation_text.proofs.ElementFormsFurther.{behind_sign, signed, unsigned}
 use Rattle.presentation_text.proofs.ElementFormsWhole.{from_first, first-is, nothing-is, further-reads}
-use Rattle.presentation_text.proofs.ElementFronts.{coefficient-spelled, bare-ends, coefficient-is, behind-is, sign-spelled, sign-is, no-sign, unsigned-ends, sign-no-star, nothing-spelled, nothing-there, something-there, minus-there, minus-behind, minus-spelled}
+use Rattle.presentation_text.proofs.ElementFronts.{coefficient-spelled, coefficient-is, behind-is, sign-spelled, sign-is, no-sign, unsigned-ends, sign-no-star, nothing-spelled, nothing-there, something-there, minus-there, minus-behind, minus-spelled}
 
 -- ---- readings
 
@@ -71,7 +71,7 @@ module _ (trees : TreesAreAccepted) (generators : List Generator) (table : IsTab
       pub sign : term.negative ≡ negative
       pub spelled : ts ≡ term_tokens generators term ++ rest
       pub tree : IsDemanded generators demands term.tree
-      pub bare : is_bare_leaf term.coefficient term.tree ≡ true → NotMarked 42 rest
+      pub ends : EndsTree term.tree rest
 
     abbrev term_as : Bool → Option ℕ → Tree ℕ → Written
     term_as negative c t = record { negative = negative; coefficient = c; tree = t }
@@ -84,7 +84,7 @@ module _ (trees : TreesAreAccepted) (generators : List Generator) (table : IsTab
           sign = refl;
           spelled = coefficient-spelled ts ∙ ap (λ r. coefficient_tokens (coefficient ts) ++ r) accepted.0 ∙ sym (append_assoc (coefficient_tokens (coefficient ts)) (tree_tokens generators t) rest);
           tree = accepted.1;
-          bare = bare-ends generators (coefficient ts) t ts rest refl accepted.0;
+          ends = accepted.2;
         }
 
     pub term-spelled : (negative : Bool) (ts rest : List Token) (term : Written) → term_in generators demands negative ts ≡ Ok (term, rest) → TermSpelled negative ts rest term
@@ -96,12 +96,12 @@ module _ (trees : TreesAreAccepted) (generators : List Generator) (table : IsTab
         subst (λ x. TermSpelled negative ts x term) same.1 (subst (TermSpelled negative ts both.value.1) same.0 first)
 
     pub term-read : (ts rest : List Token) (term : Written) → ts ≡ term_tokens generators term ++ rest → IsDemanded generators demands term.tree
-        → (is_bare_leaf term.coefficient term.tree ≡ true → NotMarked 42 rest) → term_in generators demands term.negative ts ≡ Ok (term, rest)
+        → EndsTree term.tree rest → term_in generators demands term.negative ts ≡ Ok (term, rest)
     unfolding term_in
-    term-read ts rest term spelled tree bare =
-        let c : coefficient ts ≡ term.coefficient = ap coefficient spelled ∙ coefficient-is generators term.coefficient term.tree rest bare in
+    term-read ts rest term spelled tree ends =
+        let c : coefficient ts ≡ term.coefficient = ap coefficient spelled ∙ coefficient-is generators term.coefficient term.tree rest ends in
         let behind : behind_coefficient term.coefficient ts ≡ tree_tokens generators term.tree ++ rest = ap (behind_coefficient term.coefficient) spelled ∙ behind-is generators term.coefficient term.tree rest in
-        let is : whole_tree_in generators demands (behind_coefficient term.coefficient ts) ≡ Ok (term.tree, rest) = (trees generators table demands (behind_coefficient term.coefficient ts) rest term.tree).1 (behind, tree) in
+        let is : whole_tree_in generators demands (behind_coefficient term.coefficient ts) ≡ Ok (term.tree, rest) = (trees generators table demands (behind_coefficient term.coefficient ts) rest term.tree).1 (behind, tree, ends) in
         rw c (rw is refl)
 
     -- ---- further terms
@@ -111,14 +111,14 @@ module _ (trees : TreesAreAccepted) (generators : List Generator) (table : IsTab
       pub spelled : ts ≡ further_tokens generators terms ++ rest
       pub all_demanded : All (λ term. IsDemanded generators demands term.tree) terms
       pub ends : NotMarked 43 rest × NotMarked 45 rest
-      pub bare : (b : Bool) → (b ≡ true → NotMarked 42 ts) → ends_bare b terms ≡ true → NotMarked 42 rest
+      pub unstarred : (b : Bool) → (b ≡ true → NotMarked 42 ts) → ends_in_leaf b terms ≡ true → NotMarked 42 rest
 
     no-further : (ts : List Token) → sign ts ≡ None → FurtherSpelled ts ts []
     no-further ts none = record {
       spelled = refl;
       all_demanded = All-nil (λ (term : Written). IsDemanded generators demands term.tree);
       ends = unsigned-ends ts none;
-      bare = λ b first is. first is;
+      unstarred = λ b first is. first is;
     }
 
     one-further : (negative : Bool) (ts behind rest : List Token) (term : Written) (terms : List Written) → sign ts ≡ Some negative → TermSpelled negative (behind_one ts) behind term
@@ -128,7 +128,7 @@ module _ (trees : TreesAreAccepted) (generators : List Generator) (table : IsTab
           ∙ ap (λ r. mark term.negative ∷ r) (first.spelled ∙ ap (λ r. term_tokens generators term ++ r) others.spelled ∙ sym (append_assoc (term_tokens generators term) (further_tokens generators terms) rest));
       all_demanded = All-cons (λ (x : Written). IsDemanded generators demands x.tree) term terms first.tree others.all_demanded;
       ends = others.ends;
-      bare = λ b _. others.bare (is_bare_leaf term.coefficient term.tree) first.bare;
+      unstarred = λ b _. others.unstarred (is_leaf term.tree) first.ends;
     }
 
     -- a term behind a sign, and the terms behind it, that were read
@@ -183,9 +183,9 @@ module _ (trees : TreesAreAccepted) (generators : List Generator) (table : IsTab
             subst (FurtherSpelled ts rest) goes.terms_are (one-further negative ts goes.behind rest goes.first goes.others is first others)
 
     -- what stands behind a term that isn't the last one
-    bare-behind : (b : Bool) (terms : List Written) (rest : List Token) → (ends_bare b terms ≡ true → NotMarked 42 rest) → b ≡ true → NotMarked 42 (further_tokens generators terms ++ rest)
-    bare-behind b [] rest ends is = ends is
-    bare-behind b (term ∷ terms) rest ends is = sign-no-star term.negative ((term_tokens generators term ++ further_tokens generators terms) ++ rest)
+    unstarred-behind : (b : Bool) (terms : List Written) (rest : List Token) → (ends_in_leaf b terms ≡ true → NotMarked 42 rest) → b ≡ true → NotMarked 42 (further_tokens generators terms ++ rest)
+    unstarred-behind b [] rest ends is = ends is
+    unstarred-behind b (term ∷ terms) rest ends is = sign-no-star term.negative ((term_tokens generators term ++ further_tokens generators terms) ++ rest)
 
     sign-reads-on : (most : ℕ) (negative : Bool) (ts behind rest : List Token) (term : Written) (terms : List Written) → term_in generators demands negative (behind_one ts) ≡ Ok (term, behind)
         → further_in most generators demands behind ≡ Ok (terms, rest) → behind_sign generators demands most negative ts ≡ Ok (term ∷ terms, rest)
@@ -193,19 +193,19 @@ module _ (trees : TreesAreAccepted) (generators : List Generator) (table : IsTab
     sign-reads-on most negative ts behind rest term terms first others = rw first (rw others refl)
 
     pub further-read : (terms : List Written) (most : ℕ) (ts rest : List Token) (b : Bool) → length ts ≤ most → ts ≡ further_tokens generators terms ++ rest
-        → All (λ term. IsDemanded generators demands term.tree) terms → NotMarked 43 rest → NotMarked 45 rest → (ends_bare b terms ≡ true → NotMarked 42 rest)
+        → All (λ term. IsDemanded generators demands term.tree) terms → NotMarked 43 rest → NotMarked 45 rest → (ends_in_leaf b terms ≡ true → NotMarked 42 rest)
         → further_in most generators demands ts ≡ Ok (terms, rest)
     further-read [] most ts rest b room spelled all plus minus ends =
         unsigned generators demands most ts (ap sign spelled ∙ no-sign rest plus minus) ∙ ap (λ r. read [] r) spelled
     further-read (term ∷ terms) zero ts rest b room spelled all plus minus ends = absurd (omega (arith, room, ap length spelled))
     further-read (term ∷ terms) (suc most) ts rest b room spelled all plus minus ends =
         let behind = further_tokens generators terms ++ rest in
-        let bare = is_bare_leaf term.coefficient term.tree in
+        let alone = is_leaf term.tree in
         let is : sign ts ≡ Some term.negative = ap sign spelled ∙ sign-is term.negative ((term_tokens generators term ++ further_tokens generators terms) ++ rest) in
         let front : behind_one ts ≡ term_tokens generators term ++ behind = ap behind_one spelled ∙ append_assoc (term_tokens generators term) (further_tokens generators terms) rest in
-        let first = term-read (behind_one ts) behind term front (All-head (λ (x : Written). IsDemanded generators demands x.tree) term terms all) (bare-behind bare terms rest ends) in
+        let first = term-read (behind_one ts) behind term front (All-head (λ (x : Written). IsDemanded generators demands x.tree) term terms all) (unstarred-behind alone terms rest ends) in
         let left : length behind ≤ most = omega (arith, room, ap length (sign-spelled ts term.negative is), ap length front, length-append (term_tokens generators term) behind) in
-        let others = further-read terms most behind rest bare left refl (All-tail (λ (x : Written). IsDemanded generators demands x.tree) term terms all) plus minus ends in
+        let others = further-read terms most behind rest alone left refl (All-tail (λ (x : Written). IsDemanded generators demands x.tree) term terms all) plus minus ends in
         signed generators demands most ts term.negative is ∙ sign-reads-on most term.negative ts behind rest term terms first others
 
   -- ---- elements
@@ -266,7 +266,7 @@ module _ (trees : TreesAreAccepted) (generators : List Generator) (table : IsTab
             least_is = one.tree.least;
             arity_is = one.tree.arity;
           },
-          (more.ends.0, more.ends.1, more.bare (is_bare_leaf first.coefficient first.tree) one.bare),
+          (more.ends.0, more.ends.1, more.unstarred (is_leaf first.tree) one.ends),
         )
 
     pub accepted : (ts rest : List Token) (terms : List Written) → element_in generators asked ts ≡ Ok (terms, rest) → IsAccepted ts rest terms
@@ -300,11 +300,11 @@ module _ (trees : TreesAreAccepted) (generators : List Generator) (table : IsTab
         (ap is_nothing spelled ∙ something-there generators term.negative term.coefficient term.tree behind (positive generators have.n term.tree tree))
         (minus-there generators term.negative term.coefficient term.tree behind ∙ sym (ap (begins_with 45) spelled))
         (minus-behind term.negative (whole ++ behind) ∙ ap (λ x. if term.negative then behind_one x else x) (sym spelled)) in
-        let bare = is_bare_leaf term.coefficient term.tree in
-        let first = term-read asked (whole ++ behind) behind term refl (demanded generators asked have.n term.tree tree have.least_is have.arity_is) (bare-behind asked bare terms rest h.2.2) in
+        let alone = is_leaf term.tree in
+        let first = term-read asked (whole ++ behind) behind term refl (demanded generators asked have.n term.tree tree have.least_is have.arity_is) (unstarred-behind asked alone terms rest h.2.2) in
         let all = All-weaker (λ (x : Written). IsElementTree generators have.n x.tree) (λ (x : Written). IsDemanded generators (asked_of term.tree) x.tree)
         (λ x t. demanded generators (asked_of term.tree) have.n x.tree t have.least_is (λ m known. let same : leaf_count term.tree ≡ m = cc in sym count ∙ same)) terms trees in
-        let others = further-read (asked_of term.tree) terms (length behind) behind rest bare (omega arith) refl all h.2.0 h.2.1 h.2.2 in
+        let others = further-read (asked_of term.tree) terms (length behind) behind rest alone (omega arith) refl all h.2.0 h.2.1 h.2.2 in
         begins ∙ further-reads generators least arity (whole ++ behind) behind rest term.negative term terms first others
 
 -- which elements are accepted, where it is known which trees are

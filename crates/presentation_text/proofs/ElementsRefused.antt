@@ -1,6 +1,6 @@
--- Elements are refused rightly: reading stops by what stands before the refused token, by that token, and by whether '*' comes next.
+-- Elements are refused rightly: reading stops by what stands before the refused token and by that token, where a number before '*' is another token.
 use Rattle.std.proofs.Common.{◌≡◌, ◌⊎◌, inl, inr, ⊎_elim, ℕ, zero, suc, ◌+◌, ◌<◌, ◌≤◌, Bool, true, false, not, ◌&&◌, List, [], ◌∷◌, ◌++◌, length, Option, Some, None, Ok, Err, refl, ap, sym, ◌∙◌, subst, arith, append_assoc, append-nil, length-append}
-use Rattle.std.specs.Prelude.{if◌then◌else◌, nat_le, nat_lt}
+use Rattle.std.specs.Prelude.{if◌then◌else◌, nat_lt}
 use Rattle.labelled_trees.specs.Trees.{Tree, leaf, node}
 use Rattle.labelled_trees.specs.Leaves.{leaf_count}
 use Rattle.std.specs.List.{All}
@@ -9,28 +9,28 @@ use Rattle.symmetric_trees.specs.Trees.{Fits}
 use Rattle.symmetric_trees.specs.Generators.{IsTable}
 use Rattle.symmetric_trees.specs.declared.generators.Generator.{Generator}
 use Rattle.presentation_text.specs.declared.kinds.DocKind.{DocKind}
-use Rattle.presentation_text.specs.declared.kinds.DocKind.TheVariants.{Syntax, NumberLong, NameUnknown, InputCount, TooDeep, TooWide, Labels, ArityOut, MixedArity}
+use Rattle.presentation_text.specs.declared.kinds.DocKind.TheVariants.{Syntax, NumberLong, NameUnknown, InputCount, TooDeep, TooWide}
 use Rattle.presentation_text.specs.declared.lexing.Token.{Token}
 use Rattle.presentation_text.specs.declared.lexing.Token.TheVariants.{Word, Number, Long, Byte, Bad}
 use Rattle.presentation_text.specs.declared.trees.Demands.{Demands}
-use Rattle.presentation_text.specs.Readings.{Fault, Reading, ◌>>=◌, first_row, refused}
+use Rattle.presentation_text.specs.Readings.{Fault, Reading, ◌>>=◌}
 use Rattle.presentation_text.specs.TreeReadings.{begins_with, demands_of, has_each, differs, tree_in, whole_tree_in}
 use Rattle.presentation_text.specs.TreeText.{nested, tree_tokens}
 use Rattle.presentation_text.specs.Elements.{Written, coefficient_tokens, term_tokens, further_tokens, element_tokens}
 use Rattle.presentation_text.specs.ElementReadings.{behind_one, is_zero, is_nothing, coefficient_of, coefficient, behind_coefficient, term_in, sign, further_in, element_in}
-use Rattle.presentation_text.specs.Accepted.{IsDemanded, AreDemanded, NotMarked, is_bare_leaf, EndsBefore, GoOnAlike, AreRuledOut, IsRuledOut, ElementsAreRefusedRightly}
-use Rattle.presentation_text.proofs.TreeFormsSteps.{tree_in-number, whole-stops, whole-refused}
+use Rattle.presentation_text.specs.Accepted.{IsDemanded, AreDemanded, NotMarked, EndsTree, EndsBefore, IsSameBefore, AreRuledOut, IsRuledOut, ElementsAreRefusedRightly}
+use Rattle.presentation_text.proofs.TreeFormsSteps.{whole-stops, whole-refused}
 use Rattle.presentation_text.proofs.TreesAcceptedTrees.{IsReadInside, tree_sound}
 use Rattle.presentation_text.proofs.TreesAccepted.{all_accepted}
-use Rattle.presentation_text.proofs.TreesStopForms.{IsReadFrom, within}
+use Rattle.presentation_text.proofs.TreesStopForms.{EndTheSame, IsReadFrom, begins-same, same_before, same_last, within}
 use Rattle.presentation_text.proofs.TreesStopTrees.{local_tree}
 use Rattle.presentation_text.proofs.TreesGoOn.{only_first}
-use Rattle.presentation_text.proofs.TreesStop.{fits_ruled, breaks_ruled, first_of_three, IsJudged, stopped, same_front}
+use Rattle.presentation_text.proofs.TreesStop.{fits_ruled, breaks_ruled, first_of_three, IsJudged, stopped, same_front, same_back}
 use Rattle.presentation_text.proofs.TreesStopLimits.{IsReadOrBreaks, tree_or_breaks}
 use Rattle.presentation_text.proofs.TreeTokens.{read_once}
 use Rattle.presentation_text.proofs.ElementFormsFurther.{behind_sign, signed, unsigned, sign-stops}
 use Rattle.presentation_text.proofs.ElementFormsWhole.{from_first, first-is, nothing-is, first-stops, further-stops}
-use Rattle.presentation_text.proofs.ElementFronts.{coefficient-is, behind-is, sign-is, nothing-there, minus-there, minus-behind}
+use Rattle.presentation_text.proofs.ElementFronts.{unmarked, coefficient-is, behind-is, sign-is, nothing-there, minus-there, minus-behind}
 use Rattle.presentation_text.proofs.TermsOnce.{further-no-star}
 use Rattle.presentation_text.proofs.ElementsAccepted.{TermSpelled, term-spelled, term-read, elements_accepted}
 
@@ -42,11 +42,6 @@ listed_pair first others = Ok (first ∷ others.0, others.1)
 
 -- ---- what doesn't look far
 
--- the tokens begin alike, as far as the token that is refused
-begins-same : (c : ℕ) (front : List Token) (token : Token) (back beyond : List Token) → begins_with c (front ++ token ∷ back) ≡ begins_with c (front ++ token ∷ beyond)
-begins-same c [] token back beyond = refl
-begins-same c (x ∷ front) token back beyond = refl
-
 marked-same : (c : ℕ) (front : List Token) (token : Token) (back beyond : List Token) → NotMarked c (front ++ token ∷ back) → NotMarked c (front ++ token ∷ beyond)
 marked-same c [] token back beyond h = h
 marked-same c (x ∷ front) token back beyond h = h
@@ -55,44 +50,29 @@ sign-same : (front : List Token) (token : Token) (back beyond : List Token) → 
 sign-same [] token back beyond = refl
 sign-same (x ∷ front) token back beyond = refl
 
-coefficient_of-same : (x : Token) (a b : List Token) → begins_with 42 a ≡ begins_with 42 b → coefficient_of x a ≡ coefficient_of x b
+coefficient_of-same : (x : Token) (a b : List Token) → IsSameBefore x a b → coefficient_of x a ≡ coefficient_of x b
 coefficient_of-same (Number n) a b e = ap (λ (star : Bool). if star then Some n else None) e
 coefficient_of-same (Byte d) a b e = refl
 coefficient_of-same (Word w) a b e = refl
 coefficient_of-same Long a b e = refl
 coefficient_of-same Bad a b e = refl
 
-coefficient-same : (x : Token) (front : List Token) (token : Token) (back beyond : List Token) → coefficient (x ∷ (front ++ token ∷ back)) ≡ coefficient (x ∷ (front ++ token ∷ beyond))
-coefficient-same x front token back beyond = coefficient_of-same x (front ++ token ∷ back) (front ++ token ∷ beyond) (begins-same 42 front token back beyond)
+coefficient-same : (front : List Token) (token : Token) (back beyond : List Token) → IsSameBefore token beyond back → coefficient (front ++ token ∷ beyond) ≡ coefficient (front ++ token ∷ back)
+coefficient-same [] token back beyond h = coefficient_of-same token beyond back h
+coefficient-same (x ∷ front) token back beyond h =
+    coefficient_of-same x (front ++ token ∷ beyond) (front ++ token ∷ back) (same_before x (front ++ token ∷ beyond) (front ++ token ∷ back) (begins-same 42 front token beyond back))
 
-nothing-same : (x : Token) (front : List Token) (token : Token) (back beyond : List Token) → is_nothing (x ∷ (front ++ token ∷ back)) ≡ is_nothing (x ∷ (front ++ token ∷ beyond))
-nothing-same x front token back beyond = ap (λ star. is_zero x && not star) (begins-same 42 front token back beyond)
+zero-same : (x : Token) (a b : List Token) → IsSameBefore x a b → is_nothing (x ∷ a) ≡ is_nothing (x ∷ b)
+zero-same (Number n) a b e = ap (λ star. is_zero (Number n) && not star) e
+zero-same (Byte d) a b e = refl
+zero-same (Word w) a b e = refl
+zero-same Long a b e = refl
+zero-same Bad a b e = refl
 
--- what is refused at a whole tree
-alike-labels : (kind : DocKind) (others back : List Token) → kind ≡ Labels → GoOnAlike kind others back → begins_with 42 others ≡ begins_with 42 back
-alike-labels kind others back e h = subst (λ k. GoOnAlike k others back) e h
-
-alike-arity : (kind : DocKind) (others back : List Token) → kind ≡ ArityOut → GoOnAlike kind others back → begins_with 42 others ≡ begins_with 42 back
-alike-arity kind others back e h = subst (λ k. GoOnAlike k others back) e h
-
-alike-mixed : (kind : DocKind) (others back : List Token) → kind ≡ MixedArity → GoOnAlike kind others back → begins_with 42 others ≡ begins_with 42 back
-alike-mixed kind others back e h = subst (λ k. GoOnAlike k others back) e h
-
-alike-three : (a b c : Bool) (kind : DocKind) (others back : List Token) → first_row ((a, Labels) ∷ (b, ArityOut) ∷ (c, MixedArity) ∷ []) ≡ Some kind → GoOnAlike kind others back
-    → begins_with 42 others ≡ begins_with 42 back
-alike-three true b c kind others back e h = let same : kind ≡ Labels = cc in alike-labels kind others back same h
-alike-three false true c kind others back e h = let same : kind ≡ ArityOut = cc in alike-arity kind others back same h
-alike-three false false true kind others back e h = let same : kind ≡ MixedArity = cc in alike-mixed kind others back same h
-alike-three false false false kind others back e h = absurd cc
-
--- a number is refused as a leaf alone
-alike-leaf : (a b : Bool) (left : ℕ) (fault : Fault) (found : Tree ℕ × List Token) (others back : List Token) → a ≡ false → refused left (first_row ((a, TooWide) ∷ (b, Labels) ∷ [])) (Ok found) ≡ Err fault → GoOnAlike fault.1 others back
-    → begins_with 42 others ≡ begins_with 42 back
-alike-leaf true b left fault found others back low e h = absurd cc
-alike-leaf false true left fault found others back low e h =
-    let same : ◌≡◌ {A = Fault} (left, Labels) fault = cc in
-    alike-labels fault.1 others back (ap (λ (f : Fault). f.1) (sym same)) h
-alike-leaf false false left fault found others back low e h = absurd cc
+nothing-same : (front : List Token) (token : Token) (back beyond : List Token) → IsSameBefore token beyond back → is_nothing (front ++ token ∷ beyond) ≡ is_nothing (front ++ token ∷ back)
+nothing-same [] token back beyond h = zero-same token beyond back h
+nothing-same (x ∷ front) token back beyond h =
+    zero-same x (front ++ token ∷ beyond) (front ++ token ∷ back) (same_before x (front ++ token ∷ beyond) (front ++ token ∷ back) (begins-same 42 front token beyond back))
 
 some_tokens : (generators : List Generator) (t : Tree ℕ) → 0 < length (tree_tokens generators t)
 some_tokens generators (leaf n) = omega arith
@@ -118,19 +98,23 @@ module _ (generators : List Generator) (table : IsTable generators) where
             let read : IsReadInside generators 8 0 ts j.tree j.others = tree_sound generators table 8 0 ts j.tree j.others (omega arith) j.read in
             omega (arith, j.left_is, ap length read.spelled, length-append (tree_tokens generators j.tree) j.others, some_tokens generators j.tree)
 
-    whole-again : (front : List Token) (token : Token) (back beyond : List Token) (kind : DocKind) → whole_tree_in generators demands (front ++ token ∷ back) ≡ Err (suc (length back), kind)
+    whole-again : (front : List Token) (token : Token) (back beyond : List Token) (kind : DocKind) → IsSameBefore token beyond back → whole_tree_in generators demands (front ++ token ∷ back) ≡ Err (suc (length back), kind)
         → whole_tree_in generators demands (front ++ token ∷ beyond) ≡ Err (suc (length beyond), kind)
-    whole-again front token back beyond kind e = ⊎_elim inside judged (stopped generators demands (front ++ token ∷ back) (suc (length back)) kind e)
+    whole-again front token back beyond kind like e = ⊎_elim inside judged (stopped generators demands (front ++ token ∷ back) (suc (length back)) kind e)
       where
         inside : tree_in generators 8 0 (front ++ token ∷ back) ≡ Err (suc (length back), kind) → whole_tree_in generators demands (front ++ token ∷ beyond) ≡ Err (suc (length beyond), kind)
-        inside i = whole-stops generators demands (front ++ token ∷ beyond) (suc (length beyond), kind) ((local_tree generators 8 0).stops front token back beyond kind i)
+        inside i = whole-stops generators demands (front ++ token ∷ beyond) (suc (length beyond), kind) ((local_tree generators 8 0).stops front token back beyond kind like i)
 
         judged : IsJudged generators demands (front ++ token ∷ back) (suc (length back)) kind → whole_tree_in generators demands (front ++ token ∷ beyond) ≡ Err (suc (length beyond), kind)
         judged j =
             let gone : IsReadFrom (tree_in generators 8 0) (front ++ token ∷ back) j.tree j.others = (local_tree generators 8 0).goes (front ++ token ∷ back) j.tree j.others j.read in
-            let used : gone.used ≡ front ++ token ∷ [] = same_front gone.used j.others (front ++ token ∷ []) back (sym gone.parted ∙ sym (append_assoc front (token ∷ []) back)) (omega (arith, j.left_is)) in
+            let both : gone.used ++ j.others ≡ (front ++ token ∷ []) ++ back = sym gone.parted ∙ sym (append_assoc front (token ∷ []) back) in
+            let long : length j.others ≡ length back = omega (arith, j.left_is) in
+            let used : gone.used ≡ front ++ token ∷ [] = same_front gone.used j.others (front ++ token ∷ []) back both long in
+            let others : j.others ≡ back = same_back gone.used j.others (front ++ token ∷ []) back both long in
+            let ends : EndTheSame gone.used beyond j.others = subst (λ (ts : List Token). EndTheSame ts beyond j.others) (sym used) (subst (λ (r : List Token). EndTheSame (front ++ token ∷ []) beyond r) (sym others) (same_last front token beyond back like)) in
             whole-refused generators demands (front ++ token ∷ beyond) j.tree beyond kind
-            (ap (tree_in generators 8 0) (sym (append_assoc front (token ∷ []) beyond) ∙ ap (λ ts. ts ++ beyond) (sym used)) ∙ gone.again beyond) j.row
+            (ap (tree_in generators 8 0) (sym (append_assoc front (token ∷ []) beyond) ∙ ap (λ ts. ts ++ beyond) (sym used)) ∙ gone.again beyond ends) j.row
 
     -- ---- terms
 
@@ -148,48 +132,19 @@ module _ (generators : List Generator) (table : IsTable generators) where
         let l = whole-bounded (behind_coefficient (coefficient ts) ts) fault (term-by-tree negative ts fault e) in
         omega (arith, l, shorter-coefficient (coefficient ts) ts)
 
-    behind-again : (c : Option ℕ) (front : List Token) (token : Token) (back beyond : List Token) (kind : DocKind) → whole_tree_in generators demands (behind_coefficient c (front ++ token ∷ back)) ≡ Err (suc (length back), kind)
+    behind-again : (c : Option ℕ) (front : List Token) (token : Token) (back beyond : List Token) (kind : DocKind) → IsSameBefore token beyond back → whole_tree_in generators demands (behind_coefficient c (front ++ token ∷ back)) ≡ Err (suc (length back), kind)
         → whole_tree_in generators demands (behind_coefficient c (front ++ token ∷ beyond)) ≡ Err (suc (length beyond), kind)
-    behind-again None front token back beyond kind e = whole-again front token back beyond kind e
-    behind-again (Some n) [] token back beyond kind e = let l = whole-bounded (behind_one back) (suc (length back), kind) e in absurd (omega (arith, l, shorter-one back))
-    behind-again (Some n) (x ∷ []) token back beyond kind e = let l = whole-bounded back (suc (length back), kind) e in absurd (omega (arith, l))
-    behind-again (Some n) (x ∷ (y ∷ front)) token back beyond kind e = whole-again front token back beyond kind e
+    behind-again None front token back beyond kind like e = whole-again front token back beyond kind like e
+    behind-again (Some n) [] token back beyond kind like e = let l = whole-bounded (behind_one back) (suc (length back), kind) e in absurd (omega (arith, l, shorter-one back))
+    behind-again (Some n) (x ∷ []) token back beyond kind like e = let l = whole-bounded back (suc (length back), kind) e in absurd (omega (arith, l))
+    behind-again (Some n) (x ∷ (y ∷ front)) token back beyond kind like e = whole-again front token back beyond kind like e
 
-    number-alike : (n : ℕ) (ts : List Token) (left : ℕ) (kind : DocKind) (others back : List Token) → whole_tree_in generators demands (Number n ∷ ts) ≡ Err (left, kind) → GoOnAlike kind others back
-        → begins_with 42 others ≡ begins_with 42 back
-    number-alike n ts left kind others back e h = ⊎_elim
-        (λ inside. alike-leaf (nat_le 9 0) (nat_lt 99 n) (suc (length ts)) (left, kind) (leaf n, ts) others back refl (sym (tree_in-number generators 8 0 n ts) ∙ inside) h)
-        (λ (j : IsJudged generators demands (Number n ∷ ts) left kind).
-        alike-three (not demands.loose && not (has_each (leaf_count j.tree) j.tree)) (nat_lt (leaf_count j.tree) demands.least) (differs demands.arity (leaf_count j.tree)) kind others back j.row h)
-        (stopped generators demands (Number n ∷ ts) left kind e)
-
-    -- a number that begins a term and is refused has '*' behind it in both or in neither
-    first-alike : (negative : Bool) (n : ℕ) (back others : List Token) (kind : DocKind) → GoOnAlike kind others back → term_in generators demands negative (Number n ∷ back) ≡ Err (suc (length back), kind)
-        → begins_with 42 others ≡ begins_with 42 back
-    first-alike negative n back others kind h e = by_star (begins_with 42 back) (term-by-tree negative (Number n ∷ back) (suc (length back), kind) e)
-      where
-        by_star : (b : Bool) → whole_tree_in generators demands (behind_coefficient (if b then Some n else None) (Number n ∷ back)) ≡ Err (suc (length back), kind) → begins_with 42 others ≡ begins_with 42 back
-        by_star true f = let l = whole-bounded (behind_one back) (suc (length back), kind) f in absurd (omega (arith, l, shorter-one back))
-        by_star false f = number-alike n back (suc (length back)) kind others back f h
-
-    coefficient-alike : (negative : Bool) (front : List Token) (token : Token) (back beyond : List Token) (kind : DocKind) → GoOnAlike kind beyond back
-        → term_in generators demands negative (front ++ token ∷ back) ≡ Err (suc (length back), kind) → coefficient (front ++ token ∷ back) ≡ coefficient (front ++ token ∷ beyond)
-    coefficient-alike negative (x ∷ front) token back beyond kind h e = coefficient-same x front token back beyond
-    coefficient-alike negative [] token back beyond kind h e = by token e
-      where
-        by : (x : Token) → term_in generators demands negative (x ∷ back) ≡ Err (suc (length back), kind) → coefficient_of x back ≡ coefficient_of x beyond
-        by (Number n) f = coefficient_of-same (Number n) back beyond (sym (first-alike negative n back beyond kind h f))
-        by (Byte d) f = refl
-        by (Word w) f = refl
-        by Long f = refl
-        by Bad f = refl
-
-    term-again : (negative : Bool) (front : List Token) (token : Token) (back beyond : List Token) (kind : DocKind) → GoOnAlike kind beyond back
+    term-again : (negative : Bool) (front : List Token) (token : Token) (back beyond : List Token) (kind : DocKind) → IsSameBefore token beyond back
         → term_in generators demands negative (front ++ token ∷ back) ≡ Err (suc (length back), kind) → term_in generators demands negative (front ++ token ∷ beyond) ≡ Err (suc (length beyond), kind)
     term-again negative front token back beyond kind like e =
         let c = coefficient (front ++ token ∷ back) in
-        let tree = behind-again c front token back beyond kind (term-by-tree negative (front ++ token ∷ back) (suc (length back), kind) e) in
-        let same : coefficient (front ++ token ∷ beyond) ≡ c = sym (coefficient-alike negative front token back beyond kind like e) in
+        let tree = behind-again c front token back beyond kind like (term-by-tree negative (front ++ token ∷ back) (suc (length back), kind) e) in
+        let same : coefficient (front ++ token ∷ beyond) ≡ c = coefficient-same front token back beyond like in
         tree-stops negative (front ++ token ∷ beyond) (suc (length beyond), kind) (ap (λ (d : Option ℕ). whole_tree_in generators demands (behind_coefficient d (front ++ token ∷ beyond))) same ∙ tree)
 
     -- a term is read, and something behind it is refused
@@ -212,8 +167,8 @@ module _ (generators : List Generator) (table : IsTable generators) where
         let one : TermSpelled all_accepted generators table demands negative (front ++ token ∷ back) behind first = term-spelled all_accepted generators table demands negative (front ++ token ∷ back) behind first is in
         let w = within (term_tokens generators first) behind front (token ∷ back) (sym one.spelled) l in
         let front_is : front ++ token ∷ beyond ≡ term_tokens generators first ++ (w.between ++ token ∷ beyond) = ap (λ f. f ++ token ∷ beyond) w.front_is ∙ append_assoc (term_tokens generators first) w.between (token ∷ beyond) in
-        let bare : is_bare_leaf first.coefficient first.tree ≡ true → NotMarked 42 (w.between ++ token ∷ beyond) = λ b. marked-same 42 w.between token back beyond (subst (NotMarked 42) w.rest_is (one.bare b)) in
-        let read = term-read all_accepted generators table demands (front ++ token ∷ beyond) (w.between ++ token ∷ beyond) first front_is one.tree bare in
+        let ends : EndsTree first.tree (w.between ++ token ∷ beyond) = λ b. marked-same 42 w.between token back beyond (subst (NotMarked 42) w.rest_is (one.ends b)) in
+        let read = term-read all_accepted generators table demands (front ++ token ∷ beyond) (w.between ++ token ∷ beyond) first front_is one.tree ends in
         record {
           between = w.between;
           behind_is = w.rest_is;
@@ -266,7 +221,7 @@ module _ (generators : List Generator) (table : IsTable generators) where
             (sign-either most negative ts fault (sym (signed generators demands most ts negative is) ∙ e))
 
     -- what is behind a sign is refused with other tokens behind the refused one too
-    sign-again : (most other : ℕ) (negative : Bool) (first_token : Token) (front : List Token) (token : Token) (back beyond : List Token) (kind : DocKind) → GoOnAlike kind beyond back
+    sign-again : (most other : ℕ) (negative : Bool) (first_token : Token) (front : List Token) (token : Token) (back beyond : List Token) (kind : DocKind) → IsSameBefore token beyond back
         → length (front ++ token ∷ back) ≤ most → length (front ++ token ∷ beyond) ≤ other
         → ((between : List Token) → length (between ++ token ∷ back) ≤ most → length (between ++ token ∷ beyond) ≤ other → further_in most generators demands (between ++ token ∷ back) ≡ Err (suc (length back), kind)
         → further_in other generators demands (between ++ token ∷ beyond) ≡ Err (suc (length beyond), kind))
@@ -287,7 +242,7 @@ module _ (generators : List Generator) (table : IsTable generators) where
             (omega (arith, space, length-append t.between (token ∷ beyond), length-append front (token ∷ beyond))) (ap (further_in most generators demands) (sym t.behind_is) ∙ one.others_stop) in
             sign-further-stops other negative (first_token ∷ (front ++ token ∷ beyond)) (t.between ++ token ∷ beyond) one.first (suc (length beyond), kind) t.again stops
 
-    further-again : (most other : ℕ) (front : List Token) (token : Token) (back beyond : List Token) (kind : DocKind) → GoOnAlike kind beyond back
+    further-again : (most other : ℕ) (front : List Token) (token : Token) (back beyond : List Token) (kind : DocKind) → IsSameBefore token beyond back
         → length (front ++ token ∷ back) ≤ most → length (front ++ token ∷ beyond) ≤ other → further_in most generators demands (front ++ token ∷ back) ≡ Err (suc (length back), kind)
         → further_in other generators demands (front ++ token ∷ beyond) ≡ Err (suc (length beyond), kind)
     further-again zero other front token back beyond kind like room space e = absurd (omega (arith, room, length-append front (token ∷ back)))
@@ -346,7 +301,7 @@ module _ (generators : List Generator) (table : IsTable generators) where
         let l = further-bounded (asked_of one.first.tree) (length one.behind) one.behind fault one.others_stop in omega (arith, l, term-length asked negative ts one.behind one.first one.first_is))
         (first-either negative ts fault e)
 
-    first-again : (negative : Bool) (front : List Token) (token : Token) (back beyond : List Token) (kind : DocKind) → GoOnAlike kind beyond back
+    first-again : (negative : Bool) (front : List Token) (token : Token) (back beyond : List Token) (kind : DocKind) → IsSameBefore token beyond back
         → from_first generators least arity negative (front ++ token ∷ back) ≡ Err (suc (length back), kind) → from_first generators least arity negative (front ++ token ∷ beyond) ≡ Err (suc (length beyond), kind)
     first-again negative front token back beyond kind like e = ⊎_elim
         (λ term. first-stops generators least arity (front ++ token ∷ beyond) negative (suc (length beyond), kind) (term-again asked negative front token back beyond kind like term))
@@ -362,25 +317,7 @@ module _ (generators : List Generator) (table : IsTable generators) where
             (ap (further_in (length one.behind) generators demands) (sym t.behind_is) ∙ one.others_stop) in
             further-stops generators least arity (front ++ token ∷ beyond) (t.between ++ token ∷ beyond) negative one.first (suc (length beyond), kind) t.again stops
 
-    first-nothing : (token : Token) (back beyond : List Token) (kind : DocKind) → GoOnAlike kind beyond back → is_nothing (token ∷ back) ≡ false
-        → element_in generators asked (token ∷ back) ≡ Err (suc (length back), kind) → is_nothing (token ∷ beyond) ≡ false
-    first-nothing (Number n) back beyond kind like other e = ⊎_elim
-        (λ term. ap (λ star. is_zero (Number n) && not star) (first-alike asked false n back beyond kind like term) ∙ other)
-        (λ (one : FirstThenStops false (Number n ∷ back) (suc (length back), kind)).
-        let l = further-bounded (asked_of one.first.tree) (length one.behind) one.behind (suc (length back), kind) one.others_stop in
-        absurd (omega (arith, l, term-length asked false (Number n ∷ back) one.behind one.first one.first_is)))
-        (first-either false (Number n ∷ back) (suc (length back), kind) (sym (first-is generators least arity (Number n ∷ back) (Number n ∷ back) false other refl refl) ∙ e))
-    first-nothing (Byte d) back beyond kind like other e = refl
-    first-nothing (Word w) back beyond kind like other e = refl
-    first-nothing Long back beyond kind like other e = refl
-    first-nothing Bad back beyond kind like other e = refl
-
-    nothing-again : (front : List Token) (token : Token) (back beyond : List Token) (kind : DocKind) → GoOnAlike kind beyond back → is_nothing (front ++ token ∷ back) ≡ false
-        → element_in generators asked (front ++ token ∷ back) ≡ Err (suc (length back), kind) → is_nothing (front ++ token ∷ beyond) ≡ false
-    nothing-again [] token back beyond kind like other e = first-nothing token back beyond kind like other e
-    nothing-again (x ∷ front) token back beyond kind like other e = sym (nothing-same x front token back beyond) ∙ other
-
-    element-again : (front : List Token) (token : Token) (back beyond : List Token) (kind : DocKind) → GoOnAlike kind beyond back
+    element-again : (front : List Token) (token : Token) (back beyond : List Token) (kind : DocKind) → IsSameBefore token beyond back
         → element_in generators asked (front ++ token ∷ back) ≡ Err (suc (length back), kind) → element_in generators asked (front ++ token ∷ beyond) ≡ Err (suc (length beyond), kind)
     element-again front token back beyond kind like e = by_nothing (is_nothing (front ++ token ∷ back)) refl
       where
@@ -400,7 +337,7 @@ module _ (generators : List Generator) (table : IsTable generators) where
         by_nothing : (b : Bool) → is_nothing (front ++ token ∷ back) ≡ b → element_in generators asked (front ++ token ∷ beyond) ≡ Err (suc (length beyond), kind)
         by_nothing true is =
             let both : ◌≡◌ {A = Reading (List Written)} (Ok ([], behind_one (front ++ token ∷ back))) (Err (suc (length back), kind)) = sym (nothing-is generators least arity (front ++ token ∷ back) is) ∙ e in absurd cc
-        by_nothing false other = by_minus front (begins_with 45 (front ++ token ∷ back)) refl other (nothing-again front token back beyond kind like other e) e
+        by_nothing false other = by_minus front (begins_with 45 (front ++ token ∷ back)) refl other (nothing-same front token back beyond like ∙ other) e
 
     -- the tokens of an element alone are read
     alone : (terms : List Written) → AreDemanded generators least arity terms → element_in generators asked (element_tokens generators terms) ≡ Ok (terms, [])
@@ -419,10 +356,10 @@ module _ (generators : List Generator) (table : IsTable generators) where
 
   module _ (demands : Demands) (kind : DocKind) (t : Tree ℕ) (ruled : IsRuledOut generators demands kind t) where
     -- the tokens of the tree are refused for another reason
-    tree-refused : (left : ℕ) (rest : List Token) → whole_tree_in generators demands (tree_tokens generators t ++ rest) ≡ Err (left, kind) → ⊥
-    tree-refused left rest e = ⊎_elim
+    tree-refused : (left : ℕ) (rest : List Token) → EndsTree t rest → whole_tree_in generators demands (tree_tokens generators t ++ rest) ≡ Err (left, kind) → ⊥
+    tree-refused left rest ends e = ⊎_elim
         (λ inside. breaks_ruled generators demands kind t ruled other
-        (subst (λ m. IsReadOrBreaks 8 (nested t) (0 + leaf_count t) m t rest) inside (tree_or_breaks generators table t 8 0 rest (fits_ruled generators demands kind t ruled))))
+        (subst (λ m. IsReadOrBreaks 8 (nested t) (0 + leaf_count t) m t rest) inside (tree_or_breaks generators table t 8 0 rest (fits_ruled generators demands kind t ruled) (λ is. unmarked 42 rest (ends is)))))
         (λ (j : IsJudged generators demands (tree_tokens generators t ++ rest) left kind).
         first_of_three (not demands.loose && not (has_each (leaf_count j.tree) j.tree)) (nat_lt (leaf_count j.tree) demands.least) (differs demands.arity (leaf_count j.tree)) kind j.row
         (λ k. IsRuledOut generators demands k t) other other other ruled)
@@ -430,7 +367,7 @@ module _ (generators : List Generator) (table : IsTable generators) where
       where
         other : IsDemanded generators demands t → ⊥
         other demanded =
-            let accepted : whole_tree_in generators demands (tree_tokens generators t ++ rest) ≡ Ok (t, rest) = (all_accepted generators table demands (tree_tokens generators t ++ rest) rest t).1 (refl, demanded) in
+            let accepted : whole_tree_in generators demands (tree_tokens generators t ++ rest) ≡ Ok (t, rest) = (all_accepted generators table demands (tree_tokens generators t ++ rest) rest t).1 (refl, demanded, ends) in
             let both : ◌≡◌ {A = Reading (Tree ℕ)} (Ok (t, rest)) (Err (left, kind)) = sym accepted ∙ e in absurd cc
 
   -- ---- terms of such trees
@@ -438,23 +375,23 @@ module _ (generators : List Generator) (table : IsTable generators) where
   abbrev IsRuled : DocKind → Written → Type 0
   IsRuled kind term = (demands : Demands) → IsRuledOut generators demands kind term.tree
 
-  module _ (demands : Demands) (negative : Bool) (kind : DocKind) (term : Written) (ruled : IsRuled kind term) (rest : List Token) (bare : is_bare_leaf term.coefficient term.tree ≡ true → NotMarked 42 rest) where
+  module _ (demands : Demands) (negative : Bool) (kind : DocKind) (term : Written) (ruled : IsRuled kind term) (rest : List Token) (ends : EndsTree term.tree rest) where
     abbrev whole : List Token
     whole = term_tokens generators term ++ rest
 
     number : coefficient whole ≡ term.coefficient
-    number = coefficient-is generators term.coefficient term.tree rest bare
+    number = coefficient-is generators term.coefficient term.tree rest ends
 
     term-refused : (left : ℕ) → term_in generators demands negative whole ≡ Err (left, kind) → ⊥
     term-refused left e =
         let tree = term-by-tree demands negative whole (left, kind) e in
         let front : behind_coefficient (coefficient whole) whole ≡ tree_tokens generators term.tree ++ rest = ap (λ (c : Option ℕ). behind_coefficient c whole) number ∙ behind-is generators term.coefficient term.tree rest in
-        tree-refused demands kind term.tree (ruled demands) left rest (ap (whole_tree_in generators demands) (sym front) ∙ tree)
+        tree-refused demands kind term.tree (ruled demands) left rest ends (ap (whole_tree_in generators demands) (sym front) ∙ tree)
 
     term-rest : (found : Written) (behind : List Token) → term_in generators demands negative whole ≡ Ok (found, behind) → behind ≡ rest
     term-rest found behind e =
         let one : TermSpelled all_accepted generators table demands negative whole behind found = term-spelled all_accepted generators table demands negative whole behind found e in
-        let c : term.coefficient ≡ found.coefficient = sym number ∙ ap coefficient one.spelled ∙ coefficient-is generators found.coefficient found.tree behind one.bare in
+        let c : term.coefficient ≡ found.coefficient = sym number ∙ ap coefficient one.spelled ∙ coefficient-is generators found.coefficient found.tree behind one.ends in
         let trees : tree_tokens generators term.tree ++ rest ≡ tree_tokens generators found.tree ++ behind = sym (behind-is generators term.coefficient term.tree rest)
         ∙ ap (behind_coefficient term.coefficient) one.spelled ∙ ap (λ (d : Option ℕ). behind_coefficient d (term_tokens generators found ++ behind)) c ∙ behind-is generators found.coefficient found.tree behind in
         sym (read_once generators table term.tree found.tree rest behind (fits_ruled generators demands kind term.tree (ruled demands)) one.tree.fits trees).1
@@ -466,12 +403,12 @@ module _ (generators : List Generator) (table : IsTable generators) where
   further-refused demands kind (term ∷ terms) all (suc most) left e =
       let behind = further_tokens generators terms in
       let ruled : IsRuled kind term = All-head (IsRuled kind) term terms all in
-      let bare : is_bare_leaf term.coefficient term.tree ≡ true → NotMarked 42 behind = λ _. further-no-star generators terms in
+      let ends : EndsTree term.tree behind = λ _. further-no-star generators terms in
       ⊎_elim
-      (λ first. term-refused demands term.negative kind term ruled behind bare left first)
+      (λ first. term-refused demands term.negative kind term ruled behind ends left first)
       (λ (one : TermThenStops demands term.negative (term_tokens generators term ++ behind) (λ first others. further_in most generators demands others ≡ Err (left, kind))).
       further-refused demands kind terms (All-tail (IsRuled kind) term terms all) most left
-      (ap (further_in most generators demands) (sym (term-rest demands term.negative kind term ruled behind bare one.first one.behind one.first_is)) ∙ one.others_stop))
+      (ap (further_in most generators demands) (sym (term-rest demands term.negative kind term ruled behind ends one.first one.behind one.first_is)) ∙ one.others_stop))
       (sign-either demands most term.negative (further_tokens generators (term ∷ terms)) (left, kind)
       (sym (signed generators demands most (further_tokens generators (term ∷ terms)) term.negative (sign-is term.negative (term_tokens generators term ++ behind))) ∙ e))
 
@@ -487,17 +424,17 @@ module _ (generators : List Generator) (table : IsTable generators) where
         ruled : IsRuled kind term
         ruled = All-head (IsRuled kind) term terms all
 
-        bare : is_bare_leaf term.coefficient term.tree ≡ true → NotMarked 42 behind
-        bare _ = further-no-star generators terms
+        ends : EndsTree term.tree behind
+        ends _ = further-no-star generators terms
 
         by_nothing : (b : Bool) → is_nothing (element_tokens generators (term ∷ terms)) ≡ b → ⊥
         by_nothing true is =
             let both : ◌≡◌ {A = Reading (List Written)} (Ok ([], behind_one (element_tokens generators (term ∷ terms)))) (Err (left, kind)) = sym (nothing-is generators least arity (element_tokens generators (term ∷ terms)) is) ∙ e in absurd cc
         by_nothing false other = ⊎_elim
-            (λ first. term-refused (demands_of least arity) term.negative kind term ruled behind bare left first)
+            (λ first. term-refused (demands_of least arity) term.negative kind term ruled behind ends left first)
             (λ (one : FirstThenStops least arity term.negative (term_tokens generators term ++ behind) (left, kind)).
             further-refused (asked_of least arity one.first.tree) kind terms (All-tail (IsRuled kind) term terms all) (length one.behind) left
-            (ap (further_in (length one.behind) generators (asked_of least arity one.first.tree)) (sym (term-rest (demands_of least arity) term.negative kind term ruled behind bare one.first one.behind one.first_is)) ∙ one.others_stop))
+            (ap (further_in (length one.behind) generators (asked_of least arity one.first.tree)) (sym (term-rest (demands_of least arity) term.negative kind term ruled behind ends one.first one.behind one.first_is)) ∙ one.others_stop))
             (first-either least arity term.negative (term_tokens generators term ++ behind) (left, kind)
             (sym (first-is generators least arity (element_tokens generators (term ∷ terms)) (term_tokens generators term ++ behind) term.negative other
             (minus-there generators term.negative term.coefficient term.tree behind) (minus-behind term.negative (term_tokens generators term ++ behind))) ∙ e))

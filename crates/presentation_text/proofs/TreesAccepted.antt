@@ -1,42 +1,22 @@
 -- Which whole trees are read.
 use Rattle.std.specs.Prelude.{nat_lt, ◌==◌}
-use Rattle.std.proofs.Common.{◌≡◌, ℕ, suc, ◌≤◌, Bool, true, false, not, ◌&&◌, List, [], ◌∷◌, ◌++◌, length, Option, Some, None, Ok, refl, ap, ◌∙◌, subst, arith}
+use Rattle.std.proofs.Common.{◌≡◌, ℕ, suc, ◌≤◌, Bool, true, false, not, ◌&&◌, List, ◌++◌, length, Option, Some, None, Ok, refl, ap, ◌∙◌, subst, arith}
 use Rattle.std.proofs.lemmas.Bool.Decides.{Decides-eqb, nat_tests}
 use Rattle.labelled_trees.specs.Trees.{Tree}
 use Rattle.labelled_trees.specs.Leaves.{leaf_count}
 use Rattle.labelled_trees.specs.Labelled.{IsNumbered}
 use Rattle.symmetric_trees.specs.Generators.{IsTable}
 use Rattle.symmetric_trees.specs.declared.generators.Generator.{Generator}
-use Rattle.presentation_text.specs.Accepted.{IsDemanded, TreesAreAccepted}
-use Rattle.presentation_text.specs.declared.kinds.DocKind.{DocKind}
+use Rattle.presentation_text.specs.Accepted.{IsDemanded, EndsTree, TreesAreAccepted}
 use Rattle.presentation_text.specs.declared.kinds.DocKind.TheVariants.{Labels, ArityOut, MixedArity}
 use Rattle.presentation_text.specs.declared.lexing.Token.{Token}
 use Rattle.presentation_text.specs.declared.trees.Demands.{Demands}
-use Rattle.presentation_text.specs.Readings.{first_row, refused}
 use Rattle.presentation_text.specs.TreeReadings.{tree_in, has_each, differs, whole_tree_in}
 use Rattle.presentation_text.specs.TreeText.{tree_tokens}
 use Rattle.presentation_text.proofs.TreeFormsLeaves.{has-each, numbered-had}
 use Rattle.presentation_text.proofs.TreeFormsSteps.{judged, whole-accepted}
-use Rattle.presentation_text.proofs.TreesAcceptedTrees.{bound, IsReadInside, tree_sound, tree_back}
-
--- none of three rows holds
-pub record NoneOfThree (a b c : Bool) : Type 0 where
-  pub first : a ≡ false
-  pub second : b ≡ false
-  pub third : c ≡ false
-
-pub none_held : {X : Type 0} (a b c : Bool) (kind_a kind_b kind_c : DocKind) (left : ℕ) (x y : X)
-    → refused left (first_row ((a, kind_a) ∷ (b, kind_b) ∷ (c, kind_c) ∷ [])) (Ok x) ≡ Ok y → NoneOfThree a b c × (x ≡ y)
-none_held true b c kind_a kind_b kind_c left x y e = absurd cc
-none_held false true c kind_a kind_b kind_c left x y e = absurd cc
-none_held false false true kind_a kind_b kind_c left x y e = absurd cc
-none_held false false false kind_a kind_b kind_c left x y e = (record { first = refl; second = refl; third = refl }, cc)
-
-no_rows : (a b c : Bool) (kind_a kind_b kind_c : DocKind) → NoneOfThree a b c → first_row ((a, kind_a) ∷ (b, kind_b) ∷ (c, kind_c) ∷ []) ≡ None
-no_rows true b c kind_a kind_b kind_c none = let f = none.first in absurd cc
-no_rows false true c kind_a kind_b kind_c none = let f = none.second in absurd cc
-no_rows false false true kind_a kind_b kind_c none = let f = none.third in absurd cc
-no_rows false false false kind_a kind_b kind_c none = refl
+use Rattle.presentation_text.proofs.ElementFronts.{not-marked, unmarked}
+use Rattle.presentation_text.proofs.TreesAcceptedTrees.{bound, none_held, no_rows, IsReadInside, tree_sound, tree_back}
 
 -- ---- the tests against a tree
 
@@ -72,11 +52,11 @@ is_same_arity (Some k) n f = ap not ((Decides-eqb n k).1 (f k refl))
 
 module _ (generators : List Generator) (table : IsTable generators) (demands : Demands) where
   read_demanded : (ts rest : List Token) (t u : Tree ℕ) (others : List Token) → IsReadInside generators 8 0 ts u others
-      → judged demands (u, others) ≡ Ok (t, rest) → (ts ≡ tree_tokens generators t ++ rest) × IsDemanded generators demands t
+      → judged demands (u, others) ≡ Ok (t, rest) → (ts ≡ tree_tokens generators t ++ rest) × IsDemanded generators demands t × EndsTree t rest
   read_demanded ts rest t u others read e =
       let tests = none_held (not demands.loose && not (has_each (leaf_count u) u)) (nat_lt (leaf_count u) demands.least) (differs demands.arity (leaf_count u)) Labels ArityOut MixedArity (suc (length others)) (u, others) (t, rest) e in
       let narrow = read.narrow in
-      subst (λ (found : Tree ℕ × List Token). (ts ≡ tree_tokens generators found.0 ++ found.1) × IsDemanded generators demands found.0) tests.1 (
+      subst (λ (found : Tree ℕ × List Token). (ts ≡ tree_tokens generators found.0 ++ found.1) × IsDemanded generators demands found.0 × EndsTree found.0 found.1) tests.1 (
         read.spelled,
         record {
           fits = read.fits;
@@ -87,19 +67,20 @@ module _ (generators : List Generator) (table : IsTable generators) (demands : D
           least = large_enough (leaf_count u) demands.least tests.0.second;
           arity = same_arity demands.arity (leaf_count u) tests.0.third;
         },
+        λ is. not-marked 42 others (read.ends is),
       )
 
-  accepted_only : (ts rest : List Token) (t : Tree ℕ) → whole_tree_in generators demands ts ≡ Ok (t, rest) → (ts ≡ tree_tokens generators t ++ rest) × IsDemanded generators demands t
+  accepted_only : (ts rest : List Token) (t : Tree ℕ) → whole_tree_in generators demands ts ≡ Ok (t, rest) → (ts ≡ tree_tokens generators t ++ rest) × IsDemanded generators demands t × EndsTree t rest
   unfolding whole_tree_in
   accepted_only ts rest t e =
       let found = bound (tree_in generators 8 0 ts) (judged demands) (t, rest) e in
       read_demanded ts rest t found.value.0 found.value.1 (tree_sound generators table 8 0 ts found.value.0 found.value.1 (omega arith) found.first) found.further
 
-  accepted : (ts rest : List Token) (t : Tree ℕ) → (ts ≡ tree_tokens generators t ++ rest) × IsDemanded generators demands t → whole_tree_in generators demands ts ≡ Ok (t, rest)
+  accepted : (ts rest : List Token) (t : Tree ℕ) → (ts ≡ tree_tokens generators t ++ rest) × IsDemanded generators demands t × EndsTree t rest → whole_tree_in generators demands ts ≡ Ok (t, rest)
   accepted ts rest t h =
       let demanded : IsDemanded generators demands t = h.1 in
       let narrow = demanded.narrow in
-      let inside = ap (tree_in generators 8 0) h.0 ∙ tree_back generators table t 8 0 rest demanded.fits demanded.shallow (omega arith) demanded.small in
+      let inside = ap (tree_in generators 8 0) h.0 ∙ tree_back generators table t 8 0 rest demanded.fits demanded.shallow (omega arith) demanded.small (λ is. unmarked 42 rest (h.2 is)) in
       let nothing = no_rows (not demands.loose && not (has_each (leaf_count t) t)) (nat_lt (leaf_count t) demands.least) (differs demands.arity (leaf_count t)) Labels ArityOut MixedArity
       (record {
         first = like_leaves demands.loose (has_each (leaf_count t) t) (λ strict. let numbered : IsNumbered (leaf_count t) t = demanded.numbered strict in has-each (leaf_count t) t numbered.each);

@@ -11,7 +11,8 @@ use Rattle.symmetric_trees.specs.Generators.{IsTable}
 use Rattle.symmetric_trees.specs.Trees.{Fits}
 use Rattle.symmetric_trees.specs.declared.generators.Generator.{Generator}
 use Rattle.presentation_text.specs.declared.kinds.DocKind.{DocKind}
-use Rattle.presentation_text.specs.declared.kinds.DocKind.TheVariants.{InputCount, TooWide, Labels}
+use Rattle.presentation_text.specs.Accepted.{is_leaf}
+use Rattle.presentation_text.specs.declared.kinds.DocKind.TheVariants.{InputCount, TooWide, Labels, Syntax}
 use Rattle.presentation_text.specs.declared.lexing.Token.{Token}
 use Rattle.presentation_text.specs.declared.lexing.Token.TheVariants.{Word, Number, Long, Byte, Bad}
 use Rattle.presentation_text.specs.Readings.{Fault, Reading, ◌>>=◌, is_mark, misplaced, mark_in, first_row, refused}
@@ -121,13 +122,14 @@ least_arity (x ∷ xs) table g l = arity_in-least (x ∷ xs) table g x l
 
 -- ---- what is read inside a tree
 
--- A tree that was read: its tokens were there, and it fits.
+-- A tree that was read: its tokens were there, it fits, and behind a leaf alone no '*' stands.
 pub record IsReadInside (generators : List Generator) (depth seen : ℕ) (ts : List Token) (t : Tree ℕ) (rest : List Token) : Type 0 where
   pub spelled : ts ≡ tree_tokens generators t ++ rest
   pub fits : Fits generators t
   pub shallow : nested t ≤ depth
   pub narrow : seen + leaf_count t ≤ 9
   pub small : AllLeaves t (λ n. n ≤ 99)
+  pub ends : is_leaf t ≡ true → begins_with 42 rest ≡ false
 
 -- the tokens of inputs, each with its mark before it
 abbrev pub inputs_tokens : List Generator → Bool → Row ℕ → List Token
@@ -161,10 +163,24 @@ ReadsInside generators depth inside = (seen : ℕ) (ts : List Token) (t : Tree �
 
 -- ---- what is read is a tree that fits
 
-passed : {X : Type 0} (a b : Bool) (kind other_kind : DocKind) (left : ℕ) (x y : X) → refused left (first_row ((a, kind) ∷ (b, other_kind) ∷ [])) (Ok x) ≡ Ok y → (a ≡ false) × (b ≡ false) × (x ≡ y)
-passed true b kind other_kind left x y e = absurd cc
-passed false true kind other_kind left x y e = absurd cc
-passed false false kind other_kind left x y e = (refl, refl, cc)
+-- none of three rows holds
+pub record NoneOfThree (a b c : Bool) : Type 0 where
+  pub first : a ≡ false
+  pub second : b ≡ false
+  pub third : c ≡ false
+
+pub none_held : {X : Type 0} (a b c : Bool) (kind_a kind_b kind_c : DocKind) (left : ℕ) (x y : X)
+    → refused left (first_row ((a, kind_a) ∷ (b, kind_b) ∷ (c, kind_c) ∷ [])) (Ok x) ≡ Ok y → NoneOfThree a b c × (x ≡ y)
+none_held true b c kind_a kind_b kind_c left x y e = absurd cc
+none_held false true c kind_a kind_b kind_c left x y e = absurd cc
+none_held false false true kind_a kind_b kind_c left x y e = absurd cc
+none_held false false false kind_a kind_b kind_c left x y e = (record { first = refl; second = refl; third = refl }, cc)
+
+pub no_rows : (a b c : Bool) (kind_a kind_b kind_c : DocKind) → NoneOfThree a b c → first_row ((a, kind_a) ∷ (b, kind_b) ∷ (c, kind_c) ∷ []) ≡ None
+no_rows true b c kind_a kind_b kind_c h = let f = h.first in absurd cc
+no_rows false true c kind_a kind_b kind_c h = let f = h.second in absurd cc
+no_rows false false true kind_a kind_b kind_c h = let f = h.third in absurd cc
+no_rows false false false kind_a kind_b kind_c h = refl
 
 not_le : (a b : ℕ) → nat_le a b ≡ false → b < a
 not_le a b e = grind (arith, nat_tests)
@@ -174,10 +190,10 @@ not_lt a b e = grind (arith, nat_tests)
 
 leaf_sound : (generators : List Generator) (depth seen n : ℕ) (others : List Token) (t : Tree ℕ) (rest : List Token) → leaf_in seen n others ≡ Ok (t, rest) → IsReadInside generators depth seen (Number n ∷ others) t rest
 leaf_sound generators depth seen n others t rest e =
-    let tests = passed (nat_le 9 seen) (nat_lt 99 n) TooWide Labels (suc (length others)) (leaf n, others) (t, rest) e in
-    let few = not_le 9 seen tests.0 in
-    subst (λ found. IsReadInside generators depth seen (Number n ∷ others) found.0 found.1) tests.2
-    (record { spelled = refl; fits = tt; shallow = omega arith; narrow = omega arith; small = not_lt 99 n tests.1 })
+    let tests = none_held (begins_with 42 others) (nat_le 9 seen) (nat_lt 99 n) Syntax TooWide Labels (suc (length others)) (leaf n, others) (t, rest) e in
+    let few = not_le 9 seen tests.0.second in
+    subst (λ found. IsReadInside generators depth seen (Number n ∷ others) found.0 found.1) tests.1
+    (record { spelled = refl; fits = tt; shallow = omega arith; narrow = omega arith; small = not_lt 99 n tests.0.third; ends = λ _. tests.0.first })
 
 module _ (generators : List Generator) (depth : ℕ) where
   none_sound : (seen : ℕ) (first : Bool) (ts mid : List Token) (r : Row ℕ) (rest : List Token) → seen ≤ 9 → close_in ts ≡ Ok mid → ◌≡◌ {A = Reading (Row ℕ)} (Ok (none, mid)) (Ok (r, rest))
@@ -226,6 +242,7 @@ module _ (generators : List Generator) (depth : ℕ) where
         shallow = omega arith;
         narrow = rows.narrow;
         small = rows.small;
+        ends = λ is. absurd cc;
       })
 
 module _ (generators : List Generator) (depth : ℕ) (inside : Inside) (sound : ReadsInside generators depth inside) where
@@ -282,23 +299,25 @@ tree_sound generators table (suc depth) = sound_or_end generators table (suc dep
 
 -- ---- a tree that fits is read
 
-all_passed : {X : Type 0} (a b : Bool) (kind other_kind : DocKind) (left : ℕ) (reading : Result X Fault) → a ≡ false → b ≡ false → refused left (first_row ((a, kind) ∷ (b, other_kind) ∷ [])) reading ≡ reading
-all_passed true b kind other_kind left reading e f = absurd cc
-all_passed false true kind other_kind left reading e f = absurd cc
-all_passed false false kind other_kind left reading e f = refl
-
 is_below : (a b : ℕ) → b < a → nat_le a b ≡ false
 is_below a b l = grind (arith, nat_tests)
 
 is_upto : (a b : ℕ) → b ≤ a → nat_lt a b ≡ false
 is_upto a b l = grind (arith, nat_tests)
 
-leaf_back : (seen n : ℕ) (rest : List Token) → seen < 9 → n ≤ 99 → leaf_in seen n rest ≡ Ok (leaf n, rest)
-leaf_back seen n rest l small = all_passed (nat_le 9 seen) (nat_lt 99 n) TooWide Labels (suc (length rest)) (Ok (leaf n, rest)) (is_below 9 seen l) (is_upto 99 n small)
+leaf_back : (seen n : ℕ) (rest : List Token) → begins_with 42 rest ≡ false → seen < 9 → n ≤ 99 → leaf_in seen n rest ≡ Ok (leaf n, rest)
+leaf_back seen n rest ends l small =
+    ap (λ row. refused (suc (length rest)) row (Ok (leaf n, rest)))
+    (no_rows (begins_with 42 rest) (nat_le 9 seen) (nat_lt 99 n) Syntax TooWide Labels (record { first = ends; second = is_below 9 seen l; third = is_upto 99 n small }))
 
 pub tree_begins : (generators : List Generator) (t : Tree ℕ) (rest : List Token) → begins_with 41 (tree_tokens generators t ++ rest) ≡ false
 tree_begins generators (leaf n) rest = refl
 tree_begins generators (node g r) rest = refl
+
+-- behind an input stands ',' or ')'
+pub input_ends : (generators : List Generator) (r : Row ℕ) (rest : List Token) → begins_with 42 (inputs_tokens generators false r ++ Byte 41 ∷ rest) ≡ false
+input_ends generators none rest = refl
+input_ends generators (more t r) rest = refl
 
 max_left : (a b n : ℕ) → max a b ≤ n → a ≤ n
 max_left a b n h = omega arith
@@ -314,9 +333,9 @@ module _ (generators : List Generator) (table : IsTable generators) where
 
   mutual
     pub tree_back : (t : Tree ℕ) (depth seen : ℕ) (rest : List Token) → Fits generators t → nested t ≤ depth → seen + leaf_count t ≤ 9 → AllLeaves t (λ n. n ≤ 99)
-        → tree_in generators depth seen (tree_tokens generators t ++ rest) ≡ Ok (t, rest)
-    tree_back (leaf n) depth seen rest fits shallow narrow small = steps.tree_in-number generators depth seen n rest ∙ leaf_back seen n rest (omega arith) small
-    tree_back (node g r) depth seen rest fits shallow narrow small =
+        → (is_leaf t ≡ true → begins_with 42 rest ≡ false) → tree_in generators depth seen (tree_tokens generators t ++ rest) ≡ Ok (t, rest)
+    tree_back (leaf n) depth seen rest fits shallow narrow small ends = steps.tree_in-number generators depth seen n rest ∙ leaf_back seen n rest (ends refl) (omega arith) small
+    tree_back (node g r) depth seen rest fits shallow narrow small ends =
         let least : 2 ≤ arity_in generators g = fits.0 in
         let wide : width r ≡ arity_in generators g = fits.1 in
         let some : 0 < width r = omega arith in
@@ -337,6 +356,6 @@ module _ (generators : List Generator) (table : IsTable generators) where
         let parted : within ≡ tree_tokens generators t ++ behind_it = append_assoc (tree_tokens generators t) (inputs_tokens generators false r) (Byte 41 ∷ rest) in
         let one : input_in inside seen within ≡ Ok (t, behind_it) =
         ap (input_in inside seen) parted ∙ steps.input_in-tree inside seen (tree_tokens generators t ++ behind_it) (tree_begins generators t behind_it)
-        ∙ tree_back t depth seen behind_it fits.0 (max_left (nested t) (nested_row r) depth shallow) (omega arith) small.0 in
+        ∙ tree_back t depth seen behind_it fits.0 (max_left (nested t) (nested_row r) depth shallow) (omega arith) small.0 (λ _. input_ends generators r rest) in
         let others = row_back false r depth (seen + leaf_count t) rest fits.1 (max_right (nested t) (nested_row r) depth shallow) (omega arith) small.1 in
         steps.row_in-more inside first (width r) seen (Byte (mark_of first) ∷ within) within behind_it t (before_in-back first within) one ∙ ap (steps.behind (t ∷ [])) others

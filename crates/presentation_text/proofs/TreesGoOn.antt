@@ -8,11 +8,11 @@ use Rattle.symmetric_trees.specs.Generators.{IsTable}
 use Rattle.symmetric_trees.specs.Trees.{Fits}
 use Rattle.symmetric_trees.specs.declared.generators.Generator.{Generator}
 use Rattle.presentation_text.specs.declared.kinds.DocKind.{DocKind}
-use Rattle.presentation_text.specs.declared.kinds.DocKind.TheVariants.{InputCount, TooWide, Labels}
+use Rattle.presentation_text.specs.declared.kinds.DocKind.TheVariants.{InputCount, TooWide, Labels, Syntax}
 use Rattle.presentation_text.specs.declared.lexing.Token.{Token}
 use Rattle.presentation_text.specs.declared.lexing.Token.TheVariants.{Word, Number, Long, Byte, Bad}
 use Rattle.presentation_text.specs.Readings.{Fault, Reading, ◌>>=◌, is_mark, misplaced, first_row, refused}
-use Rattle.presentation_text.specs.TreeReadings.{Inside, index_of, before_in, close_in, input_in, row_in, node_in, begun_in, tree_or_end_in, tree_in}
+use Rattle.presentation_text.specs.TreeReadings.{Inside, index_of, begins_with, before_in, close_in, input_in, row_in, node_in, begun_in, tree_or_end_in, tree_in}
 use Rattle.presentation_text.specs.TreeText.{tree_tokens}
 use Rattle.presentation_text.proofs.TreeTokens.{arity_in}
 use Rattle.presentation_text.proofs.TreeFormsSteps as steps
@@ -76,6 +76,10 @@ row_length : {X : Type 0} (a b : Bool) (kind other : DocKind) (left : ℕ) (x : 
 row_length true b kind other left x fault e = let same : ◌≡◌ {A = Fault} (left, kind) fault = cc in ap (λ (f : Fault). f.0) (sym same)
 row_length false true kind other left x fault e = let same : ◌≡◌ {A = Fault} (left, other) fault = cc in ap (λ (f : Fault). f.0) (sym same)
 row_length false false kind other left x fault e = absurd cc
+
+rows_length : {X : Type 0} (a b c : Bool) (kind other third : DocKind) (left : ℕ) (x : X) (fault : Fault) → refused left (first_row ((a, kind) ∷ (b, other) ∷ (c, third) ∷ [])) (Ok x) ≡ Err fault → fault.0 ≡ left
+rows_length true b c kind other third left x fault e = let same : ◌≡◌ {A = Fault} (left, kind) fault = cc in ap (λ (f : Fault). f.0) (sym same)
+rows_length false b c kind other third left x fault e = row_length b c other third left x fault e
 
 mark_length : (b : Bool) (other : DocKind) (left : ℕ) (rest : List Token) (fault : Fault) → (if b then Ok rest else Err (left, other)) ≡ Err fault → fault.0 ≡ left
 mark_length true other left rest fault e = absurd cc
@@ -220,7 +224,7 @@ named_goes generators table depth (Some inside) below seen l w (Some g) is front
 begun_goes : (generators : List Generator) (table : IsTable generators) (depth : ℕ) (inside : Option Inside) → GoOnBelow generators depth inside → (seen : ℕ) → seen ≤ 9 → (token : Token) (front back : List Token) (kind : DocKind)
     → begun_in generators inside seen token (front ++ back) ≡ Err (length back, kind) → Begins generators (token ∷ front)
 begun_goes generators table depth inside below seen l (Number n) front back kind e =
-    let left = row_length (nat_le 9 seen) (nat_lt 99 n) TooWide Labels (suc (length (front ++ back))) (leaf n, front ++ back) (length back, kind) e in
+    let left = rows_length (begins_with 42 (front ++ back)) (nat_le 9 seen) (nat_lt 99 n) Syntax TooWide Labels (suc (length (front ++ back))) (leaf n, front ++ back) (length back, kind) e in
     absurd (omega (arith, left, length-append front back))
 begun_goes generators table depth inside below seen l (Word w) front back kind e = named_goes generators table depth inside below seen l w (index_of w generators) refl front back kind e
 begun_goes generators table depth inside below seen l Long front back kind e = absurd (not_first front back kind _ e)

@@ -17,6 +17,7 @@ use Rattle.presentation_text.specs.TreeText.{nested, tree_tokens}
 use Rattle.presentation_text.proofs.TreeTokens.{read_once}
 use Rattle.presentation_text.proofs.TreeFormsSteps.{judged}
 use Rattle.presentation_text.proofs.TreesAcceptedTrees.{IsReadInside, tree_sound, tree_back}
+use Rattle.presentation_text.proofs.ElementFronts.{not-marked}
 use Rattle.presentation_text.proofs.TreesAccepted.{all_accepted}
 use Rattle.presentation_text.proofs.TreesGoOn.{Begins, tree_goes}
 use Rattle.presentation_text.proofs.TreesStopTrees.{local_tree}
@@ -82,19 +83,19 @@ module _ (generators : List Generator) (table : IsTable generators) (demands : D
       let whole : tree_in generators 8 0 (tree_tokens generators t ++ []) ≡ Err (left, kind) = ap (tree_in generators 8 0) (append-nil (tree_tokens generators t)) ∙ e in
       let other : IsDemanded generators demands t → ⊥ = λ demanded. no_demanded demanded whole in
       breaks_ruled generators demands kind t h other
-      (subst (λ m. IsReadOrBreaks 8 (nested t) (0 + leaf_count t) m t []) whole (tree_or_breaks generators table t 8 0 [] (fits_ruled generators demands kind t h)))
+      (subst (λ m. IsReadOrBreaks 8 (nested t) (0 + leaf_count t) m t []) whole (tree_or_breaks generators table t 8 0 [] (fits_ruled generators demands kind t h) (λ _. refl)))
     where
       no_demanded : IsDemanded generators demands t → tree_in generators 8 0 (tree_tokens generators t ++ []) ≡ Err (left, kind) → ⊥
       no_demanded demanded whole =
           let narrow = demanded.narrow in
-          let read = tree_back generators table t 8 0 [] demanded.fits demanded.shallow (omega arith) demanded.small in
+          let read = tree_back generators table t 8 0 [] demanded.fits demanded.shallow (omega arith) demanded.small (λ _. refl) in
           let both : ◌≡◌ {A = Reading (Tree ℕ)} (Ok (t, [])) (Err (left, kind)) = sym read ∙ whole in absurd cc
 
   stopped_inside : (front back : List Token) (kind : DocKind) → tree_in generators 8 0 (front ++ back) ≡ Err (length back, kind) → (t : Tree ℕ) → IsRuledOut generators demands kind t
       → GoOnAs front back (tree_tokens generators t) → ⊥
   stopped_inside front [] kind e t h g = no_tree kind 0 t h (ap (tree_in generators 8 0) (g ∙ sym (append-nil front)) ∙ e)
   stopped_inside front (token ∷ back) kind e t h g =
-      no_tree kind (suc (length g.0)) t h (ap (tree_in generators 8 0) g.1 ∙ (local_tree generators 8 0).stops front token back g.0 kind e)
+      no_tree kind (suc (length g.0)) t h (ap (tree_in generators 8 0) g.1 ∙ (local_tree generators 8 0).stops front token back g.0 kind g.2 e)
 
 -- ---- at the last token of a tree
 
@@ -106,6 +107,12 @@ same_front (x ∷ p) q (y ∷ r) s e l =
     let first : x ≡ y = cc in
     let others : p ++ q ≡ r ++ s = cc in
     ap (λ z. z ∷ p) first ∙ ap (λ ts. y ∷ ts) (same_front p q r s others l)
+
+pub same_back : (p q r s : List Token) → p ++ q ≡ r ++ s → length q ≡ length s → q ≡ s
+same_back [] q [] s e l = e
+same_back [] q (x ∷ r) s e l = absurd (omega (arith, ap length e, length-append (x ∷ r) s, l))
+same_back (x ∷ p) q [] s e l = absurd (omega (arith, ap length e, length-append (x ∷ p) q, l))
+same_back (x ∷ p) q (y ∷ r) s e l = let others : p ++ q ≡ r ++ s = cc in same_back p q r s others l
 
 -- the tree that was read ends with the refused token
 as_far : (generators : List Generator) (table : IsTable generators) (demands : Demands) (front : List Token) (token : Token) (back : List Token) (kind : DocKind)
@@ -125,7 +132,7 @@ module _ (generators : List Generator) (table : IsTable generators) (demands : D
       let read : IsReadInside generators 8 0 (front ++ token ∷ back) j.tree j.others = ends.1 in
       let behind_it : tree_tokens generators t ++ [] ≡ tree_tokens generators j.tree ++ g.0 = append-nil (tree_tokens generators t) ∙ g.1 ∙ sym (append_assoc front (token ∷ []) g.0) ∙ ap (λ ts. ts ++ g.0) ends.0 in
       let same : t ≡ j.tree = (read_once generators table t j.tree [] g.0 demanded.fits read.fits behind_it).0 in
-      let accepted : whole_tree_in generators demands (front ++ token ∷ back) ≡ Ok (j.tree, j.others) = (all_accepted generators table demands (front ++ token ∷ back) j.others j.tree).1 (read.spelled, subst (IsDemanded generators demands) same demanded) in
+      let accepted : whole_tree_in generators demands (front ++ token ∷ back) ≡ Ok (j.tree, j.others) = (all_accepted generators table demands (front ++ token ∷ back) j.others j.tree).1 (read.spelled, subst (IsDemanded generators demands) same demanded, λ is. not-marked 42 j.others (read.ends is)) in
       let both : ◌≡◌ {A = Reading (Tree ℕ)} (Ok (j.tree, j.others)) (Err (suc (length back), kind)) = sym accepted ∙ e in
       absurd cc
 

@@ -1,24 +1,70 @@
--- Reading stops by what stands before the refused token and by that token alone.
+-- Reading stops by what stands before the refused token and by that token alone, where a number before '*' is another token.
 use Rattle.std.specs.Prelude.{if◌then◌else◌}
-use Rattle.std.proofs.Common.{◌≡◌, ◌⊎◌, inl, inr, suc, ◌≤◌, Bool, true, false, not, List, [], ◌∷◌, ◌++◌, length, Result, Ok, Err, refl, ap, sym, ◌∙◌, subst, arith, append_assoc, length-append}
+use Rattle.std.proofs.Common.{◌≡◌, ◌⊎◌, inl, inr, ℕ, suc, ◌≤◌, Bool, true, false, not, List, [], ◌∷◌, ◌++◌, length, Result, Ok, Err, refl, ap, sym, ◌∙◌, subst, arith, append_assoc, append-nil, length-append}
 use Rattle.presentation_text.specs.declared.kinds.DocKind.{DocKind}
 use Rattle.presentation_text.specs.declared.kinds.DocKind.TheVariants.{InputCount, Syntax}
+use Rattle.presentation_text.specs.Accepted.{IsSameBefore}
 use Rattle.presentation_text.specs.declared.lexing.Token.{Token}
+use Rattle.presentation_text.specs.declared.lexing.Token.TheVariants.{Word, Number, Long, Byte, Bad}
 use Rattle.presentation_text.specs.Readings.{Fault, Reading, ◌>>=◌, is_mark, misplaced, first_row, refused}
-use Rattle.presentation_text.specs.TreeReadings.{before_in, close_in}
+use Rattle.presentation_text.specs.TreeReadings.{begins_with, before_in, close_in}
 use Rattle.presentation_text.proofs.TreesAcceptedTrees.{ok_left, ok_right}
+
+-- ---- tokens that are the same before others
+
+-- the last of the tokens, if there is one, is the same before both
+abbrev pub EndTheSame : List Token → List Token → List Token → Type 0
+EndTheSame [] others rest = Unit {0}
+EndTheSame (token ∷ []) others rest = IsSameBefore token others rest
+EndTheSame (token ∷ (x ∷ used)) others rest = EndTheSame (x ∷ used) others rest
+
+pub same_before : (token : Token) (others rest : List Token) → begins_with 42 others ≡ begins_with 42 rest → IsSameBefore token others rest
+same_before (Number n) others rest e = e
+same_before (Word w) others rest e = tt
+same_before (Byte b) others rest e = tt
+same_before Long others rest e = tt
+same_before Bad others rest e = tt
+
+end_the_same : (used others rest : List Token) → begins_with 42 others ≡ begins_with 42 rest → EndTheSame used others rest
+end_the_same [] others rest e = tt
+end_the_same (token ∷ []) others rest e = same_before token others rest e
+end_the_same (token ∷ (x ∷ used)) others rest e = end_the_same (x ∷ used) others rest e
+
+pub same_last : (front : List Token) (token : Token) (others rest : List Token) → IsSameBefore token others rest → EndTheSame (front ++ token ∷ []) others rest
+same_last [] token others rest h = h
+same_last (x ∷ []) token others rest h = h
+same_last (x ∷ (y ∷ front)) token others rest h = same_last (y ∷ front) token others rest h
+
+same_tail : (token : Token) (used others rest : List Token) → EndTheSame (token ∷ used) others rest → EndTheSame used others rest
+same_tail token [] others rest h = tt
+same_tail token (x ∷ used) others rest h = h
+
+same_right : (used further others rest : List Token) → EndTheSame (used ++ further) others rest → EndTheSame further others rest
+same_right [] further others rest h = h
+same_right (token ∷ used) further others rest h = same_right used further others rest (same_tail token (used ++ further) others rest h)
+
+same_left : (used further others rest : List Token) → EndTheSame (used ++ further) others rest → EndTheSame used (further ++ others) (further ++ rest)
+same_left used [] others rest h = subst (λ (x : List Token). EndTheSame x others rest) (append-nil used) h
+same_left used (x ∷ further) others rest h = end_the_same used (x ∷ (further ++ others)) (x ∷ (further ++ rest)) refl
+
+-- the tokens begin alike, as far as the token that is refused
+pub begins-same : (c : ℕ) (front : List Token) (token : Token) (back beyond : List Token) → begins_with c (front ++ token ∷ back) ≡ begins_with c (front ++ token ∷ beyond)
+begins-same c [] token back beyond = refl
+begins-same c (x ∷ front) token back beyond = refl
+
+-- ---- what reading looks at
 
 -- what was read of the tokens, whatever stands behind them
 pub record IsReadFrom {X : Type 0} (read : List Token → Reading X) (ts : List Token) (x : X) (rest : List Token) : Type 0 where
   pub used : List Token
   pub parted : ts ≡ used ++ rest
-  pub again : (others : List Token) → read (used ++ others) ≡ Ok (x, others)
+  pub again : (others : List Token) → EndTheSame used others rest → read (used ++ others) ≡ Ok (x, others)
 
--- Reading looks at no token behind those that it reads, or behind the one that it refuses.
+-- Reading looks at no token behind those that it reads, or behind the one that it refuses, but at '*' behind a number.
 pub record IsLocal {X : Type 0} (read : List Token → Reading X) : Type 0 where
   pub bounded : (ts : List Token) (fault : Fault) → read ts ≡ Err fault → fault.0 ≤ length ts
   pub goes : (ts : List Token) (x : X) (rest : List Token) → read ts ≡ Ok (x, rest) → IsReadFrom read ts x rest
-  pub stops : (front : List Token) (token : Token) (back beyond : List Token) (kind : DocKind) → read (front ++ token ∷ back) ≡ Err (suc (length back), kind)
+  pub stops : (front : List Token) (token : Token) (back beyond : List Token) (kind : DocKind) → IsSameBefore token beyond back → read (front ++ token ∷ back) ≡ Err (suc (length back), kind)
       → read (front ++ token ∷ beyond) ≡ Err (suc (length beyond), kind)
 
 -- ---- one list that is parted in two ways
@@ -59,43 +105,48 @@ module _ {X Y : Type 0} (read : List Token → Reading X) (next : X → List Tok
       record {
         used = gone.used ++ inner.used;
         parted = gone.parted ∙ ap (λ x. gone.used ++ x) inner.parted ∙ sym (append_assoc gone.used inner.used rest);
-        again = λ others.
-            ap (joined read next) (append_assoc gone.used inner.used others) ∙ ap (λ (m : Reading X). m >>= (λ (found : X × List Token). next found.0 found.1)) (gone.again (inner.used ++ others)) ∙ inner.again others;
+        again = λ others h.
+            ap (joined read next) (append_assoc gone.used inner.used others)
+            ∙ ap (λ (m : Reading X). m >>= (λ (found : X × List Token). next found.0 found.1))
+            (gone.again (inner.used ++ others) (subst (λ (r : List Token). EndTheSame gone.used (inner.used ++ others) r) (sym inner.parted) (same_left gone.used inner.used others rest h)))
+            ∙ inner.again others (same_right gone.used inner.used others rest h);
       }
 
-  joined_stops : (front : List Token) (token : Token) (back beyond : List Token) (kind : DocKind) (m : Reading X) → read (front ++ token ∷ back) ≡ m
+  joined_stops : (front : List Token) (token : Token) (back beyond : List Token) (kind : DocKind) → IsSameBefore token beyond back → (m : Reading X) → read (front ++ token ∷ back) ≡ m
       → (m >>= (λ (found : X × List Token). next found.0 found.1)) ≡ Err (suc (length back), kind) → joined read next (front ++ token ∷ beyond) ≡ Err (suc (length beyond), kind)
-  joined_stops front token back beyond kind (Err first) is e =
+  joined_stops front token back beyond kind h (Err first) is e =
       let same : first ≡ (suc (length back), kind) = cc in
-      ap (λ (m : Reading X). m >>= (λ (found : X × List Token). next found.0 found.1)) (local.stops front token back beyond kind (is ∙ ap Err same))
-  joined_stops front token back beyond kind (Ok found) is e =
+      ap (λ (m : Reading X). m >>= (λ (found : X × List Token). next found.0 found.1)) (local.stops front token back beyond kind h (is ∙ ap Err same))
+  joined_stops front token back beyond kind h (Ok found) is e =
       let gone = local.goes (front ++ token ∷ back) found.0 found.1 is in
       let l = (local_next found.0).bounded found.1 (suc (length back), kind) e in
       let w = within gone.used found.1 front (token ∷ back) (sym gone.parted) l in
-      let inner = (local_next found.0).stops w.between token back beyond kind (ap (next found.0) (sym w.rest_is) ∙ e) in
+      let inner = (local_next found.0).stops w.between token back beyond kind h (ap (next found.0) (sym w.rest_is) ∙ e) in
+      let used = subst (λ (r : List Token). EndTheSame gone.used (w.between ++ token ∷ beyond) r) (sym w.rest_is)
+      (end_the_same gone.used (w.between ++ token ∷ beyond) (w.between ++ token ∷ back) (sym (begins-same 42 w.between token back beyond))) in
       ap (joined read next) (ap (λ f. f ++ token ∷ beyond) w.front_is ∙ append_assoc gone.used w.between (token ∷ beyond))
-      ∙ ap (λ (m : Reading X). m >>= (λ (found : X × List Token). next found.0 found.1)) (gone.again (w.between ++ token ∷ beyond)) ∙ inner
+      ∙ ap (λ (m : Reading X). m >>= (λ (found : X × List Token). next found.0 found.1)) (gone.again (w.between ++ token ∷ beyond) used) ∙ inner
 
   pub local_joined : IsLocal (joined read next)
   local_joined = record {
     bounded = λ ts fault e. joined_bounded ts (read ts) fault refl e;
     goes = λ ts y rest e. joined_goes ts (read ts) y rest refl e;
-    stops = λ front token back beyond kind e. joined_stops front token back beyond kind (read (front ++ token ∷ back)) refl e;
+    stops = λ front token back beyond kind h e. joined_stops front token back beyond kind h (read (front ++ token ∷ back)) refl e;
   }
 
 pub local_same : {X : Type 0} (read other : List Token → Reading X) → ((ts : List Token) → read ts ≡ other ts) → IsLocal other → IsLocal read
 local_same read other same local = record {
   bounded = λ ts fault e. local.bounded ts fault (sym (same ts) ∙ e);
-  goes = λ ts x rest e. (let gone = local.goes ts x rest (sym (same ts) ∙ e) in record { used = gone.used; parted = gone.parted; again = λ others. same (gone.used ++ others) ∙ gone.again others });
-  stops = λ front token back beyond kind e. same (front ++ token ∷ beyond) ∙ local.stops front token back beyond kind (sym (same (front ++ token ∷ back)) ∙ e);
+  goes = λ ts x rest e. (let gone = local.goes ts x rest (sym (same ts) ∙ e) in record { used = gone.used; parted = gone.parted; again = λ others h. same (gone.used ++ others) ∙ gone.again others h });
+  stops = λ front token back beyond kind h e. same (front ++ token ∷ beyond) ∙ local.stops front token back beyond kind h (sym (same (front ++ token ∷ back)) ∙ e);
 }
 
 -- nothing is read
 pub local_done : {X : Type 0} (x : X) → IsLocal (λ (ts : List Token). Ok (x, ts))
 local_done {X = X} x = record {
   bounded = λ ts fault e. absurd cc;
-  goes = λ ts y rest e. record { used = []; parted = ok_right x y ts rest e; again = λ others. ap (λ (z : X). Ok (z, others)) (ok_left x y ts rest e) };
-  stops = λ front token back beyond kind e. absurd cc;
+  goes = λ ts y rest e. record { used = []; parted = ok_right x y ts rest e; again = λ others h. ap (λ (z : X). Ok (z, others)) (ok_left x y ts rest e) };
+  stops = λ front token back beyond kind h e. absurd cc;
 }
 
 -- ---- reading by the first token
@@ -105,9 +156,11 @@ abbrev pub given : {X : Type 0} → Result X DocKind → List Token → Reading 
 given (Ok x) rest = Ok (x, rest)
 given (Err kind) rest = Err (suc (length rest), kind)
 
+-- the token alone gives it, where it's known whether '*' comes next
 pub record IsGiven {X : Type 0} (read : List Token → Reading X) (token : Token) : Type 0 where
-  pub contents : Result X DocKind
-  pub is : (rest : List Token) → read (token ∷ rest) ≡ given contents rest
+  pub contents : Bool → Result X DocKind
+  pub is : (rest : List Token) → read (token ∷ rest) ≡ given (contents (begins_with 42 rest)) rest
+  pub same : (others rest : List Token) → IsSameBefore token others rest → contents (begins_with 42 others) ≡ contents (begins_with 42 rest)
 
 pub record IsGoneInto {X : Type 0} (read : List Token → Reading X) (token : Token) : Type 0 where
   pub inner : List Token → Reading X
@@ -138,7 +191,7 @@ module _ {X : Type 0} (read : List Token → Reading X) (wise : IsByToken read) 
   end_fault fault e = let same : ◌≡◌ {A = Reading X} (Err fault) (Err (0, wise.kind)) = sym e ∙ wise.ends in let first : fault ≡ (0, wise.kind) = cc in ap (λ (f : Fault). f.0) first
 
   first_bounded : (token : Token) (rest : List Token) → IsGiven read token ⊎ IsGoneInto read token → (fault : Fault) → read (token ∷ rest) ≡ Err fault → fault.0 ≤ suc (length rest)
-  first_bounded token rest (inl g) fault e = let is = given_bounded g.contents rest fault (sym (g.is rest) ∙ e) in omega (arith, is)
+  first_bounded token rest (inl g) fault e = let is = given_bounded (g.contents (begins_with 42 rest)) rest fault (sym (g.is rest) ∙ e) in omega (arith, is)
   first_bounded token rest (inr g) fault e = let l = g.local.bounded rest fault (sym (g.is rest) ∙ e) in omega (arith, l)
 
   token_bounded : (ts : List Token) (fault : Fault) → read ts ≡ Err fault → fault.0 ≤ length ts
@@ -147,32 +200,37 @@ module _ {X : Type 0} (read : List Token → Reading X) (wise : IsByToken read) 
 
   first_goes : (token : Token) (others : List Token) → IsGiven read token ⊎ IsGoneInto read token → (x : X) (rest : List Token) → read (token ∷ others) ≡ Ok (x, rest) → IsReadFrom read (token ∷ others) x rest
   first_goes token others (inl g) x rest e =
-      let both = given_ok g.contents x others rest (sym (g.is others) ∙ e) in
-      record { used = token ∷ []; parted = ap (λ ts. token ∷ ts) both.0; again = λ beyond. g.is beyond ∙ ap (λ (contents : Result X DocKind). given contents beyond) both.1 }
+      let both = given_ok (g.contents (begins_with 42 others)) x others rest (sym (g.is others) ∙ e) in
+      record {
+        used = token ∷ [];
+        parted = ap (λ ts. token ∷ ts) both.0;
+        again = λ beyond h. g.is beyond ∙ ap (λ (contents : Result X DocKind). given contents beyond) (g.same beyond rest h ∙ ap (λ (ts : List Token). g.contents (begins_with 42 ts)) (sym both.0) ∙ both.1);
+      }
   first_goes token others (inr g) x rest e =
       let gone = g.local.goes others x rest (sym (g.is others) ∙ e) in
-      record { used = token ∷ gone.used; parted = ap (λ ts. token ∷ ts) gone.parted; again = λ beyond. g.is (gone.used ++ beyond) ∙ gone.again beyond }
+      record { used = token ∷ gone.used; parted = ap (λ ts. token ∷ ts) gone.parted; again = λ beyond h. g.is (gone.used ++ beyond) ∙ gone.again beyond (same_tail token gone.used beyond rest h) }
 
   token_goes : (ts : List Token) (x : X) (rest : List Token) → read ts ≡ Ok (x, rest) → IsReadFrom read ts x rest
   token_goes [] x rest e = let same : ◌≡◌ {A = Reading X} (Ok (x, rest)) (Err (0, wise.kind)) = sym e ∙ wise.ends in absurd cc
   token_goes (token ∷ others) x rest e = first_goes token others (wise.starts token) x rest e
 
-  first_stops : (token : Token) (back beyond : List Token) (kind : DocKind) → IsGiven read token ⊎ IsGoneInto read token → read (token ∷ back) ≡ Err (suc (length back), kind)
+  first_stops : (token : Token) (back beyond : List Token) (kind : DocKind) → IsSameBefore token beyond back → IsGiven read token ⊎ IsGoneInto read token → read (token ∷ back) ≡ Err (suc (length back), kind)
       → read (token ∷ beyond) ≡ Err (suc (length beyond), kind)
-  first_stops token back beyond kind (inl g) e = g.is beyond ∙ given_again g.contents back beyond kind (sym (g.is back) ∙ e)
-  first_stops token back beyond kind (inr g) e = let l = g.local.bounded back (suc (length back), kind) (sym (g.is back) ∙ e) in absurd (omega (arith, l))
+  first_stops token back beyond kind h (inl g) e =
+      g.is beyond ∙ ap (λ (contents : Result X DocKind). given contents beyond) (g.same beyond back h) ∙ given_again (g.contents (begins_with 42 back)) back beyond kind (sym (g.is back) ∙ e)
+  first_stops token back beyond kind h (inr g) e = let l = g.local.bounded back (suc (length back), kind) (sym (g.is back) ∙ e) in absurd (omega (arith, l))
 
-  later_stops : (first : Token) (front : List Token) (token : Token) (back beyond : List Token) (kind : DocKind) → IsGiven read first ⊎ IsGoneInto read first
+  later_stops : (first : Token) (front : List Token) (token : Token) (back beyond : List Token) (kind : DocKind) → IsSameBefore token beyond back → IsGiven read first ⊎ IsGoneInto read first
       → read (first ∷ (front ++ token ∷ back)) ≡ Err (suc (length back), kind) → read (first ∷ (front ++ token ∷ beyond)) ≡ Err (suc (length beyond), kind)
-  later_stops first front token back beyond kind (inl g) e =
-      let is = given_bounded g.contents (front ++ token ∷ back) (suc (length back), kind) (sym (g.is (front ++ token ∷ back)) ∙ e) in
+  later_stops first front token back beyond kind h (inl g) e =
+      let is = given_bounded (g.contents (begins_with 42 (front ++ token ∷ back))) (front ++ token ∷ back) (suc (length back), kind) (sym (g.is (front ++ token ∷ back)) ∙ e) in
       absurd (omega (arith, is, length-append front (token ∷ back)))
-  later_stops first front token back beyond kind (inr g) e = g.is (front ++ token ∷ beyond) ∙ g.local.stops front token back beyond kind (sym (g.is (front ++ token ∷ back)) ∙ e)
+  later_stops first front token back beyond kind h (inr g) e = g.is (front ++ token ∷ beyond) ∙ g.local.stops front token back beyond kind h (sym (g.is (front ++ token ∷ back)) ∙ e)
 
-  token_stops : (front : List Token) (token : Token) (back beyond : List Token) (kind : DocKind) → read (front ++ token ∷ back) ≡ Err (suc (length back), kind)
+  token_stops : (front : List Token) (token : Token) (back beyond : List Token) (kind : DocKind) → IsSameBefore token beyond back → read (front ++ token ∷ back) ≡ Err (suc (length back), kind)
       → read (front ++ token ∷ beyond) ≡ Err (suc (length beyond), kind)
-  token_stops [] token back beyond kind e = first_stops token back beyond kind (wise.starts token) e
-  token_stops (first ∷ front) token back beyond kind e = later_stops first front token back beyond kind (wise.starts first) e
+  token_stops [] token back beyond kind h e = first_stops token back beyond kind h (wise.starts token) e
+  token_stops (first ∷ front) token back beyond kind h e = later_stops first front token back beyond kind h (wise.starts first) e
 
   pub local_by_token : IsLocal read
   local_by_token = record { bounded = token_bounded; goes = token_goes; stops = token_stops }
@@ -201,17 +259,29 @@ pub before_by_token : (first : Bool) → IsByToken (λ ts. before_in first ts >>
 before_by_token true = record {
   kind = Syntax;
   ends = refl;
-  starts = λ token. inl (record { contents = two_told true false (is_mark 40 token) InputCount (misplaced token); is = λ rest. one_given true (is_mark 40 token) InputCount (misplaced token) rest });
+  starts = λ token. inl (record {
+    contents = λ star. two_told true false (is_mark 40 token) InputCount (misplaced token);
+    is = λ rest. one_given true (is_mark 40 token) InputCount (misplaced token) rest;
+    same = λ others rest h. refl;
+  });
 }
 before_by_token false = record {
   kind = Syntax;
   ends = refl;
-  starts = λ token. inl (record { contents = two_told true (is_mark 41 token) (is_mark 44 token) InputCount (misplaced token); is = λ rest. two_given true (is_mark 41 token) (is_mark 44 token) InputCount (misplaced token) rest });
+  starts = λ token. inl (record {
+    contents = λ star. two_told true (is_mark 41 token) (is_mark 44 token) InputCount (misplaced token);
+    is = λ rest. two_given true (is_mark 41 token) (is_mark 44 token) InputCount (misplaced token) rest;
+    same = λ others rest h. refl;
+  });
 }
 
 pub close_by_token : {X : Type 0} (x : X) → IsByToken (λ ts. close_in ts >>= (λ (rest : List Token). Ok (x, rest)))
 close_by_token x = record {
   kind = Syntax;
   ends = refl;
-  starts = λ token. inl (record { contents = two_told x (is_mark 44 token) (is_mark 41 token) InputCount (misplaced token); is = λ rest. two_given x (is_mark 44 token) (is_mark 41 token) InputCount (misplaced token) rest });
+  starts = λ token. inl (record {
+    contents = λ star. two_told x (is_mark 44 token) (is_mark 41 token) InputCount (misplaced token);
+    is = λ rest. two_given x (is_mark 44 token) (is_mark 41 token) InputCount (misplaced token) rest;
+    same = λ others rest h. refl;
+  });
 }

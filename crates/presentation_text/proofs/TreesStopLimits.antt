@@ -9,15 +9,16 @@ use Rattle.symmetric_trees.specs.Generators.{IsTable}
 use Rattle.symmetric_trees.specs.Trees.{Fits}
 use Rattle.symmetric_trees.specs.declared.generators.Generator.{Generator}
 use Rattle.presentation_text.specs.declared.kinds.DocKind.{DocKind}
-use Rattle.presentation_text.specs.declared.kinds.DocKind.TheVariants.{TooDeep, TooWide, Labels}
+use Rattle.presentation_text.specs.Accepted.{is_leaf}
+use Rattle.presentation_text.specs.declared.kinds.DocKind.TheVariants.{TooDeep, TooWide, Labels, Syntax}
 use Rattle.presentation_text.specs.declared.lexing.Token.{Token}
 use Rattle.presentation_text.specs.declared.lexing.Token.TheVariants.{Byte}
 use Rattle.presentation_text.specs.Readings.{Reading, ◌>>=◌, first_row, refused}
-use Rattle.presentation_text.specs.TreeReadings.{input_in, row_in, tree_in}
+use Rattle.presentation_text.specs.TreeReadings.{begins_with, input_in, row_in, tree_in}
 use Rattle.presentation_text.specs.TreeText.{name_of, tree_tokens, nested, nested_row}
 use Rattle.presentation_text.proofs.TreeTokens.{arity_in}
 use Rattle.presentation_text.proofs.TreeFormsSteps as steps
-use Rattle.presentation_text.proofs.TreesAcceptedTrees.{mark_of, inputs_tokens, node_tokens, tree_begins, before_in-back, close_in-back, index_back}
+use Rattle.presentation_text.proofs.TreesAcceptedTrees.{mark_of, inputs_tokens, node_tokens, tree_begins, input_ends, before_in-back, close_in-back, index_back}
 
 -- The limit that a tree breaks of which so many generators stand one inside the other, and so many leaves stand up to its end.
 abbrev pub Breaks : DocKind → ℕ → ℕ → ℕ → Type 0
@@ -57,29 +58,30 @@ or_breaks-bind : {X Y : Type 0} (depth nest count : ℕ) (m : Reading X) (x : X)
 or_breaks-bind depth nest count (Ok found) x mid next y rest h k = subst (λ f. IsReadOrBreaks depth nest count (next f) y rest) (sym h) k
 or_breaks-bind depth nest count (Err fault) x mid next y rest h k = h
 
-leaf_or_breaks : (a b : Bool) (depth nest count n : ℕ) (rest : List Token) → (a ≡ true → 9 < count)
-    → IsReadOrBreaks depth nest count (refused (suc (length rest)) (first_row ((a, TooWide) ∷ (b, Labels) ∷ [])) (Ok (leaf n, rest))) (leaf n) rest
-leaf_or_breaks true b depth nest count n rest f = f refl
-leaf_or_breaks false true depth nest count n rest f = tt
-leaf_or_breaks false false depth nest count n rest f = refl
+leaf_or_breaks : (star a b : Bool) (depth nest count n : ℕ) (rest : List Token) → star ≡ false → (a ≡ true → 9 < count)
+    → IsReadOrBreaks depth nest count (refused (suc (length rest)) (first_row ((star, Syntax) ∷ (a, TooWide) ∷ (b, Labels) ∷ [])) (Ok (leaf n, rest))) (leaf n) rest
+leaf_or_breaks true a b depth nest count n rest e f = absurd cc
+leaf_or_breaks false true b depth nest count n rest e f = f refl
+leaf_or_breaks false false true depth nest count n rest e f = tt
+leaf_or_breaks false false false depth nest count n rest e f = refl
 
 is_tenth : (seen : ℕ) → nat_le 9 seen ≡ true → 9 < seen + 1
 is_tenth seen e = grind (arith, nat_tests)
 
 module _ (generators : List Generator) (table : IsTable generators) where
   mutual
-    pub tree_or_breaks : (t : Tree ℕ) (depth seen : ℕ) (rest : List Token) → Fits generators t
+    pub tree_or_breaks : (t : Tree ℕ) (depth seen : ℕ) (rest : List Token) → Fits generators t → (is_leaf t ≡ true → begins_with 42 rest ≡ false)
         → IsReadOrBreaks depth (nested t) (seen + leaf_count t) (tree_in generators depth seen (tree_tokens generators t ++ rest)) t rest
-    tree_or_breaks (leaf n) depth seen rest fits =
+    tree_or_breaks (leaf n) depth seen rest fits ends =
         subst (λ m. IsReadOrBreaks depth 0 (seen + 1) m (leaf n) rest) (sym (steps.tree_in-number generators depth seen n rest))
-        (leaf_or_breaks (nat_le 9 seen) (nat_lt 99 n) depth 0 (seen + 1) n rest (is_tenth seen))
-    tree_or_breaks (node g r) zero seen rest fits =
+        (leaf_or_breaks (begins_with 42 rest) (nat_le 9 seen) (nat_lt 99 n) depth 0 (seen + 1) n rest (ends refl) (is_tenth seen))
+    tree_or_breaks (node g r) zero seen rest fits ends =
         let some : 0 < width r = omega (arith, fits.0, fits.1) in
         let behind_name = inputs_tokens generators true r ++ Byte 41 ∷ rest in
         let deep : 0 < suc (nested_row r) = omega arith in
         subst (λ m. IsReadOrBreaks 0 (suc (nested_row r)) (seen + leaf_count_row r) m (node g r) rest)
         (sym (ap (tree_in generators 0 seen) (node_tokens generators g r rest some) ∙ steps.tree_in-deep generators 0 seen (name_of generators g) g behind_name (index_back generators table g fits.0) refl)) deep
-    tree_or_breaks (node g r) (suc depth) seen rest fits =
+    tree_or_breaks (node g r) (suc depth) seen rest fits ends =
         let some : 0 < width r = omega (arith, fits.0, fits.1) in
         let behind_name = inputs_tokens generators true r ++ Byte 41 ∷ rest in
         let count = seen + leaf_count_row r in
@@ -107,7 +109,7 @@ module _ (generators : List Generator) (table : IsTable generators) where
         ap (input_in inside seen) parted ∙ steps.input_in-tree inside seen (tree_tokens generators t ++ behind_it) (tree_begins generators t behind_it) in
         let input : IsReadOrBreaks depth nest count (input_in inside seen within) t behind_it =
         subst (λ m. IsReadOrBreaks depth nest count m t behind_it) (sym one)
-        (or_breaks-more depth (nested t) nest (seen + leaf_count t) count (inside seen (tree_tokens generators t ++ behind_it)) t behind_it (omega arith) (omega arith) (tree_or_breaks t depth seen behind_it fits.0)) in
+        (or_breaks-more depth (nested t) nest (seen + leaf_count t) count (inside seen (tree_tokens generators t ++ behind_it)) t behind_it (omega arith) (omega arith) (tree_or_breaks t depth seen behind_it fits.0 (λ _. input_ends generators r rest))) in
         let others : IsReadOrBreaks depth nest count (row_in inside false k (seen + leaf_count t) behind_it) r rest =
         or_breaks-more depth (nested_row r) nest (seen + leaf_count t + leaf_count_row r) count (row_in inside false k (seen + leaf_count t) behind_it) r rest (omega arith) (omega arith)
         (row_or_breaks false r depth (seen + leaf_count t) rest fits.1) in

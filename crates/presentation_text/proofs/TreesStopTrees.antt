@@ -1,4 +1,4 @@
--- Trees are read by what stands before the refused token and by that token alone.
+-- Trees are read by what stands before the refused token and by that token alone, where a number before '*' is another token.
 use Rattle.std.specs.Prelude.{nat_le, nat_lt}
 use Rattle.std.proofs.Common.{◌≡◌, ◌⊎◌, inl, inr, ℕ, zero, suc, ◌+◌, Bool, true, false, List, [], ◌∷◌, length, Option, Some, None, Result, Ok, Err, refl, ap, ◌∙◌}
 use Rattle.labelled_trees.specs.Trees.{Tree, leaf, node, none, more}
@@ -9,7 +9,7 @@ use Rattle.presentation_text.specs.declared.kinds.DocKind.TheVariants.{InputCoun
 use Rattle.presentation_text.specs.declared.lexing.Token.{Token}
 use Rattle.presentation_text.specs.declared.lexing.Token.TheVariants.{Word, Number, Long, Byte, Bad}
 use Rattle.presentation_text.specs.Readings.{Fault, Reading, ◌>>=◌, is_mark, misplaced, first_row, refused}
-use Rattle.presentation_text.specs.TreeReadings.{Inside, index_of, before_in, close_in, input_in, row_in, node_in, tree_or_end_in, tree_in}
+use Rattle.presentation_text.specs.TreeReadings.{Inside, index_of, begins_with, before_in, close_in, input_in, row_in, node_in, tree_or_end_in, tree_in}
 use Rattle.presentation_text.proofs.TreeTokens.{arity_in}
 use Rattle.presentation_text.proofs.TreesStopForms.{IsLocal, joined, local_joined, local_same, local_done, given, IsGiven, IsGoneInto, IsByToken, local_by_token, before_by_token, close_by_token}
 
@@ -26,8 +26,8 @@ open_given false reading rest e = refl
 -- an input begins as a tree does, where no ')' stands
 input_starts : (inside : Inside) (seen : ℕ) (token : Token) (b : Bool) → is_mark 41 token ≡ b → IsGiven (inside seen) token ⊎ IsGoneInto (inside seen) token
     → IsGiven (input_in inside seen) token ⊎ IsGoneInto (input_in inside seen) token
-input_starts inside seen token true e start = inl (record { contents = Err InputCount; is = λ rest. closed_given (is_mark 41 token) (inside seen (token ∷ rest)) rest e })
-input_starts inside seen token false e (inl g) = inl (record { contents = g.contents; is = λ rest. open_given (is_mark 41 token) (inside seen (token ∷ rest)) rest e ∙ g.is rest })
+input_starts inside seen token true e start = inl (record { contents = λ star. Err InputCount; is = λ rest. closed_given (is_mark 41 token) (inside seen (token ∷ rest)) rest e; same = λ others back h. refl })
+input_starts inside seen token false e (inl g) = inl (record { contents = g.contents; is = λ rest. open_given (is_mark 41 token) (inside seen (token ∷ rest)) rest e ∙ g.is rest; same = g.same })
 input_starts inside seen token false e (inr g) = inr (record { inner = g.inner; local = g.local; is = λ rest. open_given (is_mark 41 token) (inside seen (token ∷ rest)) rest e ∙ g.is rest })
 
 pub input_by_token : (inside : Inside) (seen : ℕ) → IsByToken (inside seen) → IsByToken (input_in inside seen)
@@ -60,16 +60,19 @@ module _ (inside : Inside) (wise : (seen : ℕ) → IsByToken (inside seen)) whe
 
 -- ---- trees
 
-leaf_told : Bool → Bool → ℕ → Result (Tree ℕ) DocKind
-leaf_told true b n = Err TooWide
-leaf_told false true n = Err Labels
-leaf_told false false n = Ok (leaf n)
+leaf_told : Bool → Bool → Bool → ℕ → Result (Tree ℕ) DocKind
+leaf_told true a b n = Err Syntax
+leaf_told false true b n = Err TooWide
+leaf_told false false true n = Err Labels
+leaf_told false false false n = Ok (leaf n)
 
-leaf_given : (a b : Bool) (n : ℕ) (rest : List Token) → refused (suc (length rest)) (first_row ((a, TooWide) ∷ (b, Labels) ∷ [])) (Ok (leaf n, rest)) ≡ given (leaf_told a b n) rest
+leaf_given : (star a b : Bool) (n : ℕ) (rest : List Token)
+    → refused (suc (length rest)) (first_row ((star, Syntax) ∷ (a, TooWide) ∷ (b, Labels) ∷ [])) (Ok (leaf n, rest)) ≡ given (leaf_told star a b n) rest
 unfolding leaf_told
-leaf_given true b n rest = refl
-leaf_given false true n rest = refl
-leaf_given false false n rest = refl
+leaf_given true a b n rest = refl
+leaf_given false true b n rest = refl
+leaf_given false false true n rest = refl
+leaf_given false false false n rest = refl
 
 abbrev AreByToken : Option Inside → Type 0
 AreByToken None = Unit {0}
@@ -77,8 +80,8 @@ AreByToken (Some inside) = (seen : ℕ) → IsByToken (inside seen)
 
 named_starts : (generators : List Generator) (inside : Option Inside) → AreByToken inside → (seen : ℕ) (w : List ℕ) (found : Option ℕ) → index_of w generators ≡ found
     → IsGiven (tree_or_end_in generators inside seen) (Word w) ⊎ IsGoneInto (tree_or_end_in generators inside seen) (Word w)
-named_starts generators inside wise seen w None e = inl (record { contents = Err NameUnknown; is = λ rest. ap (λ i. node_in generators inside seen i rest) e })
-named_starts generators None wise seen w (Some g) e = inl (record { contents = Err TooDeep; is = λ rest. ap (λ i. node_in generators None seen i rest) e })
+named_starts generators inside wise seen w None e = inl (record { contents = λ star. Err NameUnknown; is = λ rest. ap (λ i. node_in generators inside seen i rest) e; same = λ others back h. refl })
+named_starts generators None wise seen w (Some g) e = inl (record { contents = λ star. Err TooDeep; is = λ rest. ap (λ i. node_in generators None seen i rest) e; same = λ others back h. refl })
 named_starts generators (Some inside) wise seen w (Some g) e = inr (record {
   inner = joined (row_in inside true (arity_in generators g) seen) (λ r rest. Ok (node g r, rest));
   local = local_joined (row_in inside true (arity_in generators g) seen) (λ r rest. Ok (node g r, rest)) (local_row inside wise (arity_in generators g) true seen) (λ r. local_done (node g r));
@@ -87,11 +90,15 @@ named_starts generators (Some inside) wise seen w (Some g) e = inr (record {
 
 token_starts : (generators : List Generator) (inside : Option Inside) → AreByToken inside → (seen : ℕ) (token : Token)
     → IsGiven (tree_or_end_in generators inside seen) token ⊎ IsGoneInto (tree_or_end_in generators inside seen) token
-token_starts generators inside wise seen (Number n) = inl (record { contents = leaf_told (nat_le 9 seen) (nat_lt 99 n) n; is = λ rest. leaf_given (nat_le 9 seen) (nat_lt 99 n) n rest })
+token_starts generators inside wise seen (Number n) = inl (record {
+  contents = λ star. leaf_told star (nat_le 9 seen) (nat_lt 99 n) n;
+  is = λ rest. leaf_given (begins_with 42 rest) (nat_le 9 seen) (nat_lt 99 n) n rest;
+  same = λ others back h. ap (λ star. leaf_told star (nat_le 9 seen) (nat_lt 99 n) n) h;
+})
 token_starts generators inside wise seen (Word w) = named_starts generators inside wise seen w (index_of w generators) refl
-token_starts generators inside wise seen Long = inl (record { contents = Err (misplaced Long); is = λ rest. refl })
-token_starts generators inside wise seen (Byte b) = inl (record { contents = Err (misplaced (Byte b)); is = λ rest. refl })
-token_starts generators inside wise seen Bad = inl (record { contents = Err (misplaced Bad); is = λ rest. refl })
+token_starts generators inside wise seen Long = inl (record { contents = λ star. Err (misplaced Long); is = λ rest. refl; same = λ others back h. refl })
+token_starts generators inside wise seen (Byte b) = inl (record { contents = λ star. Err (misplaced (Byte b)); is = λ rest. refl; same = λ others back h. refl })
+token_starts generators inside wise seen Bad = inl (record { contents = λ star. Err (misplaced Bad); is = λ rest. refl; same = λ others back h. refl })
 
 or_end_by_token : (generators : List Generator) (inside : Option Inside) → AreByToken inside → (seen : ℕ) → IsByToken (tree_or_end_in generators inside seen)
 or_end_by_token generators inside wise seen = record { kind = Syntax; ends = refl; starts = token_starts generators inside wise seen }

@@ -1,5 +1,5 @@
 -- Which tokens reading accepts: exactly those of the grammar, within the limits.
-use Rattle.std.specs.Prelude.{ℕ, ◌≡◌, ◌≢◌, ◌≤◌, ◌↔◌, Bool, true, false, List, [], ◌∷◌, ◌++◌, length, Option, Some, None, Ok, Err}
+use Rattle.std.specs.Prelude.{ℕ, ◌≡◌, ◌≢◌, ◌≤◌, ◌↔◌, Bool, true, false, List, [], ◌∷◌, ◌++◌, length, Option, Some, Ok, Err}
 use Rattle.std.specs.List.{All}
 use Rattle.labelled_trees.specs.Trees.{Tree, leaf, node}
 use Rattle.labelled_trees.specs.Leaves.{AllLeaves, leaf_count}
@@ -10,7 +10,7 @@ use Rattle.symmetric_trees.specs.declared.generators.Generator.{Generator}
 use Rattle.presentation_text.specs.declared.kinds.DocKind.{DocKind}
 use Rattle.presentation_text.specs.declared.kinds.DocKind.TheVariants.{Syntax, NumberLong, NameUnknown, InputCount, TooDeep, TooWide}
 use Rattle.presentation_text.specs.declared.lexing.Token.{Token}
-use Rattle.presentation_text.specs.declared.lexing.Token.TheVariants.{Byte}
+use Rattle.presentation_text.specs.declared.lexing.Token.TheVariants.{Number, Byte}
 use Rattle.presentation_text.specs.declared.trees.Demands.{Demands}
 use Rattle.presentation_text.specs.Elements.{Written, element_tokens, IsElementTree}
 use Rattle.presentation_text.specs.ElementReadings.{element_in}
@@ -30,15 +30,34 @@ pub record IsDemanded (generators : List Generator) (demands : Demands) (t : Tre
   pub least : demands.least ≤ leaf_count t
   pub arity : (n : ℕ) → demands.arity ≡ Some n → leaf_count t ≡ n
 
--- Reading accepts a tree exactly where the tokens begin with those of the tree, which is as demanded.
+-- the tokens don't begin with this single byte
+abbrev pub NotMarked : ℕ → List Token → Type 0
+NotMarked c [] = Unit {0}
+NotMarked c (token ∷ rest) = token ≢ Byte c
+
+-- whether a tree is a leaf alone
+abbrev pub is_leaf : Tree ℕ → Bool
+is_leaf (leaf n) = true
+is_leaf (node g r) = false
+
+-- A tree may end before these tokens: its number would be a coefficient before '*', where it is a leaf.
+abbrev pub EndsTree : Tree ℕ → List Token → Type 0
+EndsTree t rest = is_leaf t ≡ true → NotMarked 42 rest
+
+-- Reading accepts a tree exactly where the tokens begin with those of the tree, which is as demanded, and may end there.
 abbrev pub TreesAreAccepted : Type 0
 TreesAreAccepted = (generators : List Generator) → IsTable generators → (demands : Demands) (ts rest : List Token) (t : Tree ℕ)
-    → (whole_tree_in generators demands ts ≡ Ok (t, rest)) ↔ ((ts ≡ tree_tokens generators t ++ rest) × IsDemanded generators demands t)
+    → (whole_tree_in generators demands ts ≡ Ok (t, rest)) ↔ ((ts ≡ tree_tokens generators t ++ rest) × IsDemanded generators demands t × EndsTree t rest)
+
+-- A token is the same before both: a number is a coefficient before '*', and else a leaf.
+abbrev pub IsSameBefore : Token → List Token → List Token → Type 0
+IsSameBefore (Number n) others back = begins_with 42 others ≡ begins_with 42 back
+IsSameBefore token others back = Unit {0}
 
 -- The tokens go on from those in front as the ones behind do: with their first token, or with nothing where there is none.
 abbrev pub GoOnAs : List Token → List Token → List Token → Type 0
 GoOnAs front [] ts = ts ≡ front
-GoOnAs front (token ∷ back) ts = (others : List Token) × (ts ≡ front ++ token ∷ others)
+GoOnAs front (token ∷ back) ts = (others : List Token) × (ts ≡ front ++ token ∷ others) × IsSameBefore token others back
 
 -- The trees that a refusal rules out: for a token that can't stand there any tree over the table, for a limit those within it, and else
 -- those that are as demanded.
@@ -65,26 +84,15 @@ RefusedTreesBegin = (generators : List Generator) → IsTable generators → (de
 
 -- ---- elements
 
--- the tokens don't begin with this single byte
-abbrev pub NotMarked : ℕ → List Token → Type 0
-NotMarked c [] = Unit {0}
-NotMarked c (token ∷ rest) = token ≢ Byte c
+-- whether the last term's tree is a leaf; the answer for no terms is given
+abbrev pub ends_in_leaf : Bool → List Written → Bool
+ends_in_leaf before [] = before
+ends_in_leaf before (term ∷ terms) = ends_in_leaf (is_leaf term.tree) terms
 
--- a leaf without a coefficient: its number would be one before '*'
-abbrev pub is_bare_leaf : Option ℕ → Tree ℕ → Bool
-is_bare_leaf None (leaf n) = true
-is_bare_leaf None (node g r) = false
-is_bare_leaf (Some c) t = false
-
--- whether the last term is a leaf without a coefficient; the answer for no terms is given
-abbrev pub ends_bare : Bool → List Written → Bool
-ends_bare bare [] = bare
-ends_bare bare (term ∷ terms) = ends_bare (is_bare_leaf term.coefficient term.tree) terms
-
--- An element goes on as long as it can: behind a term neither '+' nor '-' stands, and no '*' behind a number that is no coefficient.
+-- An element goes on as long as it can: behind a term neither '+' nor '-' stands, and no '*' behind a number.
 abbrev pub EndsBefore : List Written → List Token → Type 0
 EndsBefore [] rest = NotMarked 42 rest
-EndsBefore (term ∷ terms) rest = NotMarked 43 rest × NotMarked 45 rest × (ends_bare true (term ∷ terms) ≡ true → NotMarked 42 rest)
+EndsBefore (term ∷ terms) rest = NotMarked 43 rest × NotMarked 45 rest × (ends_in_leaf true (term ∷ terms) ≡ true → NotMarked 42 rest)
 
 -- the trees have one arity, which is as is asked
 pub record HaveDemandedArity (generators : List Generator) (least : ℕ) (arity : Option ℕ) (terms : List Written) : Type 0 where
@@ -104,21 +112,6 @@ ElementsAreAccepted = (generators : List Generator) → IsTable generators → (
     → (element_in generators (demands_of least arity) ts ≡ Ok (terms, rest))
     ↔ ((ts ≡ element_tokens generators terms ++ rest) × AreDemanded generators least arity terms × EndsBefore terms rest)
 
--- Tokens are alike behind a refused one: where a whole tree is refused, which may be a number, '*' stands first in both or in neither.
-abbrev pub GoOnAlike : DocKind → List Token → List Token → Type 0
-GoOnAlike Syntax others back = Unit {0}
-GoOnAlike NumberLong others back = Unit {0}
-GoOnAlike NameUnknown others back = Unit {0}
-GoOnAlike InputCount others back = Unit {0}
-GoOnAlike TooDeep others back = Unit {0}
-GoOnAlike TooWide others back = Unit {0}
-GoOnAlike kind others back = begins_with 42 others ≡ begins_with 42 back
-
--- the tokens go on from those in front as the ones behind do, as far as the refusal looks
-abbrev pub GoOnLike : DocKind → List Token → List Token → List Token → Type 0
-GoOnLike kind front [] ts = ts ≡ front
-GoOnLike kind front (token ∷ back) ts = (others : List Token) × (ts ≡ front ++ token ∷ others) × GoOnAlike kind others back
-
 -- The elements that a refusal rules out: for a token that can't stand there any element over the table, for a limit those within it,
 -- and else those whose trees have one arity as demanded.
 abbrev pub AreRuledOut : List Generator → ℕ → Option ℕ → DocKind → List Written → Type 0
@@ -134,7 +127,7 @@ AreRuledOut generators least arity kind terms = AreDemanded generators least ari
 abbrev pub ElementsAreRefusedRightly : Type 0
 ElementsAreRefusedRightly = (generators : List Generator) → IsTable generators → (least : ℕ) (arity : Option ℕ) (front back : List Token) (kind : DocKind)
     → element_in generators (demands_of least arity) (front ++ back) ≡ Err (length back, kind)
-    → (terms : List Written) → AreRuledOut generators least arity kind terms → GoOnLike kind front back (element_tokens generators terms) → ⊥
+    → (terms : List Written) → AreRuledOut generators least arity kind terms → GoOnAs front back (element_tokens generators terms) → ⊥
 
 -- The tokens before the refused one are the first of an element over the table.
 abbrev pub RefusedElementsBegin : Type 0

@@ -10,7 +10,7 @@ use Rattle.symmetric_trees.specs.Generators.{parts_at}
 use Rattle.symmetric_trees.specs.Trees.{Fits}
 use Rattle.symmetric_trees.specs.declared.generators.Generator.{Generator}
 use Rattle.presentation_text.specs.declared.kinds.DocKind.{DocKind}
-use Rattle.presentation_text.specs.declared.kinds.DocKind.TheVariants.{NameUnknown, TooDeep, TooWide, InputCount, Labels, ArityOut, MixedArity}
+use Rattle.presentation_text.specs.declared.kinds.DocKind.TheVariants.{NameUnknown, TooDeep, TooWide, InputCount, Labels, ArityOut, MixedArity, Syntax}
 use Rattle.presentation_text.specs.declared.kinds.PartFail.{PartFail}
 use Rattle.presentation_text.specs.declared.lexing.Token.{Token}
 use Rattle.presentation_text.specs.declared.lexing.Token.TheVariants.{Word, Number}
@@ -70,9 +70,9 @@ row_in inside first (suc k) seen ts = do
 
 -- ---- trees
 
--- A leaf: it may not be the tenth leaf of a tree, nor have a number above 99.
+-- A leaf: its number may not stand before '*', since it's a coefficient there; it may not be the tenth leaf of a tree, nor have a number above 99.
 abbrev pub leaf_in : ℕ → ℕ → List Token → Reading (Tree ℕ)
-leaf_in seen n rest = refused (suc (length rest)) (first_row ((nat_le 9 seen, TooWide) ∷ (nat_lt 99 n, Labels) ∷ [])) (Ok (leaf n, rest))
+leaf_in seen n rest = refused (suc (length rest)) (first_row ((begins_with 42 rest, Syntax) ∷ (nat_le 9 seen, TooWide) ∷ (nat_lt 99 n, Labels) ∷ [])) (Ok (leaf n, rest))
 
 -- A vertex behind its name: a generator must have the name, and it may not have eight generators above it.
 abbrev pub node_in : List Generator → Option Inside → ℕ → Option ℕ → List Token → Reading (Tree ℕ)

@@ -25,7 +25,7 @@ pub use line_words::is_unknown;
 pub use lines::{counts, lines_are_defined, next_line};
 pub use parts::{end_at, has_mark, mark_at, number_at, word_at};
 pub use presentations::{
-    accepted_texts_are_well_formed, documents_are_accepted, read_document,
+    MOST_BYTES, accepted_texts_are_well_formed, documents_are_accepted, read_document,
     texts_are_read_or_refused,
 };
 pub use terms::{
@@ -33,7 +33,7 @@ pub use terms::{
     elements_are_refused_rightly, printed_elements_are_read, refused_elements_begin,
 };
 pub use trees::{
-    refused_trees_begin, tree_at, trees_are_accepted, trees_are_read_once,
+    MOST_LEAVES, refused_trees_begin, tree_at, trees_are_accepted, trees_are_read_once,
     trees_are_refused_rightly,
 };
 pub use writing::{

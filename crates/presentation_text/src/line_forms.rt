@@ -15,13 +15,11 @@ use crate::terms::element_at;
 use prime_field::Field;
 use sqlite_items::Items;
 use std::alloc::Global;
-use symmetric_trees::{GenFail, GenTable, Generator, Name, Part, PartKind};
+use symmetric_trees::{GenFail, GenTable, Generator, MOST_GENERATORS, Name, Part, PartKind};
 
 const LONGEST_NAME: usize = 16;
 
 const MOST_RELATIONS: usize = 1000;
-
-const MOST_GENERATORS: u16 = 12;
 
 const GREATEST_WEIGHT: u64 = 1_000_000;
 

@@ -27,6 +27,9 @@ use crate::lines::{counts, next_line};
 use sqlite_items::Items;
 use std::alloc::{AllocError, Global};
 
+/// The most bytes that a document has.
+pub const MOST_BYTES: u64 = 16_777_216;
+
 // Behind a line: the presentation goes on, or a tail begins.
 #[derive(Drop)]
 enum Behind {
@@ -135,10 +138,10 @@ fn counted_line(
 
 // The text behind the header.
 fn skip_header(alloc: Global, bytes: &[u8]) -> Result<BehindHeader<'_>, ReadDocFail>
-    requires short { length bytes.now ≤ 16777216 }
+    requires short { length bytes.now ≤ MOST_BYTES }
     ensures stands { IfOk result (λ header. IsRestFrom bytes.now 1 header.number header.rest.now) }
     ensures read { MatchResult result
-        (λ header. spec.read_text bytes.now ≡ spec.lines_from (told_by_header header.version) header.number (lines_of header.rest.now))
+        (λ header. spec.read_text bytes.now ≡ spec.lines_from (contents_by_header header.version) header.number (lines_of header.rest.now))
         (StopsAtLine (spec.read_text bytes.now)) }
 {
     let mut rest = bytes;
@@ -178,8 +181,8 @@ fn read_presentation(
 ) -> Result<ReadPresentation, ReadDocFail>
     requires few { header.number + length header.rest.now ≤ 16777217 }
     ensures { MatchResult result
-        (IsPresentationRead header.entry.rest.now header.entry.number (spec.lines_from (told_by_header header.entry.version) header.entry.number (lines_of header.entry.rest.now)))
-        (StopsAtLine (spec.lines_from (told_by_header header.entry.version) header.entry.number (lines_of header.entry.rest.now))) }
+        (IsPresentationRead header.entry.rest.now header.entry.number (spec.lines_from (contents_by_header header.entry.version) header.entry.number (lines_of header.entry.rest.now)))
+        (StopsAtLine (spec.lines_from (contents_by_header header.entry.version) header.entry.number (lines_of header.entry.rest.now))) }
 {
     let mut draft = Draft::new(alloc, header.version);
     let mut rest = header.rest;
@@ -296,7 +299,7 @@ fn all_weights(alloc: Global, weights: &Items<Option<u32>>) -> Result<Items<u32>
 ///
 /// `NoMemory` comes for want of memory alone.
 pub fn read_document(alloc: Global, bytes: &[u8]) -> Result<Document, ReadDocFail>
-    requires short { length bytes.now ≤ 16777216 }
+    requires short { length bytes.now ≤ MOST_BYTES }
     ensures document { MatchResult result (IsReadAs bytes.now) (IsTextRefused bytes.now) }
     ensures fit { IfOk result (λ document. All (FitsOver document.field document.gens) document.rels) }
     ensures asks { IfOk result (λ document. All (λ ask. AskFits document.field document.gens ask.kind) document.asks) }

@@ -184,7 +184,7 @@ fn further_at(
 
 /// The element that stands at a place among the tokens of a line: the number 0 alone, not followed by '*'; or '-' or
 /// nothing, a term, and any number of further terms with '+' or '-' before each. A term is `number *`, which may be left
-/// out, and a tree whose leaves are 1 to n, each once. So a number that begins a term and is followed by '*' is no leaf.
+/// out, and a tree whose leaves are 1 to n, each once. So a number that is followed by '*' is no leaf.
 /// Each tree has at least `least` leaves (from 1 on), and the arity that is given, if one is; else that of the first tree.
 /// That holds for the tree of a term of residue 0 too, which the sum leaves out.
 ///
@@ -245,10 +245,10 @@ pub fn elements_are_read_once()
     ensures law { ElementsAreReadOnce }
 {}
 
-/// Law: where reading refuses a token, no element over the table goes on with it behind the tokens before; and where it
-/// refuses the end of the line, these are the tokens of none. If a limit is passed, this is said of the elements within
-/// it; and if leaf numbers or arities are refused, of those that are as demanded, and with '*' behind the token in both
-/// or in neither, since a number is a leaf or a coefficient by that.
+/// Law: where reading refuses a token, no element over the table goes on with it behind the tokens before, where a number
+/// before '*' is another token than one that is a leaf; and where it refuses the end of the line, these are the tokens
+/// of none. If a limit is passed, this is said of the elements within it; and if leaf numbers or arities are refused, of
+/// those that are as demanded.
 pub fn elements_are_refused_rightly()
     ensures law { ElementsAreRefusedRightly }
 {}

@@ -1,4 +1,4 @@
-ghost use Rattle.std.specs.Prelude.{◌≡◌, ◌≤◌, ◌<◌, ◌+◌, ◌^◌, IfOk, IfSome, List, Some, Err, drop, length};
+ghost use Rattle.std.specs.Prelude.{◌≡◌, ◌≤◌, ◌<◌, ◌+◌, IfOk, IfSome, List, Some, Err, drop, length};
 ghost use Rattle.labelled_trees.specs.Leaves.{leaf_count};
 ghost use Rattle.labelled_trees.specs.Meaning.{tree_of};
 ghost use Rattle.symmetric_trees.specs.Trees.{Fits};
@@ -7,7 +7,6 @@ ghost use Rattle.presentation_text.specs.Accepted.{RefusedTreesBegin, TreesAreAc
 ghost use Rattle.presentation_text.specs.Laws.{TreesAreReadOnce};
 ghost use Rattle.presentation_text.specs.Readings.{first_row, GivesBehind};
 ghost use Rattle.presentation_text.specs.TreeReadings as spec;
-ghost use Rattle.presentation_text.specs.declared.lexing.Token.{Token};
 
 use crate::kinds::{DocKind, PartFail};
 use crate::lexing::{Token, Word};
@@ -48,8 +47,8 @@ pub struct Inputs {
 // How many generators may stand one inside the other.
 const MOST_NESTED: u8 = 8;
 
-// How many leaves a tree may have.
-const MOST_LEAVES: u8 = 9;
+/// How many leaves a tree may have.
+pub const MOST_LEAVES: u8 = 9;
 
 const GREATEST_LEAF: u64 = 99;
 
@@ -88,13 +87,21 @@ fn behind_inputs(tokens: &[Token<'_>], at: usize) -> Result<usize, PartFail>
     mark_at(tokens, at, b')')
 }
 
-// A leaf at a place.
-fn leaf(at: usize, number: u64, inputs: &mut Inputs) -> Result<usize, PartFail>
-    requires room { at + 1 < 2 ^ 64 }
-    ensures read { (tokens : List Token) (generators : List Generator) → at < length tokens → spec.GivesInput generators tokens (spec.leaf_in inputs.old.seen number (drop (at + 1) tokens)) inputs.old inputs.new result }
+// A leaf at a place where a number stands: before '*' it would be a coefficient.
+fn leaf(
+    tokens: &[Token<'_>],
+    at: usize,
+    number: u64,
+    inputs: &mut Inputs,
+) -> Result<usize, PartFail>
+    requires within { at < length tokens.now }
+    ensures read { (generators : List Generator) → spec.GivesInput generators tokens.now (spec.leaf_in inputs.old.seen number (drop (at + 1) tokens.now)) inputs.old inputs.new result }
     ensures narrow { IfOk result (λ _. inputs.new.seen ≤ 9) }
     ensures further { IfOk result (λ end. at < end) }
 {
+    if has_mark(tokens, at + 1, b'*') {
+        return fail(at, DocKind::Syntax);
+    }
     if inputs.seen >= MOST_LEAVES {
         return fail(at, DocKind::TooWide);
     }
@@ -127,7 +134,7 @@ fn tree_within(
         return Err(misfit(tokens, at));
     };
     match token {
-        Token::Number(number) => leaf(at, *number, inputs),
+        Token::Number(number) => leaf(tokens, at, *number, inputs),
         Token::Word(name) => match generator_named(table, name) {
             Some(generator) => {
                 if depth == 0 {
@@ -270,16 +277,17 @@ pub(crate) fn demanded_tree_at(
     Ok(found)
 }
 
-/// The tree that stands at a place among the tokens of a line, and the place behind it. It is a number (a leaf), or a
-/// generator's name, '(', as many trees as its arity with ',' between them, and ')'. Where `loose` is true, its leaf
-/// numbers are free up to 99; else its leaves carry 1 to some number, each once.
+/// The tree that stands at a place among the tokens of a line, and the place behind it. It is a number (a leaf) that isn't
+/// followed by '*', since it's a coefficient there; or a generator's name, '(', as many trees as its arity with ','
+/// between them, and ')'. Where `loose` is true, its leaf numbers are free up to 99; else its leaves carry 1 to some
+/// number, each once.
 ///
 /// `At` names the first token that is refused; the end of the line counts as the token behind the last. Its kind is the first
 /// of these that holds there: `NumberLong` for a number of more than 18 digits; `NameUnknown` for a word where a tree
 /// begins that no generator has; `TooDeep` for a generator's name with 8 generators above it; `TooWide` for the tenth leaf;
 /// `InputCount` for a ',' after as many inputs as the arity, or a ')' after fewer; `Labels` for a leaf number above 99, or,
 /// unless leaf numbers are free, at the last token of a tree whose leaves aren't 1 to n, each once; `Syntax` for any other
-/// token that can't stand there. `NoMemory` comes for want of memory alone.
+/// token that can't stand there, as a number before '*'. `NoMemory` comes for want of memory alone.
 pub fn tree_at(
     alloc: Global,
     table: &GenTable,
@@ -303,7 +311,7 @@ pub fn tree_at(
 
 /// Law: reading accepts a tree exactly where tokens begin with those of a tree over the table that is as it is
 /// demanded: within the limits, with leaves that carry 1 to some number, each once, unless they are free, and with the
-/// arity that is asked.
+/// arity that is asked; and where no '*' stands behind a tree that is a leaf.
 pub fn trees_are_accepted()
     ensures law { TreesAreAccepted }
 {}
@@ -313,9 +321,10 @@ pub fn trees_are_read_once()
     ensures law { TreesAreReadOnce }
 {}
 
-/// Law: where reading refuses a token, no tree over the table goes on with it behind the tokens before; and where it
-/// refuses the end of the line, these are the tokens of none. If a limit is passed, this is said of the trees within it;
-/// and if leaf numbers or the arity are refused, of the trees that are as demanded.
+/// Law: where reading refuses a token, no tree over the table goes on with it behind the tokens before, where a number
+/// before '*' is another token than one that is a leaf; and where it refuses the end of the line, these are the tokens
+/// of none. If a limit is passed, this is said of the trees within it; and if leaf numbers or the arity are refused, of
+/// the trees that are as demanded.
 pub fn trees_are_refused_rightly()
     ensures law { TreesAreRefusedRightly }
 {}

@@ -3,15 +3,12 @@ use crate::{
     checking, comparing, elements, passing, places, reading, shuffle, sorting, stores, symmetric,
     texts,
 };
-use presentation_text::{Document, ReadDocFail, read_document};
+use presentation_text::{Document, MOST_BYTES, ReadDocFail, read_document};
 use std::alloc::{AllocError, Global};
-
-// The most bytes that a document has.
-const MOST_BYTES: usize = 16_777_216;
 
 // The document of a text.
 fn document_of(alloc: Global, bytes: &[u8]) -> Result<Document, RowFail> {
-    if bytes.len() > MOST_BYTES {
+    if bytes.len() > MOST_BYTES as usize {
         return Err(RowFail::Refused);
     }
     match read_document(alloc, bytes) {

@@ -7,12 +7,11 @@ use crate::fail::RowFail;
 use crate::lines::{end_line, end_number};
 use crate::printing::write_next;
 use certificate_text::{Block, ReadCertFail, print_block, read_blocks};
-use presentation_text::{DocKind, Document, ReadDocFail, print_document, read_document};
+use presentation_text::{
+    DocKind, Document, MOST_BYTES, ReadDocFail, print_document, read_document,
+};
 use sqlite_items::Items;
 use std::alloc::Global;
-
-// The most bytes that a document has.
-const MOST_BYTES: usize = 16_777_216;
 
 // Writes the line that is refused, and the kind.
 fn fault(alloc: Global, line: u32, kind: DocKind, out: &mut Vec<u8>) -> Result<(), RowFail> {
@@ -38,7 +37,7 @@ fn end_places(document: &Document, out: &mut Vec<u8>) -> Result<(), RowFail> {
 
 // Writes the document of a text, and the places of its parts.
 fn document(alloc: Global, bytes: &[u8], out: &mut Vec<u8>) -> Result<(), RowFail> {
-    if bytes.len() > MOST_BYTES {
+    if bytes.len() > MOST_BYTES as usize {
         return Err(RowFail::Refused);
     }
     match read_document(alloc, bytes) {
@@ -68,7 +67,7 @@ fn write_blocks(
 
 // Writes the number of the blocks of a text, and each block.
 fn blocks(alloc: Global, bytes: &[u8], out: &mut Vec<u8>) -> Result<(), RowFail> {
-    if bytes.len() > MOST_BYTES {
+    if bytes.len() > MOST_BYTES as usize {
         return Err(RowFail::Refused);
     }
     match read_document(alloc, bytes) {

@@ -146,7 +146,8 @@ impl Model for GenTable {
     ghost invariant = { λ table. IsTable table.generators };
 }
 
-const MOST_GENERATORS: usize = 12;
+/// How many generators a table may hold.
+pub const MOST_GENERATORS: u16 = 12;
 
 impl GenTable {
     /// A table without generators. It takes no memory yet.
@@ -208,7 +209,7 @@ impl GenTable {
     fn refusal(&self, generator: &Generator) -> Option<GenFail>
         ensures { MatchOption result (spec.MayBeAdded self.now generator.now) (spec.Refuses self.now generator.now) }
     {
-        if self.generators.len() == MOST_GENERATORS {
+        if self.generators.len() == usize::from(MOST_GENERATORS) {
             return Some(GenFail::TooManyGens);
         }
         if self.is_taken(generator.name.as_str()) {

@@ -10,7 +10,7 @@ mod parts;
 mod spelling;
 
 pub use arity::{arity_of, numbered};
-pub use generators::{GenFail, GenTable, Generator, Name, Part, PartKind};
+pub use generators::{GenFail, GenTable, Generator, MOST_GENERATORS, Name, Part, PartKind};
 pub use grafting::{fill, graft};
 pub use labelled_trees::Tree;
 pub use order::{spelling_order, spelling_order_is_total};

@@ -1,32 +1,25 @@
-use Rattle.std.proofs.Common.{◌∙◌, inl, ap, map, string_bytes, refl, subst, sym, Err}
+use Rattle.std.proofs.Common.{map, string_bytes, refl, subst, sym}
 use Rattle.operad_run.specs.FormsAnswers.{FormsTells}
-use Rattle.operad_run.specs.declared.status.Status.TheVariants.{Usage, Limit, ReadFault}
-use Rattle.operad_run.proofs.FormsRuns.{told_is_run, says_of}
+use Rattle.operad_run.specs.declared.status.Status.TheVariants.{Usage}
+use Rattle.operad_run.proofs.FormsRuns.{told_is_run, says_of, unread_is_run}
+use Rattle.operad_run.proofs.Runs.{told_since}
 use Rattle.operad_run.proofs.run.operad_run.Goals as goal
 
 pub returns-in_default : goal.returns-in_default
 returns-in_default g c = record { run = told_is_run Usage c.tell.result (map string_bytes c.args.words.now) _ _ (c.in_default.ensures.absent, (refl, refl), refl) c.tell.ensures.contents }
 
-pub returns-in-Err-Fault : goal.returns-in-Err-Fault
-returns-in-Err-Fault g c =
-    let rose = c.read_all.ensures.fault (c.in-Err-Fault.is ∙ ap Err c.in-Err-Fault.field-0-is) in
-    record { run = told_is_run ReadFault c.tell-in-Err-Fault.result (map string_bytes c.args.words.now) _ _ ((c.in-Some.most, c.in-Some.ensures.found), rose, refl) c.tell-in-Err-Fault.ensures.contents }
-
-pub returns-in-Err-TooLong : goal.returns-in-Err-TooLong
-returns-in-Err-TooLong g c =
-    let long = c.read_all.ensures.long (c.in-Err-TooLong.is ∙ ap Err c.in-Err-TooLong.field-0-is) in
-    record {
-      run = told_is_run Limit c.tell-in-Err-TooLong.result (map string_bytes c.args.words.now) _ _
-          (inl ((c.in-Some.most, c.in-Some.ensures.found), record { bytes = long.1; given = long.3; many = long.2; sound = long.0 }, refl)) c.tell-in-Err-TooLong.ensures.contents;
-    }
+pub returns-in-Err : goal.returns-in-Err
+returns-in-Err g c = record { run = unread_is_run c.in-Err.status (map string_bytes c.args.words.now) _ (c.in-Some.most, c.in-Some.ensures.found) c.in-Err.ensures }
 
 pub returns-in-Ok-forms_text : goal.returns-in-Ok-forms_text
 returns-in-Ok-forms_text g c =
-    let whole = c.in-Ok.ensures.whole in
+    let came = c.in-Ok.ensures.0 in
+    let unwritten = c.in-Ok.ensures.1 in
     let contents = subst (λ bytes. FormsTells bytes c.in-Some.most c.in-Ok-forms_text.status c.in-Ok-forms_text.text.items) c.as_slice.ensures.value c.in-Ok-forms_text.ensures.contents in
     let here = subst (FormsTells c.in-Ok.bytes.items c.in-Some.most c.in-Ok-forms_text.status) (sym c.as_slice-in-Ok-forms_text.ensures.value) contents in
     record {
       run = told_is_run c.in-Ok-forms_text.status c.tell-in-Ok-forms_text.result (map string_bytes c.args.words.now) _ _
           (says_of (map string_bytes c.args.words.now) _ c.in-Some.most c.in-Ok.bytes.items c.in-Ok-forms_text.status _ c.in-Some.ensures.found
-          (record { given = whole.0; all = whole.1; few = whole.2; sound = c.in-Ok.ensures.kept }) here) c.tell-in-Ok-forms_text.ensures.contents;
+          (record { given = came.given; all = came.all; few = came.few; sound = came.sound }) here)
+          (told_since _ _ _ _ _ _ _ _ _ unwritten.0 unwritten.1 c.tell-in-Ok-forms_text.ensures.contents);
     }

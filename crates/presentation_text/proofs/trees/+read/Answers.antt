@@ -53,7 +53,7 @@ tree_within-returns-in-Number-clause-read t c =
     let rest = drop (c.args.at + 1) tokens in
     let here : drop c.args.at tokens ≡ Number n ∷ rest = c.in-Some.ensures.0 ∙ ap (λ token. token ∷ rest) c.in-Number.is in
     subst (λ reading. GivesInput table tokens reading c.args.inputs.now c.leaf.new.inputs c.leaf.result) (sym (ap (tree_in table c.args.depth c.args.inputs.now.seen) here ∙ steps.tree_in-number table c.args.depth c.args.inputs.now.seen n rest))
-    (c.leaf.ensures.read tokens table c.in-Some.ensures.1)
+    (c.leaf.ensures.read table)
 
 pub tree_within-returns-else-depth-eq0-clause-read :
     goal.tree_within-returns-else-depth-eq0-clause-read
