@@ -4,12 +4,51 @@ ghost use Rattle.shuffle_transfer.specs.Labels.{inputs_of};
 ghost use Rattle.symmetric_trees.specs.Generators.{generators_of};
 
 use crate::fail::RowFail;
-use presentation_text::{AskKind, Document};
+use presentation_text::{AskKind, Document, ReadDocFail, read_document};
 use shuffle_passage::to_shuffle;
 use shuffle_trees::STree;
 use std::alloc::Global;
 use symmetric_sums::Sum;
 use symmetric_trees::{GenTable, Tree, arity_of};
+
+/// The most bytes that a document has.
+pub const MOST_BYTES: usize = 16_777_216;
+
+/// The document of a text; `Refused` where it is none.
+pub fn document_of(alloc: Global, bytes: &[u8]) -> Result<Document, RowFail> {
+    if bytes.len() > MOST_BYTES {
+        return Err(RowFail::Refused);
+    }
+    match read_document(alloc, bytes) {
+        Ok(document) => Ok(document),
+        Err(ReadDocFail::NoMemory) => Err(RowFail::NoMemory),
+        Err(ReadDocFail::At(_)) => Err(RowFail::Refused),
+    }
+}
+
+/// The numbers that words say; `Refused` where one says none.
+pub fn numbers_of(alloc: Global, words: &[String]) -> Result<Vec<u32>, RowFail> {
+    let mut numbers = Vec::new(alloc);
+    for word in words {
+        match word.as_str().parse::<u32>() {
+            Ok(number) => numbers.push(number)?,
+            Err(_) => return Err(RowFail::Refused),
+        }
+    }
+    Ok(numbers)
+}
+
+/// The numbers as numbers of vertices; `Refused` where one is greater than 255.
+pub fn vertices_of(alloc: Global, numbers: &[u32]) -> Result<Vec<u8>, RowFail> {
+    let mut vertices = Vec::new(alloc);
+    for number in numbers {
+        match u8::try_from(*number) {
+            Ok(vertex) => vertices.push(vertex)?,
+            Err(_) => return Err(RowFail::Refused),
+        }
+    }
+    Ok(vertices)
+}
 
 /// The element of the question at a place, from 0 on; `Refused` where there is none.
 pub fn element(document: &Document, at: usize) -> Result<&Sum, RowFail> {

@@ -1,5 +1,6 @@
 use crate::fail::RowFail;
 use labelled_trees::Tree;
+use shuffle_trees::STree;
 use sqlite_items::Items;
 use std::alloc::Global;
 use std::mem;
@@ -99,6 +100,23 @@ pub fn trees_of(alloc: Global, words: &[String]) -> Result<Items<Tree>, RowFail>
     let mut trees = Items::new(alloc);
     for word in words {
         trees.push(tree_of(alloc, word)?)?;
+    }
+    Ok(trees)
+}
+
+/// The shuffle tree that a word spells.
+pub fn shuffle_of(alloc: Global, word: &String) -> Result<STree, RowFail> {
+    match STree::of(tree_of(alloc, word)?) {
+        Some(tree) => Ok(tree),
+        None => Err(RowFail::Refused),
+    }
+}
+
+/// The shuffle trees that words spell.
+pub fn shuffles_of(alloc: Global, words: &[String]) -> Result<Items<STree>, RowFail> {
+    let mut trees = Items::new(alloc);
+    for word in words {
+        trees.push(shuffle_of(alloc, word)?)?;
     }
     Ok(trees)
 }
