@@ -1,8 +1,8 @@
-use crate::checks::{all_belong, belongs};
+use crate::checks::all_belong;
 use crate::symmetric::sign_text;
 use presentation_text::{Document, write_number};
 use rows::{
-    RowFail, element, end_line, end_terms, end_tree, shuffle_of, shuffles_of, tree_of,
+    RowFail, belongs, element, end_line, end_terms, end_tree, shuffle_of, shuffles_of, tree_of,
     write_before, write_line, write_next, write_plain, write_text,
 };
 use shuffle_passage::{

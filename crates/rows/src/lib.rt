@@ -7,6 +7,7 @@
 #![tactic(auto)]
 
 mod arguments;
+mod belonging;
 mod elements;
 mod fail;
 mod lines;
@@ -18,6 +19,7 @@ mod splitting;
 pub use arguments::{
     MOST_BYTES, document_of, element, form, numbers_of, shuffle_tree, tree, vertices_of,
 };
+pub use belonging::belongs;
 pub use elements::{MOST_LEAVES, shuffle_terms};
 pub use fail::RowFail;
 pub use lines::{end_found, end_line, end_number, end_terms, end_tree, write_before, write_text};

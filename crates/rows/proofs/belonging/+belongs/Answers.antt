@@ -5,7 +5,7 @@ use Rattle.labelled_trees.specs.Labelled.{Fits}
 use Rattle.labelled_trees.specs.Meaning.{tree_of}
 use Rattle.labelled_trees.proofs.ProgramTrees.{fits-node}
 use Rattle.shuffle_trees.specs.LabelLists.{arity_in}
-use Rattle.row_runs.proofs.checks.+belongs.Goals as goal
+use Rattle.rows.proofs.belonging.+belongs.Goals as goal
 
 pub returns-after-loop-input : goal.returns-after-loop-input
 returns-after-loop-input t c e =

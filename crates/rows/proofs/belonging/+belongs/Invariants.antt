@@ -3,7 +3,7 @@ use Rattle.std.specs.List.{AllByRecursion}
 use Rattle.labelled_trees.specs.Labelled.{Fits}
 use Rattle.labelled_trees.specs.Meaning.{tree_of}
 use Rattle.shuffle_trees.specs.LabelLists.{arity_in}
-use Rattle.row_runs.proofs.checks.+belongs.Given as goal
+use Rattle.rows.proofs.belonging.+belongs.Given as goal
 
 abbrev pub decreases-belongs : goal.decreases-belongs
 decreases-belongs l = goal.size-belongs l
