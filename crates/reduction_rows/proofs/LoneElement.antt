@@ -1,21 +1,22 @@
 -- One element with label 0 at its root, and trees over no elements.
-use Rattle.std.proofs.Common.{◌≡◌, ℕ, zero, suc, ◌<◌, ◌⊎◌, inl, inr, List, [], ◌∷◌, length, refl, sym, subst, arith, Some, ◌∙◌}
+use Rattle.std.proofs.Common.{◌≡◌, ℕ, zero, suc, ◌<◌, ◌⊎◌, inl, inr, List, [], ◌∷◌, length, refl, sym, subst, arith, Option, Some, ◌∙◌}
 use Rattle.std.specs.Prelude.{slice_get, slice_index}
 use Rattle.std.specs.List.{All}
 use Rattle.std.specs.declared.cmp.Ordering.{Ordering}
-use Rattle.std.proofs.lemmas.List.Elements.{All-from_recursion}
+use Rattle.std.proofs.lemmas.List.Elements.{All-from_recursion, All-head, All-nil, All-tail}
 use Rattle.std.proofs.lemmas.Option.{get_or_from_slice_get, slice_get_within}
 use Rattle.modular_sums.specs.Lists.{Mem}
-use Rattle.labelled_trees.specs.Trees.{Tree, Row, node}
+use Rattle.labelled_trees.specs.Trees.{Tree, Row, node, IsNode}
 use Rattle.shuffle_insertions.specs.Orders.{IsTreeOrder}
-use Rattle.shuffle_insertions.specs.ShuffleTrees.{IsShuffleTree}
+use Rattle.shuffle_insertions.specs.ShuffleTrees.{IsShuffle, IsShuffleTree}
 use Rattle.shuffle_bases.specs.Elements.{Setting}
 use Rattle.shuffle_sums.specs.Sorting.{AreOfOneArity}
 use Rattle.tree_store.specs.Stores.{tree_at, HasLabel, IsStore}
 use Rattle.division.specs.declared.reducer.Reducer.{Reducer}
 use Rattle.division.specs.Cones.{CanGather}
-use Rattle.division.specs.Gathered.{AllOver, CameFrom, IsWorking}
-use Rattle.division.specs.Insertions.{IsReducer}
+use Rattle.division.specs.Gathered.{AllOver, CameFrom, IsStepOf, IsWorking}
+use Rattle.division.specs.Dividers.{HaveRoom}
+use Rattle.division.specs.Insertions.{AddsInsertion, IsReducer}
 
 no_entry : {X : Type 0} (i : ℕ) (x : X) → slice_get [] i ≡ Some x → ⊥
 no_entry i x e = cc e
@@ -71,3 +72,36 @@ nothing_given compare q trees all given order h came = (
 
     over : AllOver h.arity h.leaves trees given
     over p i is = go p i (came p i is)
+
+-- over no elements nothing has to be known
+pub nothing_working : (trees : List (Tree ℕ)) → IsStore trees → IsWorking trees [] [] [] []
+nothing_working trees store = record {
+  is_store = store;
+  are_reducers = λ e r is. absurd (no_entry e r is);
+  are_groups = record { within = λ l g is. absurd (no_entry l g is); rising = λ l g is. absurd (no_entry l g is); complete = λ e r is. absurd (no_entry e r is) };
+  are_dividers = λ id o is. absurd (no_entry id o is);
+  few = omega arith;
+  are_kept = λ id ids is. absurd (no_entry id (Some ids) is);
+}
+
+-- the element of these trees, whose leading tree has a vertex
+pub one_reducer : (trees : List (Tree ℕ)) (r : Reducer) (label : ℕ) → All (λ i. i < length trees) (r.lead ∷ r.tail) → All (λ i. IsShuffle r.arity (tree_at trees i)) (r.lead ∷ r.tail) → HasLabel label (tree_at trees r.lead) → IsReducer trees r
+one_reducer trees r label held valid vertex = record {
+  lead_low = All-head (λ i. i < length trees) r.lead r.tail held;
+  lead_valid = All-head (λ i. IsShuffle r.arity (tree_at trees i)) r.lead r.tail valid;
+  lead_node = subst IsNode (sym vertex.1) tt;
+  tail_low = All-tail (λ i. i < length trees) r.lead r.tail held;
+  tail_valid = All-tail (λ i. IsShuffle r.arity (tree_at trees i)) r.lead r.tail valid;
+}
+
+pub one_room : (r : Reducer) (n : ℕ) → r.arity < n → HaveRoom (r ∷ []) n
+one_room r n less e o is = subst (λ (x : Reducer). x.arity < n) (only_entry r e o is).1 less
+
+-- the trees of a step are held
+pub held_step : (trees : List (Tree ℕ)) (reducers : List Reducer) (found : List (Option ℕ)) (id : ℕ) (tail : List ℕ) → IsStepOf trees reducers found id tail → All (λ i. i < length trees) tail
+held_step trees reducers found id tail (inl h) = subst (All (λ i. i < length trees)) (sym h.1) (All-nil (λ i. i < length trees))
+held_step trees reducers found id tail (inr h) = h.inserted.held
+
+-- the trees of an insertion that was put behind nothing are held
+pub held_inserted : (trees : List (Tree ℕ)) (host lead : Tree ℕ) (tail : List (Tree ℕ)) (after : List ℕ) → AddsInsertion trees host lead tail [] after → All (λ i. i < length trees) after
+held_inserted trees host lead tail after h = subst (All (λ i. i < length trees)) (sym h.after_is) h.inserted.held

@@ -111,10 +111,13 @@ fn add_to(alloc: Global, cone: &mut Cone, prime: u32, high: u32, low: u32) -> Re
 fn greatest(cone: &Cone) -> Result<usize, RowFail>
     ensures place { IfOk result (λ place. place < length cone.now.ids) }
 {
-    match cone.order.as_slice() {
-        [_, _, place] if *place < cone.ids.len() => Ok(*place),
-        _ => Err(RowFail::Refused),
+    let [_, _, place] = cone.order.as_slice() else {
+        return Err(RowFail::Refused);
+    };
+    if *place >= cone.ids.len() {
+        return Err(RowFail::Refused);
     }
+    Ok(*place)
 }
 
 // The rest of the tree at a place of the cone.
@@ -163,6 +166,15 @@ fn write_ids(alloc: Global, store: &Store, ids: &[TreeId], out: &mut Vec<u8>) ->
     Ok(())
 }
 
+// The prime of a document.
+fn prime_of(document: &Document) -> u32
+    ensures value { result ≡ document.now.field }
+    ensures positive { 0 < result }
+    ensures small { result ≤ 65537 }
+{
+    document.field.prime()
+}
+
 // The cone of all trees of arity 3 by the order of paths; each is written with its id.
 fn write_cone(alloc: Global, document: &Document, out: &mut Vec<u8>) -> Result<Cone, RowFail>
     ensures cone { IfOk result (λ cone. (given : List ℕ) × IsCone given cone) }
@@ -170,7 +182,7 @@ fn write_cone(alloc: Global, document: &Document, out: &mut Vec<u8>) -> Result<C
 {
     let mut store = Store::new(alloc);
     let all = listing(alloc, document, &mut store)?;
-    let prime = document.field.prime();
+    let prime = prime_of(document);
     let cone = free_cone(alloc, &mut store, &Path {}, prime, all.as_slice())?;
     write_ids(alloc, &store, cone.ids.as_slice(), out)?;
     Ok(cone)
@@ -192,7 +204,7 @@ pub fn reduced(
     let high = number_of(high)?;
     let low = number_of(low)?;
     let mut cone = write_cone(alloc, document, out)?;
-    add_to(alloc, &mut cone, document.field.prime(), high, low)?;
+    add_to(alloc, &mut cone, prime_of(document), high, low)?;
     let place = greatest(&cone)?;
     write_rest(rest_of(alloc, &cone, place, bound), out)
 }

@@ -16,15 +16,28 @@ use tree_store::{Store, TreeId};
 /// Room for the parts of a tree at a divisor.
 pub const ROOM: usize = 16;
 
-// Stops where the leaves of a tree aren't 1 to `arity`.
-fn check_arity(alloc: Global, store: &Store, ids: &[TreeId], arity: u8) -> Result<(), RowFail>
+// Stops where the leaves of the tree aren't 1 to `arity`.
+fn check_tree(alloc: Global, store: &Store, id: TreeId, arity: u8) -> Result<(), RowFail>
+    requires held { id < length store.now }
+    ensures shuffle { OnOk result (IsShuffle arity (tree_at store.now id)) }
+{
+    let tree = store.tree_of(alloc, id)?;
+    let Some(leaves) = tree.arity() else {
+        return Err(RowFail::Refused);
+    };
+    if leaves != arity {
+        return Err(RowFail::Refused);
+    }
+    Ok(())
+}
+
+// The same for each tree.
+fn check_trees(alloc: Global, store: &Store, ids: &[TreeId], arity: u8) -> Result<(), RowFail>
     requires held { All (λ id. id < length store.now) ids.now }
     ensures shuffle { OnOk result (All (λ id. IsShuffle arity (tree_at store.now id)) ids.now) }
 {
     for id in ids {
-        if store.tree_of(alloc, *id)?.arity() != Some(arity) {
-            return Err(RowFail::Refused);
-        }
+        check_tree(alloc, store, *id, arity)?;
     }
     Ok(())
 }
@@ -48,7 +61,7 @@ fn element_of(alloc: Global, store: &Store, ids: &[TreeId]) -> Result<Reducer, R
     if store.label_of(*lead) != Some(0) {
         return Err(RowFail::Refused);
     }
-    check_arity(alloc, store, ids, arity)?;
+    check_trees(alloc, store, ids, arity)?;
     let tail = Items::from_slice(alloc, tail)?;
     Ok(Reducer {
         arity,

@@ -1,5 +1,5 @@
 ghost use Rattle.std.specs.Prelude.{◌≡◌, ◌<◌, ◌≤◌, ℕ, length, IfOk, IsTrue, OnOk};
-ghost use Rattle.std.specs.List.{AllByRecursion};
+ghost use Rattle.std.specs.List.{All, AllByRecursion};
 ghost use Rattle.modular_sums.specs.Sums.{AllTerms};
 ghost use Rattle.shuffle_insertions.specs.ShuffleTrees.{IsShuffleTree};
 ghost use Rattle.shuffle_trees.specs.LabelLists.{arity_in};
@@ -34,7 +34,7 @@ pub fn is_over(labels: &Labels, arity: u8, tree: &STree) -> bool
 
 // Whether the numbers are residues, and the trees such trees.
 fn are_over(labels: &Labels, prime: u32, arity: u8, terms: &[(u32, STree)]) -> bool
-    ensures { IsTrue result → AllByRecursion (λ x. (x.0 < prime) × IsShuffleTree (arity_in labels.now) arity x.1) terms.now }
+    ensures { IsTrue result → All (λ x. (x.0 < prime) × IsShuffleTree (arity_in labels.now) arity x.1) terms.now }
 {
     for term in terms {
         if term.0 >= prime {
@@ -89,6 +89,7 @@ fn sum_of<O: TreeOrder>(
     requires most { 9 ≤ shelf.old.most }
     ensures falls { IfOk result (FallsBy (compares O.weights O.by_keys setting.now) (field_of setting.now) shelf.new) }
     ensures keeps { OnOk result (KeepsShelf shelf.old shelf.new) }
+    ensures shelf { OnOk result (IsShelf shelf.new) }
 {
     let terms = spelled(alloc, words)?;
     if !are_terms(setting.labels(), setting.field().prime(), terms.as_slice()) {
@@ -178,8 +179,8 @@ fn write_by<O: TreeOrder + Drop>(
 fn plus_of(words: &[String]) -> usize
     ensures within { result ≤ length words.now }
 {
-    for (at, word) in words.iter().enumerate() {
-        if word.as_str() == "+" {
+    for at in 0..words.len() {
+        if words[at].as_str() == "+" {
             return at;
         }
     }

@@ -8,6 +8,7 @@ ghost use Rattle.symmetric_trees.specs.Generators.{generators_of};
 use crate::arguments::element;
 use crate::fail::RowFail;
 use presentation_text::Document;
+use prime_field::Field;
 use shuffle_passage::to_shuffle;
 use shuffle_trees::STree;
 use sqlite_items::Items;
@@ -50,17 +51,27 @@ fn shuffle_term(
     ensures residue { IfOk result (λ x. (0 < x.0) × (x.0 < document.now.field)) }
     ensures tree { IfOk result (λ x. IsShuffleTree (inputs_of (generators_of document.now.gens)) arity x.1) }
 {
-    if arity_of(&term.tree, &document.gens) != Some(arity) {
+    let Some(leaves) = arity_of(&term.tree, &document.gens) else {
+        return Err(RowFail::Refused);
+    };
+    if leaves != arity {
         return Err(RowFail::Refused);
     }
     let (sign, form) = to_shuffle(alloc, &document.gens, &term.tree)?;
-    let coef = document.field.of_number(u64::from(term.coef));
-    let signed = match sign {
-        Sign::Plus => coef,
-        Sign::Minus => document.field.neg(coef),
-    };
-    if signed == 0 {
+    let coef = signed(document.field, sign, term.coef);
+    if coef == 0 {
         return Err(RowFail::Refused);
     }
-    Ok((signed, form))
+    Ok((coef, form))
+}
+
+// The residue of a number with a sign.
+fn signed(field: Field, sign: Sign, number: u32) -> u32
+    ensures residue { result < field }
+{
+    let coef = field.of_number(u64::from(number));
+    match sign {
+        Sign::Plus => coef,
+        Sign::Minus => field.neg(coef),
+    }
 }
