@@ -1,6 +1,6 @@
 ghost use Rattle.std.specs.Prelude.{◌≡◌, ◌<◌, ◌≤◌, ◌-◌, ℕ, List, length, IfOk, OnOk};
 ghost use Rattle.std.specs.List.{All};
-ghost use Rattle.modular_sums.specs.RuleTables.{IsTail};
+ghost use Rattle.modular_sums.specs.RuleTables.{IsRuleTail};
 ghost use Rattle.shuffle_sums.specs.Sorting.{AreOfOneArity};
 ghost use Rattle.tree_store.specs.Stores.{IsStore};
 ghost use Rattle.row_sweeps.specs.Terms.{pairs};
@@ -76,7 +76,7 @@ fn free_cone<O: TreeOrder>(
 
 // Two terms at the positions 1 and 0, by residues other than 0.
 fn tail_of(prime: u32, high: u32, low: u32) -> Result<[Term; 2], RowFail>
-    ensures tail { IfOk result (λ tail. IsTail (prime - 1) 2 (pairs tail)) }
+    ensures tail { IfOk result (λ tail. IsRuleTail (prime - 1) 2 (pairs tail)) }
 {
     if high == 0 || high >= prime || low == 0 || low >= prime {
         return Err(RowFail::Refused);

@@ -5,7 +5,7 @@ ghost use Rattle.shuffle_insertions.specs.ShuffleTrees.{IsShuffleTree};
 ghost use Rattle.shuffle_trees.specs.LabelLists.{arity_in};
 ghost use Rattle.shuffle_sums.specs.Settings.{compares, field_of, labels_of as labels_in};
 ghost use Rattle.shuffle_sums.specs.Shelves.{IsShelf, KeepsShelf};
-ghost use Rattle.shuffle_sums.specs.Sums.{FallsBy, StandsIn};
+ghost use Rattle.shuffle_sums.specs.Sums.{FallsBy, HaveKeys};
 
 use path_orders::{LeafPath, Path, PathShort, TreeOrder};
 use presentation_text::{Document, OrderName, write_number};
@@ -105,7 +105,7 @@ fn write_sum<O: TreeOrder>(
     sum: &SSum<O>,
     out: &mut Vec<u8>,
 ) -> Result<(), RowFail>
-    requires stands { StandsIn shelf.now sum.now }
+    requires stands { HaveKeys shelf.now sum.now }
 {
     let terms = sum.to_sum(alloc, shelf)?;
     for term in terms.as_slice() {
