@@ -72,7 +72,7 @@ fn is_out_of_order(draft: &Draft, word: &str) -> bool
 }
 
 // What stands against the word of a line.
-#[tactic(auto, unfolding(crate::specs::LineForms::word_fault))]
+#[tactic(auto, unfolding(crate::specs::LineReadings::word_fault))]
 pub(crate) fn word_fault(draft: &Draft, word: &str) -> Option<DocKind>
     ensures { result ≡ spec.word_fault (contents_of draft.now) word.now }
 {

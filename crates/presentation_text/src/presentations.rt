@@ -138,7 +138,7 @@ fn skip_header(alloc: Global, bytes: &[u8]) -> Result<BehindHeader<'_>, ReadDocF
     requires short { length bytes.now ≤ 16777216 }
     ensures stands { IfOk result (λ header. IsRestFrom bytes.now 1 header.number header.rest.now) }
     ensures read { MatchResult result
-        (λ header. spec.read_text bytes.now ≡ spec.lines_from (told_by_header header.version) header.number (lines_of header.rest.now))
+        (λ header. spec.read_text bytes.now ≡ spec.lines_from (contents_by_header header.version) header.number (lines_of header.rest.now))
         (StopsAtLine (spec.read_text bytes.now)) }
 {
     let mut rest = bytes;
@@ -178,8 +178,8 @@ fn read_presentation(
 ) -> Result<ReadPresentation, ReadDocFail>
     requires few { header.number + length header.rest.now ≤ 16777217 }
     ensures { MatchResult result
-        (IsPresentationRead header.entry.rest.now header.entry.number (spec.lines_from (told_by_header header.entry.version) header.entry.number (lines_of header.entry.rest.now)))
-        (StopsAtLine (spec.lines_from (told_by_header header.entry.version) header.entry.number (lines_of header.entry.rest.now))) }
+        (IsPresentationRead header.entry.rest.now header.entry.number (spec.lines_from (contents_by_header header.entry.version) header.entry.number (lines_of header.entry.rest.now)))
+        (StopsAtLine (spec.lines_from (contents_by_header header.entry.version) header.entry.number (lines_of header.entry.rest.now))) }
 {
     let mut draft = Draft::new(alloc, header.version);
     let mut rest = header.rest;
