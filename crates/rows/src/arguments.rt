@@ -1,6 +1,8 @@
 ghost use Rattle.std.specs.Prelude.{ℕ, IfOk};
+ghost use Rattle.std.specs.List.{All};
 ghost use Rattle.shuffle_insertions.specs.ShuffleTrees.{IsShuffleTree};
 ghost use Rattle.shuffle_transfer.specs.Labels.{inputs_of};
+ghost use Rattle.symmetric_sums.specs.Terms.{FitsOver};
 ghost use Rattle.symmetric_trees.specs.Generators.{generators_of};
 
 use crate::fail::RowFail;
@@ -15,7 +17,9 @@ use symmetric_trees::{GenTable, Tree, arity_of};
 pub const MOST_BYTES: usize = 16_777_216;
 
 /// The document of a text; `Refused` where it is none.
-pub fn document_of(alloc: Global, bytes: &[u8]) -> Result<Document, RowFail> {
+pub fn document_of(alloc: Global, bytes: &[u8]) -> Result<Document, RowFail>
+    ensures fit { IfOk result (λ document. All (FitsOver document.field document.gens) document.rels) }
+{
     if bytes.len() > MOST_BYTES {
         return Err(RowFail::Refused);
     }
