@@ -17,5 +17,4 @@ pub mod Ranking
 pub mod Rowing
 pub mod Ruling
 pub mod TailSteps
-pub mod TestElements
 pub mod WholeTrees

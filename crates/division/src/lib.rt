@@ -37,6 +37,3 @@ pub use laying::{divides_inputs, divides_root};
 pub use reducer::Reducer;
 pub use rows::{RowFail, reduce_row, sweep_row};
 pub use tails::insert_at_root;
-
-#[cfg(test)]
-mod tests;

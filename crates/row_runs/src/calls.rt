@@ -1,34 +1,10 @@
-use crate::fail::RowFail;
 use crate::{
     checking, comparing, elements, passing, places, reading, shuffle, sorting, stores, symmetric,
     texts,
 };
-use presentation_text::{Document, MOST_BYTES, ReadDocFail, read_document};
-use std::alloc::{AllocError, Global};
-
-// The document of a text.
-fn document_of(alloc: Global, bytes: &[u8]) -> Result<Document, RowFail> {
-    if bytes.len() > MOST_BYTES as usize {
-        return Err(RowFail::Refused);
-    }
-    match read_document(alloc, bytes) {
-        Ok(document) => Ok(document),
-        Err(ReadDocFail::NoMemory) => Err(RowFail::NoMemory),
-        Err(ReadDocFail::At(_)) => Err(RowFail::Refused),
-    }
-}
-
-// The numbers that words say.
-fn numbers_of(alloc: Global, words: &[String]) -> Result<Vec<u32>, RowFail> {
-    let mut numbers = Vec::new(alloc);
-    for word in words {
-        match word.as_str().parse::<u32>() {
-            Ok(number) => numbers.push(number)?,
-            Err(_) => return Err(RowFail::Refused),
-        }
-    }
-    Ok(numbers)
-}
+use presentation_text::Document;
+use rows::{RowFail, document_of, numbers_of};
+use std::alloc::Global;
 
 // Calls what the name says, where numbers are its arguments. False where there is no such call.
 fn number_answer(
@@ -80,8 +56,8 @@ fn word_answer(
     comparing::answer(alloc, name, words, document, out)
 }
 
-// Calls what the name says: on the text, on words, or on numbers.
-fn any_answer(
+/// Calls what the name says: on the text, on words, or on numbers. The answer is written behind `out`.
+pub fn call(
     alloc: Global,
     name: &str,
     words: &[String],
@@ -100,23 +76,5 @@ fn any_answer(
         Ok(())
     } else {
         Err(RowFail::Refused)
-    }
-}
-
-/// Writes the answer of a call behind `out`.
-pub fn call(
-    alloc: Global,
-    name: &str,
-    words: &[String],
-    heading: &[u8],
-    text: &[u8],
-    out: &mut Vec<u8>,
-) -> Result<(), AllocError> {
-    let mut whole = heading.to_vec(alloc)?;
-    whole.extend_from_slice(text)?;
-    match any_answer(alloc, name, words, &whole, out) {
-        Ok(()) => Ok(()),
-        Err(RowFail::NoMemory) => Err(AllocError),
-        Err(RowFail::Refused) => out.extend_from_slice(b"refused\n"),
     }
 }

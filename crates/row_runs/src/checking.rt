@@ -4,11 +4,10 @@ ghost use Rattle.certificate_text.specs.Tails.{IsCheckableStep};
 
 use crate::checks::all_fit;
 use crate::elements::{copy, instance_of};
-use crate::fail::RowFail;
-use crate::lines::end_line;
 use certificate_check::{CheckAnswer, check_block};
 use certificate_text::{Block, Step};
 use presentation_text::Document;
+use rows::{RowFail, end_line};
 use sqlite_items::Items;
 use std::alloc::Global;
 

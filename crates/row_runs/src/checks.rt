@@ -8,6 +8,7 @@ ghost use Rattle.symmetric_sums.specs.Terms.{FitsOver};
 
 use labelled_trees::Tree;
 use prime_field::Field;
+use rows::belongs;
 use shuffle_trees::{Labels, STree};
 use symmetric_sums::Sum;
 use symmetric_trees::GenTable;
@@ -21,29 +22,6 @@ pub fn is_within(tree: &Tree, most: usize) -> bool
         Tree::Node(_, inputs) => {
             for input in inputs.as_slice() {
                 if !is_within(input, most) {
-                    return false;
-                }
-            }
-            true
-        }
-    }
-}
-
-/// Whether each vertex has as many inputs as its label.
-pub fn belongs(tree: &Tree, labels: &Labels) -> bool
-    ensures { IsTrue result → Fits (arity_in labels.now) (tree_of tree.now) }
-{
-    match tree {
-        Tree::Leaf(_) => true,
-        Tree::Node(label, inputs) => {
-            if *label >= labels.len() {
-                return false;
-            }
-            if inputs.len() != labels.arity(*label) as usize {
-                return false;
-            }
-            for input in inputs.as_slice() {
-                if !belongs(input, labels) {
                     return false;
                 }
             }

@@ -1,9 +1,6 @@
-use crate::fail::RowFail;
-use crate::lines::end_line;
-use crate::printing::write_next;
-use crate::shuffle::{shuffle_of, shuffles_of};
 use path_orders::{Blocks, LeafPath, Path, PathShort, TreeOrder, WeightPath};
 use presentation_text::{Document, OrderName, write_number};
+use rows::{RowFail, end_line, shuffle_of, shuffles_of, write_next};
 use shuffle_passage::labels_of;
 use shuffle_sums::flat_key;
 use shuffle_trees::{Key, Labels, STree};

@@ -1,9 +1,9 @@
-use crate::arguments::element;
 use crate::checks::all_fit;
-use crate::fail::RowFail;
-use crate::lines::{end_line, end_terms, write_before};
-use crate::spelling::{number_of, small_number_of, tree_of, trees_of};
 use presentation_text::{Document, write_number};
+use rows::{
+    RowFail, element, end_line, end_terms, number_of, small_number_of, tree_of, trees_of,
+    write_before,
+};
 use sqlite_items::Items;
 use std::alloc::Global;
 use symmetric_sums::{

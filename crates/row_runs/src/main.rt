@@ -12,33 +12,26 @@
 //! call.
 #![tactic(auto)]
 
-mod arguments;
 mod calls;
 mod checking;
 mod checks;
 mod comparing;
 mod elements;
-mod fail;
-mod lines;
 mod passing;
 mod places;
-mod printing;
 mod reading;
-mod rows;
 mod runs;
 mod shuffle;
 mod sorting;
-mod spelling;
 mod stores;
 mod symmetric;
 mod texts;
 
 use outside_io::{RealSink, RealSource, read_all, write_all};
+use presentation_text::MOST_BYTES;
 use rows::run_all;
+use runs::Runs;
 use std::process::ExitCode;
-
-// The most bytes of all rows.
-const MOST_BYTES: u64 = 16_777_216;
 
 fn main(rt: HostRuntime) -> ExitCode {
     let alloc = rt.alloc();
@@ -47,7 +40,7 @@ fn main(rt: HostRuntime) -> ExitCode {
     let Ok(rows) = read_all(alloc, &mut source, MOST_BYTES) else {
         return ExitCode::from(1);
     };
-    let Ok(out) = run_all(alloc, &rows) else {
+    let Ok(out) = run_all(alloc, &mut Runs::new(), &rows) else {
         return ExitCode::from(1);
     };
     match write_all(&mut sink, &out) {

@@ -1,12 +1,10 @@
-use crate::arguments::element;
-use crate::checks::{all_belong, belongs};
-use crate::fail::RowFail;
-use crate::lines::{end_line, end_terms, end_tree, write_before, write_text};
-use crate::printing::{write_line, write_next, write_plain};
-use crate::shuffle::{shuffle_of, shuffles_of};
-use crate::spelling::tree_of;
+use crate::checks::all_belong;
 use crate::symmetric::sign_text;
 use presentation_text::{Document, write_number};
+use rows::{
+    RowFail, belongs, element, end_line, end_terms, end_tree, shuffle_of, shuffles_of, tree_of,
+    write_before, write_line, write_next, write_plain, write_text,
+};
 use shuffle_passage::{
     frame_to_context, labels_of, relabelled, relabellings, to_shuffle, to_symmetric,
 };

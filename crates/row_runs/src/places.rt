@@ -2,11 +2,9 @@ ghost use Rattle.std.specs.Prelude.{ℕ, IfOk};
 ghost use Rattle.labelled_trees.specs.Trees.{IsNode};
 ghost use Rattle.shuffle_insertions.specs.ShuffleTrees.{IsShuffle};
 
-use crate::arguments::shuffle_tree;
-use crate::fail::RowFail;
-use crate::printing::{write_line, write_plain};
 use labelled_trees::Tree;
 use presentation_text::Document;
+use rows::{RowFail, shuffle_tree, vertices_of, write_line, write_plain};
 use shuffle_trees::STree;
 use std::alloc::{AllocError, Global};
 use tree_divisors::{Place, first_place, frame_at, places_of, restrict};
@@ -41,18 +39,6 @@ pub fn first(alloc: Global, document: &Document, out: &mut Vec<u8>) -> Result<()
         None => out.extend_from_slice(b"none\n")?,
     }
     Ok(())
-}
-
-/// The numbers as numbers of vertices; `Refused` where one is greater than 255.
-pub fn vertices_of(alloc: Global, numbers: &[u32]) -> Result<Vec<u8>, RowFail> {
-    let mut vertices = Vec::new(alloc);
-    for number in numbers {
-        match u8::try_from(*number) {
-            Ok(vertex) => vertices.push(vertex)?,
-            Err(_) => return Err(RowFail::Refused),
-        }
-    }
-    Ok(vertices)
 }
 
 /// Of the place with the given vertices in the tree, each in a line: the divisor, the context and the inputs; `none` where it is none.

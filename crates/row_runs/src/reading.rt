@@ -1,10 +1,8 @@
-use crate::fail::RowFail;
-use crate::lines::{end_line, end_number, write_before};
-use crate::spelling::small_number_of;
 use presentation_text::{
     DocKind, Document, PartFail, Token, element_at, print_sum, print_tree, tokens, tree_at,
     write_number,
 };
+use rows::{RowFail, end_line, end_number, small_number_of, write_before};
 use std::alloc::{AllocError, Global};
 
 // The line of these words.

@@ -1,32 +1,53 @@
+use crate::calls;
 use operad_run::{check_run, operad_run};
 use outside_io::{MemorySink, MemorySource};
 use presentation_text::write_number;
+use rows::{Program, RowFail};
 use std::alloc::{AllocError, Global};
+use std::mem;
 
 const ROOM: usize = 65536;
 
-/// How the source and the sink of a run behave.
+// How the source and the sink of a run behave.
 #[derive(Clone, Copy, Debug)]
-pub struct Outside {
-    /// How many bytes the source gives, and the sink takes, in a call; at least 1.
-    pub chunk: u32,
-    /// Which call of the source fails, counted from 1; 0 for none.
-    pub failing_read: u32,
-    /// Which call of the sink fails, counted from 1; 0 for none.
-    pub failing_write: u32,
-    /// How many bytes of a comment stand before the row's text.
-    pub comment: u32,
+struct Outside {
+    // How many bytes the source gives, and the sink takes, in a call; at least 1.
+    chunk: u32,
+    // Which call of the source fails, counted from 1; 0 for none.
+    failing_read: u32,
+    // Which call of the sink fails, counted from 1; 0 for none.
+    failing_write: u32,
+    // How many bytes of a comment stand before the row's text.
+    comment: u32,
 }
 
 impl Outside {
-    /// Ten bytes a call, no failures, no comment.
-    pub fn plain() -> Outside {
+    // Ten bytes a call, no failures, no comment.
+    fn plain() -> Outside {
         Outside {
             chunk: 10,
             failing_read: 0,
             failing_write: 0,
             comment: 0,
         }
+    }
+}
+
+// What the row says that begins with `> outside`.
+fn outside_of(words: &[String]) -> Outside {
+    Outside {
+        chunk: number(words.first()),
+        failing_read: number(words.get(1)),
+        failing_write: number(words.get(2)),
+        comment: number(words.get(3)),
+    }
+}
+
+// The number that a word says; 0 where it says none.
+fn number(word: Option<&String>) -> u32 {
+    match word {
+        Some(word) => word.as_str().parse::<u32>().unwrap_or(0),
+        None => 0,
     }
 }
 
@@ -37,8 +58,8 @@ fn text_behind(alloc: Global, comment: u32, text: &[u8]) -> Result<Vec<u8>, Allo
     Ok(bytes)
 }
 
-/// What a run of a program writes on a text, with its status before it. The first word names the program.
-pub fn run(
+// What a run of a program writes on a text, with its status before it. The first word names the program.
+fn run(
     alloc: Global,
     words: &[String],
     outside: Outside,
@@ -66,4 +87,53 @@ pub fn run(
     out.push(b'\n')?;
     out.extend_from_slice(sink.bytes())?;
     Ok(())
+}
+
+/// The runs of programs, and the calls.
+#[derive(Clone, Copy, Debug)]
+pub struct Runs {
+    // How the source and the sink of the next run behave.
+    outside: Outside,
+}
+
+impl Runs {
+    /// The next run has a source and a sink that don't fail.
+    pub fn new() -> Runs {
+        Runs {
+            outside: Outside::plain(),
+        }
+    }
+}
+
+impl Program for Runs {
+    fn call(
+        &self,
+        alloc: Global,
+        name: &str,
+        words: &[String],
+        text: &[u8],
+        out: &mut Vec<u8>,
+    ) -> Result<(), RowFail> {
+        calls::call(alloc, name, words, text, out)
+    }
+
+    // A row `> outside CHUNK READ WRITE COMMENT` prints nothing: it says how the source and the sink of the next run behave.
+    fn run(
+        &mut self,
+        alloc: Global,
+        words: &[String],
+        text: &[u8],
+        out: &mut Vec<u8>,
+    ) -> Result<(), RowFail> {
+        match words {
+            [first, numbers @ ..] if first.as_str() == "outside" => {
+                self.outside = outside_of(numbers);
+                Ok(())
+            }
+            given => {
+                let used = mem::replace(&mut self.outside, Outside::plain());
+                Ok(run(alloc, given, used, text, out)?)
+            }
+        }
+    }
 }

@@ -1,30 +1,13 @@
-use crate::fail::RowFail;
-use crate::lines::{end_found, end_line, end_number, end_tree, write_before, write_text};
-use crate::printing::{write_line, write_next, write_plain};
-use crate::spelling::{number_of, small_number_of, tree_of};
 use presentation_text::write_number;
+use rows::{
+    RowFail, end_found, end_line, end_number, end_tree, number_of, shuffle_of, shuffles_of,
+    small_number_of, tree_of, write_before, write_line, write_next, write_plain, write_text,
+};
 use shuffle_trees::{
     Frame, Key, Labels, STree, all_trees, count_trees, insert, leaf_row, vertex_count, words,
 };
 use sqlite_items::Items;
 use std::alloc::Global;
-
-/// The shuffle tree that a word spells.
-pub fn shuffle_of(alloc: Global, word: &String) -> Result<STree, RowFail> {
-    match STree::of(tree_of(alloc, word)?) {
-        Some(tree) => Ok(tree),
-        None => Err(RowFail::Refused),
-    }
-}
-
-/// The shuffle trees that words spell.
-pub fn shuffles_of(alloc: Global, words: &[String]) -> Result<Items<STree>, RowFail> {
-    let mut trees = Items::new(alloc);
-    for word in words {
-        trees.push(shuffle_of(alloc, word)?)?;
-    }
-    Ok(trees)
-}
 
 // Writes of each tree whether it is a shuffle tree: its copy, its arity and the number of its vertices.
 fn made(alloc: Global, given: &[String], out: &mut Vec<u8>) -> Result<(), RowFail> {

@@ -2,11 +2,9 @@ ghost use Rattle.std.specs.Prelude.{◌≤◌, IfOk};
 ghost use Rattle.modular_sums.specs.Lists.{Distinct};
 ghost use Rattle.shuffle_sums.specs.Sorting.{AreOfOneArity};
 
-use crate::arguments::shuffle_tree;
-use crate::fail::RowFail;
-use crate::printing::write_next;
 use path_orders::{Blocks, LeafPath, Path, PathShort, TreeOrder, WeightPath};
 use presentation_text::{Document, OrderName, write_number};
+use rows::{RowFail, shuffle_tree, write_next};
 use shuffle_passage::labels_of;
 use shuffle_sums::{flat_key, put_all, sort_blocks, sorted};
 use shuffle_trees::{Labels, STree, all_trees};

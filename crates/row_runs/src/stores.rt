@@ -1,9 +1,7 @@
 ghost use Rattle.std.specs.Prelude.{◌<◌, length, IfOk, IfSome};
 
-use crate::arguments::shuffle_tree;
-use crate::fail::RowFail;
-use crate::printing::{write_next, write_plain};
 use presentation_text::{Document, write_number};
+use rows::{RowFail, shuffle_tree, write_next, write_plain};
 use smallvec::SmallVec;
 use std::alloc::Global;
 use tree_store::{NodeView, Store, TreeId};

@@ -1,8 +1,8 @@
 use crate::checks::is_within;
-use crate::fail::RowFail;
-use crate::lines::{end_found, end_line, end_number, end_tree, write_before, write_text};
-use crate::printing::write_next;
-use crate::spelling::{small_number_of, tree_of, trees_of};
+use rows::{
+    RowFail, end_found, end_line, end_number, end_tree, small_number_of, tree_of, trees_of,
+    write_before, write_next, write_text,
+};
 use sqlite_items::Items;
 use std::alloc::Global;
 use symmetric_trees::{

@@ -3,13 +3,11 @@ ghost use Rattle.std.specs.List.{All};
 ghost use Rattle.certificate_text.specs.Plain.{plain_block};
 ghost use Rattle.certificate_text.specs.Writable.{IsWritableBlock};
 
-use crate::fail::RowFail;
-use crate::lines::{end_line, end_number};
-use crate::printing::write_next;
 use certificate_text::{Block, ReadCertFail, print_block, read_blocks};
 use presentation_text::{
     DocKind, Document, MOST_BYTES, ReadDocFail, print_document, read_document,
 };
+use rows::{RowFail, end_line, end_number, write_next};
 use sqlite_items::Items;
 use std::alloc::Global;
 

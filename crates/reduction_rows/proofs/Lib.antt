@@ -1,0 +1,2 @@
+pub mod LoneElement
+pub mod TermLists

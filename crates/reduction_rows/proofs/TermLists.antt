@@ -1,0 +1,17 @@
+-- Terms whose residues are small and whose trees have a property.
+use Rattle.std.proofs.Common.{ℕ, ◌<◌, List, [], ◌∷◌}
+use Rattle.std.specs.List.{All, AllByRecursion}
+use Rattle.std.proofs.lemmas.List.Elements.{All-head, All-tail}
+use Rattle.modular_sums.specs.Sums.{AllTerms}
+
+module _ {X : Type 0} (p : ℕ) (P : X → Type 0) where
+  abbrev IsTerm : ℕ × X → Type 0
+  IsTerm x = (x.0 < p) × P x.1
+
+  pub small_residues : (terms : List (ℕ × X)) → All (λ x. (x.0 < p) × P x.1) terms → AllByRecursion (λ x. x.0 < p) terms
+  small_residues [] h = tt
+  small_residues (x ∷ terms) h = ((All-head IsTerm x terms h).0, small_residues terms (All-tail IsTerm x terms h))
+
+  pub all_trees : (terms : List (ℕ × X)) → All (λ x. (x.0 < p) × P x.1) terms → AllTerms terms P
+  all_trees [] h = tt
+  all_trees (x ∷ terms) h = ((All-head IsTerm x terms h).1, all_trees terms (All-tail IsTerm x terms h))

@@ -1,0 +1,53 @@
+use crate::{bases, cones, elements, gatherings, shelves, sums};
+use presentation_text::Document;
+use rows::{Program, RowFail, document_of};
+use std::alloc::Global;
+
+/// The calls of `shuffle_sums` and `division`.
+#[derive(Clone, Copy, Debug)]
+pub struct Calls;
+
+// Calls what the name says, where a document gives the setting.
+fn document_answer(
+    alloc: Global,
+    name: &str,
+    words: &[String],
+    document: &Document,
+    out: &mut Vec<u8>,
+) -> Result<(), RowFail> {
+    match name {
+        "SSum::add_scaled" => sums::add_scaled(alloc, document, words, out),
+        "Shelf::shelve" => shelves::shelve(alloc, document, words, out),
+        "reduce_row" => cones::reduced(alloc, document, words, out),
+        _ => Err(RowFail::Refused),
+    }
+}
+
+impl Program for Calls {
+    fn call(
+        &self,
+        alloc: Global,
+        name: &str,
+        words: &[String],
+        text: &[u8],
+        out: &mut Vec<u8>,
+    ) -> Result<(), RowFail> {
+        match name {
+            "insert_at_root" => elements::inserted(alloc, words, out),
+            "step" => elements::stepped(alloc, words, out),
+            "gather" => gatherings::gathered(alloc, words, out),
+            "Basis::add" => bases::kept(alloc, words, out),
+            _ => document_answer(alloc, name, words, &document_of(alloc, text)?, out),
+        }
+    }
+
+    fn run(
+        &mut self,
+        _alloc: Global,
+        _words: &[String],
+        _text: &[u8],
+        _out: &mut Vec<u8>,
+    ) -> Result<(), RowFail> {
+        Err(RowFail::Refused)
+    }
+}

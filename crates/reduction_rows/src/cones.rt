@@ -1,0 +1,210 @@
+ghost use Rattle.std.specs.Prelude.{◌≡◌, ◌<◌, ◌≤◌, ◌-◌, ℕ, List, length, IfOk, OnOk};
+ghost use Rattle.std.specs.List.{All};
+ghost use Rattle.modular_sums.specs.RuleTables.{IsRuleTail};
+ghost use Rattle.shuffle_sums.specs.Sorting.{AreOfOneArity};
+ghost use Rattle.tree_store.specs.Stores.{IsStore};
+ghost use Rattle.row_sweeps.specs.Terms.{pairs};
+ghost use Rattle.division.specs.Cones.{IsCone};
+
+use crate::terms::write_terms;
+use division::{Cone, RowFail as SweepFail, add_element, cone_of, meet_all, reduce_row};
+use path_orders::{Path, TreeOrder};
+use presentation_text::{Document, write_number};
+use row_sweeps::{Steps, Term};
+use rows::{RowFail, end_line, end_tree, number_of};
+use shuffle_passage::labels_of;
+use shuffle_sums::{Term as IdTerm, put_all};
+use shuffle_trees::all_trees;
+use sqlite_items::Items;
+use std::alloc::Global;
+use tree_store::{Store, TreeId};
+
+// The ids of all shuffle trees of arity 3 over the document's labels; `Refused` where there are none.
+fn listing(alloc: Global, document: &Document, store: &mut Store) -> Result<Vec<TreeId>, RowFail>
+    ensures one_arity { IfOk result (λ ids. AreOfOneArity store.new ids.items) }
+    ensures store { OnOk result (IsStore store.new) }
+{
+    let labels = labels_of(alloc, &document.gens)?;
+    let trees = all_trees(alloc, &labels, 3)?;
+    let ids = put_all(alloc, store, trees.as_slice())?;
+    match ids.as_slice() {
+        [first, ..] => {
+            let _view = store.node(*first);
+        }
+        [] => return Err(RowFail::Refused),
+    }
+    Ok(ids)
+}
+
+// The cone of these trees by an order, without elements.
+fn free_cone<O: TreeOrder>(
+    alloc: Global,
+    store: &mut Store,
+    order: &O,
+    prime: u32,
+    all: &[TreeId],
+) -> Result<Cone, RowFail>
+    requires one_arity { AreOfOneArity store.old all.now }
+    requires store { IsStore store.old }
+    requires positive { 0 < prime }
+    requires small { prime ≤ 65537 }
+    ensures cone { IfOk result (λ cone. (given : List ℕ) × IsCone given cone) }
+    ensures held { IfOk result (λ cone. All (λ id. id < length store.new) cone.ids) }
+    ensures prime { IfOk result (λ cone. cone.table.q ≡ prime - 1) }
+{
+    let mut places = Items::new(alloc);
+    let mut ids = Items::new(alloc);
+    meet_all(alloc, &mut places, &mut ids, all)?;
+    let mut found = Items::new(alloc);
+    let mut kept = Items::new(alloc);
+    let cone = cone_of(
+        alloc,
+        store,
+        order,
+        prime,
+        &[],
+        &[],
+        &[],
+        &mut found,
+        &mut kept,
+        &mut [],
+        places,
+        ids,
+    )?;
+    Ok(cone)
+}
+
+// Two terms at the positions 1 and 0, by residues other than 0.
+fn tail_of(prime: u32, high: u32, low: u32) -> Result<[Term; 2], RowFail>
+    ensures tail { IfOk result (λ tail. IsRuleTail (prime - 1) 2 (pairs tail)) }
+{
+    if high == 0 || high >= prime || low == 0 || low >= prime {
+        return Err(RowFail::Refused);
+    }
+    Ok([
+        Term {
+            coef: high,
+            position: 1,
+        },
+        Term {
+            coef: low,
+            position: 0,
+        },
+    ])
+}
+
+// Gives the cone of three trees an element: the greatest tree, and these residues times the two others.
+fn add_to(alloc: Global, cone: &mut Cone, prime: u32, high: u32, low: u32) -> Result<(), RowFail>
+    requires cone { (given : List ℕ) × IsCone given cone.old }
+    requires prime { cone.old.table.q ≡ prime - 1 }
+    ensures cone { OnOk result ((given : List ℕ) × IsCone given cone.new) }
+{
+    if cone.ids.len() != 3 {
+        return Err(RowFail::Refused);
+    }
+    let tail = tail_of(prime, high, low)?;
+    add_element(alloc, cone, 2, &tail)?;
+    Ok(())
+}
+
+// The place of the greatest tree.
+fn greatest(cone: &Cone) -> Result<usize, RowFail>
+    ensures place { IfOk result (λ place. place < length cone.now.ids) }
+{
+    let [_, _, place] = cone.order.as_slice() else {
+        return Err(RowFail::Refused);
+    };
+    if *place >= cone.ids.len() {
+        return Err(RowFail::Refused);
+    }
+    Ok(*place)
+}
+
+// The rest of the tree at a place of the cone.
+fn rest_of(alloc: Global, cone: &Cone, place: usize, bound: u64) -> Result<Items<IdTerm>, SweepFail>
+    requires cone { (given : List ℕ) × IsCone given cone.now }
+    requires place { place < length cone.now.ids }
+{
+    let terms = [IdTerm {
+        coef: 1,
+        tree: cone.ids.as_slice()[place],
+    }];
+    let mut row = vec![in alloc; 0u64; cone.ids.len()]?;
+    let mut log = Vec::new(alloc);
+    reduce_row(
+        alloc,
+        cone,
+        &terms,
+        row.as_mut_slice(),
+        &mut Steps::new(bound),
+        &mut log,
+        true,
+    )
+}
+
+// Writes the terms of a rest by their ids; or that the bound was spent, and the row.
+fn write_rest(rest: Result<Items<IdTerm>, SweepFail>, out: &mut Vec<u8>) -> Result<(), RowFail> {
+    match rest {
+        Ok(rest) => Ok(write_terms(rest.as_slice(), out)?),
+        Err(SweepFail::Spent { row }) => {
+            end_line("Spent", out)?;
+            Ok(write_terms(row.as_slice(), out)?)
+        }
+        Err(SweepFail::NoMemory) => Err(RowFail::NoMemory),
+    }
+}
+
+// Writes each id in a line with its tree.
+fn write_ids(alloc: Global, store: &Store, ids: &[TreeId], out: &mut Vec<u8>) -> Result<(), RowFail>
+    requires held { All (λ id. id < length store.now) ids.now }
+{
+    for id in ids {
+        write_number(id.index() as u64, out)?;
+        out.push(b' ')?;
+        end_tree(store.tree_of(alloc, *id)?.shape(), out)?;
+    }
+    Ok(())
+}
+
+// The prime of a document.
+fn prime_of(document: &Document) -> u32
+    ensures value { result ≡ document.now.field }
+    ensures positive { 0 < result }
+    ensures small { result ≤ 65537 }
+{
+    document.field.prime()
+}
+
+// The cone of all trees of arity 3 by the order of paths; each is written with its id.
+fn write_cone(alloc: Global, document: &Document, out: &mut Vec<u8>) -> Result<Cone, RowFail>
+    ensures cone { IfOk result (λ cone. (given : List ℕ) × IsCone given cone) }
+    ensures prime { IfOk result (λ cone. cone.table.q ≡ document.now.field - 1) }
+{
+    let mut store = Store::new(alloc);
+    let all = listing(alloc, document, &mut store)?;
+    let prime = prime_of(document);
+    let cone = free_cone(alloc, &mut store, &Path {}, prime, all.as_slice())?;
+    write_ids(alloc, &store, cone.ids.as_slice(), out)?;
+    Ok(cone)
+}
+
+/// Over the three shuffle trees of arity 3 by the order of paths, an element is added: the greatest tree and, with the second and
+/// the third number as residues, the two others. Each tree is written with its id, and then the rest of the greatest one, by at
+/// most as many steps as the first number says: residues and ids.
+pub fn reduced(
+    alloc: Global,
+    document: &Document,
+    words: &[String],
+    out: &mut Vec<u8>,
+) -> Result<(), RowFail> {
+    let [bound, high, low] = words else {
+        return Err(RowFail::Refused);
+    };
+    let bound = u64::from(number_of(bound)?);
+    let high = number_of(high)?;
+    let low = number_of(low)?;
+    let mut cone = write_cone(alloc, document, out)?;
+    add_to(alloc, &mut cone, prime_of(document), high, low)?;
+    let place = greatest(&cone)?;
+    write_rest(rest_of(alloc, &cone, place, bound), out)
+}

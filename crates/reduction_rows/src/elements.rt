@@ -1,0 +1,184 @@
+ghost use Rattle.std.specs.Prelude.{◌≡◌, ◌<◌, ◌∷◌, [], ℕ, length, IfOk, OnOk};
+ghost use Rattle.std.specs.List.{All};
+ghost use Rattle.shuffle_insertions.specs.ShuffleTrees.{IsShuffle};
+ghost use Rattle.tree_store.specs.Stores.{tree_at, HasLabel, IsStore};
+ghost use Rattle.division.specs.Dividers.{HaveRoom};
+ghost use Rattle.division.specs.Gathered.{IsWorking};
+ghost use Rattle.division.specs.Insertions.{IsReducer};
+
+use crate::stores::{ids_of, write_trees};
+use division::{Reducer, divides_root, insert_at_root, step};
+use rows::{RowFail, end_line};
+use sqlite_items::Items;
+use std::alloc::{AllocError, Global};
+use tree_store::{Store, TreeId};
+
+/// Room for the parts of a tree at a divisor.
+pub const ROOM: usize = 16;
+
+// Stops where the leaves of the tree aren't 1 to `arity`.
+fn check_tree(alloc: Global, store: &Store, id: TreeId, arity: u8) -> Result<(), RowFail>
+    requires held { id < length store.now }
+    ensures shuffle { OnOk result (IsShuffle arity (tree_at store.now id)) }
+{
+    let tree = store.tree_of(alloc, id)?;
+    let Some(leaves) = tree.arity() else {
+        return Err(RowFail::Refused);
+    };
+    if leaves != arity {
+        return Err(RowFail::Refused);
+    }
+    Ok(())
+}
+
+// The same for each tree.
+fn check_trees(alloc: Global, store: &Store, ids: &[TreeId], arity: u8) -> Result<(), RowFail>
+    requires held { All (λ id. id < length store.now) ids.now }
+    ensures shuffle { OnOk result (All (λ id. IsShuffle arity (tree_at store.now id)) ids.now) }
+{
+    for id in ids {
+        check_tree(alloc, store, *id, arity)?;
+    }
+    Ok(())
+}
+
+// The element of these trees, the first of which leads and has label 0 at its root.
+fn element_of(alloc: Global, store: &Store, ids: &[TreeId]) -> Result<Reducer, RowFail>
+    requires held { All (λ id. id < length store.now) ids.now }
+    ensures reducer { IfOk result (IsReducer store.now) }
+    ensures label { IfOk result (λ r. HasLabel 0 (tree_at store.now r.lead)) }
+    ensures few { IfOk result (λ r. r.arity < 16) }
+    ensures store { OnOk result (IsStore store.now) }
+{
+    let [lead, tail @ ..] = ids else {
+        return Err(RowFail::Refused);
+    };
+    let _view = store.node(*lead);
+    let arity = store.leaves(*lead);
+    if arity as usize >= ROOM {
+        return Err(RowFail::Refused);
+    }
+    if store.label_of(*lead) != Some(0) {
+        return Err(RowFail::Refused);
+    }
+    check_trees(alloc, store, ids, arity)?;
+    let tail = Items::from_slice(alloc, tail)?;
+    Ok(Reducer {
+        arity,
+        lead: *lead,
+        tail,
+    })
+}
+
+/// One element, in the group of label 0.
+#[derive(Drop)]
+pub struct LoneElement {
+    /// The element.
+    pub reducers: Items<Reducer>,
+    /// The group.
+    pub groups: Items<Items<u32>>,
+}
+
+// The group of label 0, with the element 0.
+fn one_group(alloc: Global) -> Result<Items<Items<u32>>, AllocError>
+    ensures group { IfOk result (λ groups. groups ≡ (0 ∷ []) ∷ []) }
+{
+    let group = Items::from_slice(alloc, &[0])?;
+    let mut groups = Items::new(alloc);
+    groups.push(group)?;
+    Ok(groups)
+}
+
+/// The element of these trees, as `element_of` has it.
+pub fn lone_element(alloc: Global, store: &Store, ids: &[TreeId]) -> Result<LoneElement, RowFail>
+    requires held { All (λ id. id < length store.now) ids.now }
+    ensures working { IfOk result (λ made. IsWorking store.now made.reducers made.groups [] []) }
+    ensures room { IfOk result (λ made. HaveRoom made.reducers 16) }
+{
+    let reducer = element_of(alloc, store, ids)?;
+    let mut reducers = Items::new(alloc);
+    reducers.push(reducer)?;
+    Ok(LoneElement {
+        reducers,
+        groups: one_group(alloc)?,
+    })
+}
+
+// Writes the trees of an insertion at the root, or `none` where the element doesn't divide the tree there.
+fn write_inserted(
+    alloc: Global,
+    store: &mut Store,
+    reducer: &Reducer,
+    host: TreeId,
+    out: &mut Vec<u8>,
+) -> Result<(), RowFail>
+    requires reducer { IsReducer store.old reducer.now }
+    requires few { reducer.now.arity < 16 }
+    requires host { host < length store.old }
+    requires store { IsStore store.old }
+{
+    let mut parts = vec![in alloc; TreeId::numbered(0); ROOM]?;
+    if !divides_root(
+        store,
+        reducer.lead,
+        reducer.arity,
+        host,
+        parts.as_mut_slice(),
+    ) {
+        return Ok(end_line("none", out)?);
+    }
+    let mut made = Items::new(alloc);
+    insert_at_root(store, alloc, reducer, host, parts.as_mut_slice(), &mut made)?;
+    write_trees(alloc, store, made.as_slice(), out)
+}
+
+/// Inserts an element, whose trees stand behind the host, at the root of that: what becomes of the trees of its tail.
+pub fn inserted(alloc: Global, words: &[String], out: &mut Vec<u8>) -> Result<(), RowFail> {
+    let mut store = Store::new(alloc);
+    let ids = ids_of(alloc, &mut store, words)?;
+    let [host, trees @ ..] = ids.as_slice() else {
+        return Err(RowFail::Refused);
+    };
+    let reducer = element_of(alloc, &store, trees)?;
+    write_inserted(alloc, &mut store, &reducer, *host, out)
+}
+
+// Writes the trees of the tail of a step.
+fn write_step(
+    alloc: Global,
+    store: &mut Store,
+    element: &LoneElement,
+    host: TreeId,
+    out: &mut Vec<u8>,
+) -> Result<(), RowFail>
+    requires working { IsWorking store.old element.now.reducers element.now.groups [] [] }
+    requires room { HaveRoom element.now.reducers 16 }
+    requires host { host < length store.old }
+{
+    let mut found = Items::new(alloc);
+    let mut kept = Items::new(alloc);
+    let mut parts = vec![in alloc; TreeId::numbered(0); ROOM]?;
+    let tail = step(
+        store,
+        alloc,
+        element.reducers.as_slice(),
+        element.groups.as_slice(),
+        &mut found,
+        &mut kept,
+        parts.as_mut_slice(),
+        host,
+    )?;
+    write_trees(alloc, store, tail.as_slice(), out)
+}
+
+/// The trees to which an element, whose trees stand behind the host, leads from that, at the place that is taken: none where it
+/// divides no place.
+pub fn stepped(alloc: Global, words: &[String], out: &mut Vec<u8>) -> Result<(), RowFail> {
+    let mut store = Store::new(alloc);
+    let ids = ids_of(alloc, &mut store, words)?;
+    let [host, trees @ ..] = ids.as_slice() else {
+        return Err(RowFail::Refused);
+    };
+    let element = lone_element(alloc, &store, trees)?;
+    write_step(alloc, &mut store, &element, *host, out)
+}

@@ -1,0 +1,71 @@
+ghost use Rattle.std.specs.Prelude.{◌≤◌, ℕ, IsTrue};
+ghost use Rattle.shuffle_insertions.specs.ShuffleTrees.{IsShuffleTree};
+ghost use Rattle.shuffle_trees.specs.LabelLists.{arity_in};
+
+use crate::sums::{MOST_LEAVES, is_over};
+use presentation_text::{Document, write_number};
+use rows::{RowFail, end_line, shuffle_of, write_line, write_next, write_text};
+use shuffle_passage::labels_of;
+use shuffle_sums::Shelf;
+use shuffle_trees::{Key, Labels, STree};
+use std::alloc::Global;
+
+// Whether the tree is one over the labels, with at most nine leaves.
+fn is_welcome(labels: &Labels, tree: &STree) -> bool
+    ensures { IsTrue result → (n : ℕ) × (n ≤ 9) × IsShuffleTree (arity_in labels.now) n tree.now }
+{
+    match tree.arity() {
+        Some(arity) => arity <= MOST_LEAVES && is_over(labels, arity, tree),
+        None => false,
+    }
+}
+
+// The words of the leaves of a key, each in a line, and its leaf row.
+fn write_key(key: &Key, out: &mut Vec<u8>) -> Result<(), RowFail> {
+    for word in key.words() {
+        write_text("word", out)?;
+        for letter in word.as_slice() {
+            write_next(u64::from(*letter), out)?;
+        }
+        end_line("", out)?;
+    }
+    write_text("row ", out)?;
+    Ok(write_line(key.row(), out)?)
+}
+
+// Shelves the tree twice: both ids, and the key.
+fn write_shelved(
+    alloc: Global,
+    labels: &Labels,
+    tree: &STree,
+    out: &mut Vec<u8>,
+) -> Result<(), RowFail> {
+    if !is_welcome(labels, tree) {
+        return Err(RowFail::Refused);
+    }
+    let mut shelf = Shelf::new(alloc, labels, MOST_LEAVES)?;
+    let first = shelf.shelve(alloc, tree)?;
+    let again = shelf.shelve(alloc, tree)?;
+    write_number(first.index() as u64, out)?;
+    write_next(again.index() as u64, out)?;
+    end_line("", out)?;
+    match shelf.key(again) {
+        Some(key) => write_key(key, out),
+        None => Err(RowFail::Refused),
+    }
+}
+
+/// Shelves the tree twice: its id, and its id again, and then its key.
+pub fn shelve(
+    alloc: Global,
+    document: &Document,
+    words: &[String],
+    out: &mut Vec<u8>,
+) -> Result<(), RowFail> {
+    let [word] = words else {
+        return Err(RowFail::Refused);
+    };
+    let labels = labels_of(alloc, &document.gens)?;
+    let tree = shuffle_of(alloc, word)?;
+    write_shelved(alloc, &labels, &tree, out)
+}
