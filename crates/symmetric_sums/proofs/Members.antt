@@ -1,9 +1,9 @@
 -- Instances of relations, of symmetry rules and of members are members.
-use Rattle.std.proofs.Common.{◌≡◌, ℕ, zero, suc, ◌-◌, ◌<◌, List, [], ◌∷◌, map, refl, ap, sym, ◌∙◌, subst, arith, inl, inr}
+use Rattle.std.proofs.Common.{◌≡◌, ℕ, zero, suc, ◌<◌, List, [], ◌∷◌, map, refl, ap, sym, ◌∙◌, subst, arith, inl, inr}
 use Rattle.std.specs.List.{All, AllByRecursion}
 use Rattle.std.proofs.lemmas.List.Elements.{recursion_from_All}
 use Rattle.modular_sums.specs.Lists.{Mem}
-use Rattle.modular_sums.specs.Sums.{coef, scale, moved, AllTerms}
+use Rattle.modular_sums.specs.Sums.{scale, moved, AllTerms}
 use Rattle.modular_sums.proofs.Images.{moved_ext}
 use Rattle.labelled_trees.specs.Trees.{Tree, graft}
 use Rattle.labelled_trees.specs.Contexts.{fill}
@@ -12,9 +12,7 @@ use Rattle.labelled_trees.specs.Leaves.{occurs}
 use Rattle.labelled_trees.specs.Meaning.{tree_of}
 use Rattle.labelled_trees.proofs.Holes.{hole_at}
 use Rattle.labelled_trees.proofs.Insertions.{put-fill}
-use Rattle.operad_ideals.specs.Laws.{arity}
 use Rattle.operad_ideals.specs.Presentations.{Relation, Presentation, IsSound}
-use Rattle.operad_ideals.specs.Rules.{Rule, symmetry}
 use Rattle.operad_ideals.specs.Ideals.{element, InIdeal}
 use Rattle.operad_ideals.specs.HoleInstances.{InHoleIdeal}
 use Rattle.operad_ideals.proofs.Ideals.{ideal_one, ideal-scale, ideal-same}
