@@ -24,7 +24,6 @@ use Rattle.shuffle_places.specs.Places.{IsPlace}
 use Rattle.shuffle_places.specs.AllPlaces.{places}
 use Rattle.shuffle_places.specs.Multiples.{IsMultiple}
 use Rattle.shuffle_places.specs.AllMultiples.{multiples}
-use Rattle.shuffle_places.specs.Overlays.{shape_discrete, one_unit}
 use Rattle.shuffle_places.proofs.Laws.{places_listed, multiples_listed}
 use Rattle.shuffle_places.proofs.Examples.{top_two, lower_two, multiples_of_t1, comb_multiple}
 use Rattle.operad_ideals.specs.Presentations.{Relation, arity_of, IsProper}

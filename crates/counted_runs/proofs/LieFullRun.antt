@@ -9,13 +9,12 @@ use Rattle.modular_sums.specs.Sums.{coef, AllTerms}
 use Rattle.modular_sums.proofs.Coefficients.{coef_nothing}
 use Rattle.modular_sums.proofs.Images.{AllTerms-imp}
 use Rattle.labelled_trees.specs.Trees.{Tree}
-use Rattle.labelled_trees.specs.Equality.{same_leaf, same_node, same_more, tree_discrete_by, row_discrete_by, tree_discrete}
+use Rattle.labelled_trees.specs.Equality.{tree_discrete}
 use Rattle.shuffle_insertions.specs.ShuffleTrees.{IsShuffleTree}
 use Rattle.shuffle_insertions.proofs.Examples.{t1, t2, t3, comb}
 use Rattle.shuffle_places.specs.Multiples.{IsMultiple}
 use Rattle.shuffle_places.specs.AllMultiples.{multiples}
 use Rattle.shuffle_places.proofs.Laws.{multiples_listed}
-use Rattle.shuffle_places.specs.Overlays.{one_unit, shape_discrete}
 use Rattle.shuffle_places.proofs.Examples.{top_two, lower_two, multiples_of_t1, comb_multiple}
 use Rattle.shuffle_bases.specs.Elements.{Element, IsLess, s_element}
 use Rattle.shuffle_bases.proofs.Examples.{jacobi}

@@ -10,7 +10,7 @@ use Rattle.shuffle_places.specs.Cuts.{numbers}
 use Rattle.shuffle_places.specs.Places.{divisor_of}
 use Rattle.shuffle_places.specs.AllPlaces.{lay, with_divisor, places, places_row}
 use Rattle.shuffle_bases.specs.Elements.{Element, Setting}
-use Rattle.shuffle_normal_forms.specs.FreeTrees.{is_empty, has_no_place, free_trees}
+use Rattle.shuffle_normal_forms.specs.FreeTrees.{is_empty, has_no_place}
 use Rattle.shuffle_normal_forms.specs.FreeTreeLists.{undivided, free_on, FreeTreesByInputs}
 use Rattle.shuffle_normal_forms.proofs.Filters.{filter-append, filter-ext, filter-both, filter-map, filter-below, below-ext, each_passes, filter-rows, rows-ext}
 use Rattle.modular_sums.specs.Lists.{choose}

@@ -1,18 +1,15 @@
 -- A tree is free exactly where its inputs are, and no leading tree divides it at the root.
-use Rattle.std.proofs.Common.{ℕ, sym, arith, subst, inl, inr, ◌⊎◌}
+use Rattle.std.proofs.Common.{ℕ, sym, subst, inl, inr, ◌⊎◌}
 use Rattle.modular_sums.specs.Lists.{Mem}
 use Rattle.labelled_trees.specs.Trees.{Tree, Row, node, inputs}
-use Rattle.labelled_trees.proofs.Rows.{sum_leaves-le_row}
-use native.Mathlib.Decide.{ℕ_discrete}
-use Rattle.labelled_trees.specs.Leaves.{one_if}
 use Rattle.shuffle_places.specs.Cuts.{numbers}
 use Rattle.shuffle_places.specs.Places.{IsPlace}
 use Rattle.shuffle_bases.specs.Elements.{Element, Setting, AreMonic}
 use Rattle.shuffle_normal_forms.specs.FreeTrees.{IsFree}
 use Rattle.shuffle_places.specs.RootPlaces.{IsShuffleAmong, DividesRoot, IsInInput, count_before, shifted}
 use Rattle.shuffle_normal_forms.specs.FreeTreesSplit.{FreeTreesSplit}
-use Rattle.shuffle_places.proofs.RootPlaces.{root_place, root_in, root_insert, root_parts, one_parts}
-use Rattle.shuffle_places.proofs.InputPlaces.{place_in_input, insert_in_input, split_place, leaf_no_place, standing, stands_there}
+use Rattle.shuffle_places.proofs.RootPlaces.{root_place, root_parts}
+use Rattle.shuffle_places.proofs.InputPlaces.{place_in_input, split_place, leaf_no_place, standing, stands_there}
 
 module _ (n : ℕ) (s : Setting) (monic : AreMonic s) (l : ℕ) (r : Row ℕ) (h : IsShuffleAmong n (node l r)) where
   input_free : IsFree s (node l r) → (t : Tree ℕ) → Mem t (inputs r) → IsFree s t

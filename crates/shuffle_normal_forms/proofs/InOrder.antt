@@ -1,11 +1,11 @@
 -- Rising numbers as the values of a map that keeps the order.
-use Rattle.std.proofs.Common.{◌≡◌, ℕ, zero, suc, ◌+◌, ◌<◌, ◌≤◌, List, [], ◌∷◌, length, map, refl, sym, ◌∙◌, ap, arith, inl, inr}
+use Rattle.std.proofs.Common.{◌≡◌, ℕ, zero, suc, ◌+◌, ◌<◌, List, [], ◌∷◌, length, map, refl, sym, ◌∙◌, ap, arith, inl}
 use mathlib.Core.List.{◌++◌}
 use mathlib.Core.Path.{ap₂}
 use native.Mathlib.Decide.{dec_lt}
-use Rattle.modular_sums.specs.Lists.{Mem, Rises}
+use Rattle.modular_sums.specs.Lists.{Rises}
 use Rattle.shuffle_insertions.specs.Listing.{upto}
-use Rattle.shuffle_normal_forms.specs.FreeTreeLists.{KeepsOrder, NumbersInOrder}
+use Rattle.shuffle_normal_forms.specs.FreeTreeLists.{NumbersInOrder}
 
 -- a, the numbers of the list, and then those that come next
 abbrev counted : ℕ → List ℕ → ℕ → ℕ

@@ -1,10 +1,10 @@
 -- More levels than there are numbers give no more free trees.
-use Rattle.std.proofs.Common.{◌≡◌, ℕ, zero, suc, ◌+◌, ◌<◌, ◌≤◌, List, [], ◌∷◌, length, map, refl, sym, ◌∙◌, ap, arith, subst}
+use Rattle.std.proofs.Common.{◌≡◌, ℕ, zero, suc, ◌+◌, ◌<◌, ◌≤◌, List, [], ◌∷◌, length, map, refl, sym, ◌∙◌, ap, arith}
 use mathlib.Core.List.{◌++◌}
 use mathlib.Core.Path.{ap₂}
 use native.Mathlib.Decide.{dec_lt}
 use Rattle.std.specs.List.{filter}
-use Rattle.labelled_trees.specs.Trees.{Tree, Row, node}
+use Rattle.labelled_trees.specs.Trees.{Tree, node}
 use Rattle.shuffle_insertions.specs.Labels.{AreLabels}
 use Rattle.shuffle_insertions.specs.Listing.{joined_below, joined_splits, each_with_each, rows, lone}
 use Rattle.shuffle_bases.specs.Elements.{Setting}

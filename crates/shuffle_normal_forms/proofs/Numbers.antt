@@ -1,5 +1,5 @@
 -- The free trees on other numbers.
-use Rattle.std.proofs.Common.{◌≡◌, ℕ, zero, suc, ◌+◌, ◌<◌, ◌≤◌, List, [], ◌∷◌, Bool, true, false, cond, map, refl, sym, ◌∙◌, ap, arith, ◌⊎◌, inl, inr}
+use Rattle.std.proofs.Common.{◌≡◌, ℕ, zero, suc, ◌+◌, ◌<◌, List, [], ◌∷◌, false, cond, map, refl, sym, ◌∙◌, ap, arith}
 use mathlib.Core.List.{◌++◌}
 use mathlib.Core.Path.{ap₂}
 use native.Mathlib.Decide.{ℕ_discrete, dec_lt}
@@ -17,7 +17,7 @@ use Rattle.shuffle_places.specs.AllPlaces.{lay, lay_row, with_divisor}
 use Rattle.shuffle_bases.specs.Elements.{Element, Setting}
 use Rattle.shuffle_normal_forms.specs.FreeTrees.{is_empty, has_no_place}
 use Rattle.shuffle_normal_forms.specs.FreeTreeLists.{undivided, free_on, KeepsOrder, FreeTreesOnNumbers, RenamedAreFree}
-use Rattle.shuffle_normal_forms.proofs.Filters.{each_passes, filter-ext, filter-map, below-ext, splits-ext, rows-ext}
+use Rattle.shuffle_normal_forms.proofs.Filters.{each_passes, filter-ext, filter-map, below-ext, splits-ext}
 use Rattle.shuffle_normal_forms.proofs.ByInputs.{empty_joined, empty_where, free_by_inputs, leaf_free}
 use Rattle.modular_sums.specs.Lists.{choose}
 use Rattle.labelled_trees.proofs.Grafts.{graft_assoc}

@@ -1,9 +1,9 @@
 -- The test at the root, and places with the root.
-use Rattle.std.proofs.Common.{◌≡◌, ℕ, zero, suc, ◌+◌, ◌<◌, ◌≤◌, List, [], ◌∷◌, Bool, true, false, cond, map, refl, sym, ◌∙◌, ap, arith, subst, ◌⊎◌, inl, inr}
+use Rattle.std.proofs.Common.{◌≡◌, ℕ, suc, ◌+◌, ◌≤◌, List, [], ◌∷◌, true, false, cond, map, refl, sym, ◌∙◌, ap, arith, subst, ◌⊎◌, inl, inr}
 use mathlib.Core.List.{◌++◌}
 use native.Mathlib.Decide.{ℕ_discrete}
 use Rattle.modular_sums.specs.Lists.{Mem, choose}
-use Rattle.modular_sums.proofs.Lists.{mem_left, mem_right, mem_either, mem_of_map, both_true}
+use Rattle.modular_sums.proofs.Lists.{mem_left, mem_either, mem_of_map, both_true}
 use Rattle.labelled_trees.specs.Trees.{Tree, Row, leaf, node, none, more, graft, vertices, IsNode}
 use Rattle.labelled_trees.specs.Equality.{tree_discrete}
 use Rattle.shuffle_places.specs.Cuts.{numbers, numbers_row}

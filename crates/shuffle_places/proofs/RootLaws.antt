@@ -1,16 +1,12 @@
 -- The laws of places at the root and in inputs, proved.
-use Rattle.std.proofs.Common.{ℕ, sym, arith, subst, inl, inr, ◌⊎◌}
-use Rattle.modular_sums.specs.Lists.{Mem}
-use Rattle.labelled_trees.specs.Trees.{Tree, Row, node, inputs}
+use Rattle.std.proofs.Common.{arith}
 use Rattle.labelled_trees.proofs.Rows.{sum_leaves-le_row}
 use native.Mathlib.Decide.{ℕ_discrete}
 use Rattle.labelled_trees.specs.Leaves.{one_if}
 use Rattle.shuffle_places.specs.Cuts.{numbers}
-use Rattle.shuffle_places.specs.Places.{IsPlace}
-use Rattle.shuffle_places.specs.RootPlaces.{IsShuffleAmong, DividesRoot, IsInInput, count_before, shifted}
 use Rattle.shuffle_places.specs.RootLaws.{RootPlaces, InputPlaces, DivisorsSplit}
 use Rattle.shuffle_places.proofs.RootPlaces.{root_place, root_in, root_insert, root_parts, one_parts}
-use Rattle.shuffle_places.proofs.InputPlaces.{place_in_input, insert_in_input, split_place, leaf_no_place, standing, stands_there}
+use Rattle.shuffle_places.proofs.InputPlaces.{place_in_input, insert_in_input, split_place, leaf_no_place}
 
 pub roots : RootPlaces
 roots n k host d h hd is_node = (

@@ -2,7 +2,7 @@
 use Rattle.std.specs.Prelude.{ℕ, ◌≡◌, ◌<◌, ◌≤◌, List, ◌∷◌, ◌++◌}
 use Rattle.std.proofs.Common.{◌⊎◌}
 use Rattle.modular_sums.specs.Lists.{Mem}
-use Rattle.labelled_trees.specs.Trees.{Tree, Row, leaf, node, row, graft, inputs, IsNode}
+use Rattle.labelled_trees.specs.Trees.{Tree, Row, leaf, node, row, graft, IsNode}
 use Rattle.labelled_trees.specs.Leaves.{occurs}
 use Rattle.shuffle_insertions.specs.ShuffleTrees.{IsShuffle}
 use Rattle.shuffle_insertions.specs.Frames.{insert}

@@ -15,7 +15,7 @@ use Rattle.labelled_trees.specs.Leaves.{one_if, sum_leaves, AllLeaves, occurs}
 use Rattle.labelled_trees.specs.Equality.{tree_discrete}
 use Rattle.labelled_trees.specs.Labelled.{Fits, IsLabelled}
 use Rattle.labelled_trees.proofs.Grafts.{graft_assoc}
-use Rattle.labelled_trees.proofs.Leaves.{by_leaf, at_leaf, AllLeaves-imp, AllLeaves-each, occurs_self, sum_leaves-all_zero}
+use Rattle.labelled_trees.proofs.Leaves.{by_leaf, at_leaf, AllLeaves-imp, occurs_self, sum_leaves-all_zero}
 use Rattle.labelled_trees.proofs.ContextLeaves.{adds}
 use Rattle.labelled_trees.proofs.Numbered.{numbered_of_labelled, labelled_once, numbered_sums}
 use Rattle.labelled_trees.proofs.GraftLeaves.{graft_ext, AllLeaves-graft, AllLeaves_of_graft, sum_leaves-graft}

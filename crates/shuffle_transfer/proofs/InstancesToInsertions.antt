@@ -12,10 +12,10 @@ use Rattle.labelled_trees.specs.Contexts.{Ctx, fill}
 use Rattle.labelled_trees.specs.Leaves.{one_if, sum_leaves, occurs}
 use Rattle.labelled_trees.specs.Equality.{tree_discrete}
 use Rattle.labelled_trees.specs.Labelled.{Fits, IsLabelled}
-use Rattle.labelled_trees.proofs.Leaves.{by_leaf, AllLeaves-each}
+use Rattle.labelled_trees.proofs.Leaves.{by_leaf}
 use Rattle.labelled_trees.proofs.GraftLeaves.{graft_ext, sum_leaves-graft}
 use Rattle.labelled_trees.proofs.ContextLeaves.{sum_of_fill, once_inside}
-use Rattle.labelled_trees.proofs.Fitting.{fits_of_fill, fits-graft, fits-renamed}
+use Rattle.labelled_trees.proofs.Fitting.{fits_of_fill, fits-renamed}
 use Rattle.shuffle_insertions.specs.ShuffleTrees.{least, IsShuffleTree}
 use Rattle.shuffle_insertions.specs.Slots.{Slot, fill_slot, PartsRise}
 use Rattle.labelled_trees.proofs.Numbered.{numbered_of_labelled, numbered_sums}

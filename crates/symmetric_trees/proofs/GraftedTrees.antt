@@ -1,9 +1,9 @@
 -- Grafts of the program's trees.
 use Rattle.std.proofs.Common.{◌≡◌, ℕ, zero, suc, ◌+◌, ◌<◌, ◌≤◌, List, [], ◌∷◌, length, map, get_or, refl, ap, sym, ◌∙◌, subst, arith}
-use Rattle.std.specs.List.{All, AllByRecursion}
+use Rattle.std.specs.List.{All}
 use Rattle.std.proofs.lemmas.List.Elements.{All-from_recursion}
-use Rattle.labelled_trees.specs.Leaves.{AllLeaves, AllRow}
-use Rattle.labelled_trees.specs.Trees.{Tree, node, more, row, graft, graft_row}
+use Rattle.labelled_trees.specs.Leaves.{AllLeaves}
+use Rattle.labelled_trees.specs.Trees.{Tree, node, row, graft}
 use Rattle.labelled_trees.specs.Insertions.{item}
 use Rattle.labelled_trees.specs.Meaning.{tree_of}
 use Rattle.labelled_trees.specs.declared.Tree as program
