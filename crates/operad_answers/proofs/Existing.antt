@@ -85,7 +85,7 @@ module _ (o : OrderedPresentation) (well_formed : IsWellFormed o) where
   basis_part n two =
       let l = minimal_trees (presentation o) field (comparison o) (order_in o) n two in
       let listing = in_order (IsMinimal (presentation o) (comparison o) n) l.0 l.1 in
-      let r = rules_of n (sorted l.0) (λ t m. ((listing.all t).0 m).labelled) in (
+      let r = rules_of n (sorted l.0) (λ t m. ((listing.all t).0 m).leads.leads.labelled) in (
         part_text n (rule_text o) r.rules,
         record {
           rules = r.rules;

@@ -117,7 +117,7 @@ plain_is = ap (λ w. made w (terms_of element) (tree_of (Leaf 0)) (map tree_of (
 -- ---- it may be written
 
 pub label_one : IsLabelled generators 3 t1
-label_one = (((rules_three.0).all t1).0 (inl refl)).labelled
+label_one = (((rules_three.0).all t1).0 (inl refl)).leads.leads.labelled
 
 pub label_two : IsLabelled generators 3 t2
 label_two = ((three_are.all t2).0 (inr (inl refl))).labelled
@@ -194,7 +194,7 @@ valid = record {
 
 pub step_reduced : IsReduced 101 (parts_at generators) step_sum
 step_reduced = record {
-  sorted = All-from_recursion (λ x. IsSorted (parts lie) x.1) step_sum (((three_are.all t3).0 (inl refl)).sorted, ((((rules_three.0).all t1).0 (inl refl)).sorted, (((three_are.all t2).0 (inr (inl refl))).sorted, tt)));
+  sorted = All-from_recursion (λ x. IsSorted (parts lie) x.1) step_sum (((three_are.all t3).0 (inl refl)).sorted, ((((rules_three.0).all t1).0 (inl refl)).leads.leads.sorted, (((three_are.all t2).0 (inr (inl refl))).sorted, tt)));
   ascending = AllPairs-from_pairs (λ x y. tree_order x.1 y.1 ≡ Less) step_sum ((refl, (refl, tt)), ((refl, tt), (tt, tt)));
   residues = All-from_recursion (λ x. (0 < x.0) × (x.0 < 101)) step_sum ((omega arith, omega arith), ((omega arith, omega arith), ((omega arith, omega arith), tt)));
 }
