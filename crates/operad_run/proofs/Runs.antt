@@ -2,7 +2,7 @@
 use Rattle.std.proofs.Common.{◌≡◌, ℕ, ◌+◌, ◌≤◌, ⊎_elim, List, ◌++◌, length, Option, Some, None, ap, sym, ◌∙◌, subst, arith, length-append, append-nil}
 use Rattle.std.specs.Io.KnownBytes.{Consumes, IsAtEnd}
 use Rattle.presentation_text.specs.declared.presentations.TheConstants.{MOST_BYTES}
-use Rattle.operad_run.specs.Runs.{Outside, Came, CameTooMany, IsWrittenOut, WroteLess, Wrote, Ends}
+use Rattle.operad_run.specs.Runs.{Outside, Came, CameTooMany, IsWrittenOut, Wrote, Ends}
 use Rattle.operad_run.specs.declared.status.Status.{Status}
 use Rattle.operad_run.specs.declared.status.Status.TheVariants.{Done, Refused, Usage, Document, Limit, Budget, ReadFault, WriteFault, NoMemory}
 

@@ -12,12 +12,12 @@ returns-then-not-is_member g c = record {
 }
 
 pub returns-in-Err : goal.returns-in-Err
-returns-in-Err g c = record { run = unread_is_run c.in-Err.status (map string_bytes c.args.words.now) _ (c.if-not-is_member.ensures.0 refl) c.in-Err.ensures }
+returns-in-Err g c = record { run = unread_is_run c.in-Err.status (map string_bytes c.args.words.now) _ (c.if-not-is_member.ensures.0 refl) c.in-Err.ensures.read }
 
 pub returns-in-Ok-check_text : goal.returns-in-Ok-check_text
 returns-in-Ok-check_text g c =
-    let came = c.in-Ok.ensures.0 in
-    let unwritten = c.in-Ok.ensures.1 in
+    let came = c.in-Ok.ensures.read.0 in
+    let unwritten = c.in-Ok.ensures.read.1 in
     let contents = subst (λ bytes. CheckTells bytes c.in-Ok-check_text.status c.in-Ok-check_text.text.items) c.as_slice.ensures.value c.in-Ok-check_text.ensures.contents in
     let here = subst (CheckTells c.in-Ok.bytes.items c.in-Ok-check_text.status) (sym c.as_slice-in-Ok-check_text.ensures.value) contents in
     record {

@@ -9,12 +9,12 @@ pub returns-in_default : goal.returns-in_default
 returns-in_default g c = record { run = told_is_run Usage c.tell.result (map string_bytes c.args.words.now) _ _ (c.in_default.ensures.absent, (refl, refl), refl) c.tell.ensures.contents }
 
 pub returns-in-Err : goal.returns-in-Err
-returns-in-Err g c = record { run = unread_is_run c.in-Err.status (map string_bytes c.args.words.now) _ (c.in-Some.most, c.in-Some.ensures.found) c.in-Err.ensures }
+returns-in-Err g c = record { run = unread_is_run c.in-Err.status (map string_bytes c.args.words.now) _ (c.in-Some.most, c.in-Some.ensures.found) c.in-Err.ensures.read }
 
 pub returns-in-Ok-forms_text : goal.returns-in-Ok-forms_text
 returns-in-Ok-forms_text g c =
-    let came = c.in-Ok.ensures.0 in
-    let unwritten = c.in-Ok.ensures.1 in
+    let came = c.in-Ok.ensures.read.0 in
+    let unwritten = c.in-Ok.ensures.read.1 in
     let contents = subst (λ bytes. FormsTells bytes c.in-Some.most c.in-Ok-forms_text.status c.in-Ok-forms_text.text.items) c.as_slice.ensures.value c.in-Ok-forms_text.ensures.contents in
     let here = subst (FormsTells c.in-Ok.bytes.items c.in-Some.most c.in-Ok-forms_text.status) (sym c.as_slice-in-Ok-forms_text.ensures.value) contents in
     record {
