@@ -1,26 +1,17 @@
 -- The transfer theorem for what is answered.
-use Rattle.std.proofs.Common.{◌≡◌, ℕ, suc, ◌*◌, ◌-◌, ◌%◌, List, [], ◌∷◌, refl, sym, ap, ap₂, ◌∙◌, subst, arith}
-use Rattle.std.specs.List.{AllByRecursion}
+use Rattle.std.proofs.Common.{◌-◌, List, refl, sym, subst}
 use Rattle.std.proofs.lemmas.List.Elements.{recursion_from_All}
 use Rattle.modular_sums.proofs.Lists.{mem_of_map}
-use Rattle.modular_sums.specs.Sums.{Same, moved, AllTerms, coef}
+use Rattle.modular_sums.specs.Sums.{Same, AllTerms}
 use Rattle.modular_sums.proofs.Sums.{combination-same}
 use Rattle.modular_sums.proofs.Images.{Same-moved}
 use Rattle.modular_sums.proofs.Links.{member_one, member_through}
-use Rattle.labelled_trees.specs.Trees.{Tree}
 use Rattle.labelled_trees.specs.Equality.{tree_discrete}
-use Rattle.operad_ideals.specs.Spelling.{IsSorted}
-use Rattle.operad_ideals.specs.Sorting.{spelled_sign}
-use Rattle.operad_ideals.specs.SpelledSums.{spelled_sum}
-use Rattle.operad_ideals.specs.Presentations.{Relation, Presentation, residue_of, parts, arity_of, IsSound}
+use Rattle.operad_ideals.specs.Presentations.{Relation, Presentation, arity_of, IsSound}
 use Rattle.operad_ideals.proofs.SortedLists.{every_in}
-use Rattle.operad_ideals.proofs.Spellings.{sorted_spelling}
 use Rattle.shuffle_insertions.specs.Frames.{insert}
-use Rattle.shuffle_transfer.specs.Labels.{shuffle_form}
 use Rattle.shuffle_transfer.specs.Transfer.{relabelled, shuffled, RelationInsertion, inserted_relation}
-use Rattle.shuffle_transfer.proofs.ShuffleFormsFit.{spelling}
 use Rattle.shuffle_transfer.proofs.TransferLaw.{transfer_law, labelled-relabelled}
-use Rattle.operad_ideals.specs.Collected.{IsCollected}
 use Rattle.symmetric_sums.specs.Membership.{relation_of, presentation_of, IsElement}
 use Rattle.symmetric_sums.specs.Terms.{terms_of}
 use Rattle.symmetric_sums.specs.declared.term.Term.{Term}

@@ -3,7 +3,7 @@ use Rattle.std.proofs.Common.{◌≡◌, ℕ, suc, ◌+◌, ◌-◌, ◌*◌, �
 use mathlib.Core.List.{◌++◌}
 use Rattle.modular_sums.specs.Sums.{coef, scale, Same, AllTerms}
 use Rattle.modular_sums.proofs.Residues.{congruent_add, congruent_mul}
-use Rattle.modular_sums.proofs.Sums.{coef-append, coef-scale, coef-less}
+use Rattle.modular_sums.proofs.Sums.{coef-less}
 use Rattle.labelled_trees.specs.Trees.{Tree}
 use Rattle.labelled_trees.specs.Equality.{tree_discrete}
 use Rattle.labelled_trees.specs.Labelled.{IsLabelled}

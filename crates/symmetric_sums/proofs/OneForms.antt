@@ -5,7 +5,7 @@ use native.Mathlib.Decide.{ℕ_discrete}
 use Rattle.modular_sums.specs.Residues.{IsCongruent}
 use Rattle.modular_sums.specs.Sums.{coef, scale, moved, AllTerms}
 use Rattle.modular_sums.proofs.Residues.{congruent_add, congruent_mul, congruent_drop}
-use Rattle.modular_sums.proofs.Sums.{coef-append, coef-scale, expand-moved, coef-less}
+use Rattle.modular_sums.proofs.Sums.{coef-append, expand-moved, coef-less}
 use Rattle.labelled_trees.specs.Trees.{Tree, graft}
 use Rattle.labelled_trees.specs.Contexts.{fill}
 use Rattle.labelled_trees.specs.Leaves.{leaf_count}
