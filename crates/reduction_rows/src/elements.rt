@@ -58,7 +58,10 @@ fn element_of(alloc: Global, store: &Store, ids: &[TreeId]) -> Result<Reducer, R
     if arity as usize >= ROOM {
         return Err(RowFail::Refused);
     }
-    if store.label_of(*lead) != Some(0) {
+    let Some(label) = store.label_of(*lead) else {
+        return Err(RowFail::Refused);
+    };
+    if label != 0 {
         return Err(RowFail::Refused);
     }
     check_trees(alloc, store, ids, arity)?;

@@ -47,15 +47,20 @@ fn are_over(labels: &Labels, prime: u32, arity: u8, terms: &[(u32, STree)]) -> b
     true
 }
 
+// The arity of the first tree, if it has one; else 0.
+fn first_arity(terms: &[(u32, STree)]) -> u8 {
+    match terms {
+        [first, ..] => first.1.arity().unwrap_or(0),
+        [] => 0,
+    }
+}
+
 // Whether the numbers are residues, and the trees have one arity, at most nine.
 fn are_terms(labels: &Labels, prime: u32, terms: &[(u32, STree)]) -> bool
     ensures residues { IsTrue result → AllByRecursion (λ x. x.0 < prime) terms.now }
     ensures trees { IsTrue result → (n : ℕ) × (n ≤ 9) × AllTerms terms.now (IsShuffleTree (arity_in labels.now) n) }
 {
-    let arity = match terms {
-        [first, ..] => first.1.arity().unwrap_or(0),
-        [] => 0,
-    };
+    let arity = first_arity(terms);
     if arity > MOST_LEAVES {
         return false;
     }

@@ -1,4 +1,4 @@
-use Rattle.std.proofs.Common.{subst, [], ◌-◌}
+use Rattle.std.proofs.Common.{subst, ◌-◌}
 use Rattle.shuffle_sums.specs.Sorting.{compare_by}
 use Rattle.division.specs.Gathered.{CameFrom}
 use Rattle.reduction_rows.proofs.LoneElement.{nothing_given}
