@@ -13,7 +13,7 @@ ghost use Rattle.operad_run.specs.Laws.{AnswersAreDetermined};
 use crate::run::fault_text;
 use crate::status::Status;
 use presentation_text::{
-    Ask, AskKind, DocKind, Document, MOST_BYTES, MOST_LEAVES, ReadDocFail, read_document,
+    Ask, AskKind, DocKind, Document, GREATEST_ARITY, MOST_BYTES, ReadDocFail, read_document,
     write_number, write_sum,
 };
 use prime_field::Field;
@@ -126,7 +126,7 @@ fn wide_text(alloc: Global, line: u32) -> Result<Vec<u8>, AllocError>
 /// the queries; `Document` and the first line that is refused, or that of a tail, or 0 for a relation that has terms; or
 /// `Limit` and the first question of a greater arity. `AllocError` comes for want of memory alone.
 pub fn forms_text(alloc: Global, bytes: &[u8], most: u8) -> Result<(Status, Vec<u8>), AllocError>
-    requires few { most ≤ MOST_LEAVES }
+    requires few { most ≤ GREATEST_ARITY }
     requires short { length bytes.now ≤ MOST_BYTES }
     ensures contents { IfOk result (λ contents. spec.FormsTells bytes.now most contents.0 contents.1.items) }
 {

@@ -33,7 +33,7 @@ pub use terms::{
     elements_are_refused_rightly, printed_elements_are_read, refused_elements_begin,
 };
 pub use trees::{
-    MOST_LEAVES, refused_trees_begin, tree_at, trees_are_accepted, trees_are_read_once,
+    GREATEST_ARITY, refused_trees_begin, tree_at, trees_are_accepted, trees_are_read_once,
     trees_are_refused_rightly,
 };
 pub use writing::{

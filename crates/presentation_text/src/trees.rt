@@ -47,8 +47,8 @@ pub struct Inputs {
 // How many generators may stand one inside the other.
 const MOST_NESTED: u8 = 8;
 
-/// How many leaves a tree may have.
-pub const MOST_LEAVES: u8 = 9;
+/// The greatest arity of a tree: how many leaves it may have.
+pub const GREATEST_ARITY: u8 = 9;
 
 const GREATEST_LEAF: u64 = 99;
 
@@ -96,13 +96,13 @@ fn leaf(
 ) -> Result<usize, PartFail>
     requires within { at < length tokens.now }
     ensures read { (generators : List Generator) → spec.GivesInput generators tokens.now (spec.leaf_in inputs.old.seen number (drop (at + 1) tokens.now)) inputs.old inputs.new result }
-    ensures narrow { IfOk result (λ _. inputs.new.seen ≤ 9) }
+    ensures narrow { IfOk result (λ _. inputs.new.seen ≤ GREATEST_ARITY) }
     ensures further { IfOk result (λ end. at < end) }
 {
     if has_mark(tokens, at + 1, b'*') {
         return fail(at, DocKind::Syntax);
     }
-    if inputs.seen >= MOST_LEAVES {
+    if inputs.seen >= GREATEST_ARITY {
         return fail(at, DocKind::TooWide);
     }
     if number > GREATEST_LEAF {
@@ -125,9 +125,9 @@ fn tree_within(
     inputs: &mut Inputs,
 ) -> Result<usize, PartFail>
     requires within { at ≤ length tokens.now }
-    requires narrow { inputs.old.seen ≤ 9 }
+    requires narrow { inputs.old.seen ≤ GREATEST_ARITY }
     ensures read { spec.GivesInput table.now tokens.now (spec.tree_in table.now depth inputs.old.seen (drop at tokens.now)) inputs.old inputs.new result }
-    ensures narrow { IfOk result (λ _. inputs.new.seen ≤ 9) }
+    ensures narrow { IfOk result (λ _. inputs.new.seen ≤ GREATEST_ARITY) }
     ensures further { IfOk result (λ end. at < end) }
 {
     let Some(token) = token_at(tokens, at) else {
@@ -159,9 +159,9 @@ fn input_within(
     inputs: &mut Inputs,
 ) -> Result<usize, PartFail>
     requires within { at ≤ length tokens.now }
-    requires narrow { inputs.old.seen ≤ 9 }
+    requires narrow { inputs.old.seen ≤ GREATEST_ARITY }
     ensures read { spec.GivesInput table.now tokens.now (spec.input_in (spec.tree_in table.now depth) inputs.old.seen (drop at tokens.now)) inputs.old inputs.new result }
-    ensures narrow { IfOk result (λ _. inputs.new.seen ≤ 9) }
+    ensures narrow { IfOk result (λ _. inputs.new.seen ≤ GREATEST_ARITY) }
     ensures further { IfOk result (λ end. at < end) }
 {
     if has_mark(tokens, at, b')') {
@@ -182,10 +182,10 @@ fn vertex_within(
     above: &mut Inputs,
 ) -> Result<usize, PartFail>
     requires within { at ≤ length tokens.now }
-    requires narrow { above.old.seen ≤ 9 }
+    requires narrow { above.old.seen ≤ GREATEST_ARITY }
     requires held { generator < length table.now }
     ensures read { spec.GivesInput table.now tokens.now (spec.node_in table.now (Some (spec.tree_in table.now depth)) above.old.seen (Some generator) (drop at tokens.now)) above.old above.new result }
-    ensures narrow { IfOk result (λ _. above.new.seen ≤ 9) }
+    ensures narrow { IfOk result (λ _. above.new.seen ≤ GREATEST_ARITY) }
     ensures further { IfOk result (λ end. at < end) }
 {
     let arity = table.get(generator).arity;
@@ -213,7 +213,7 @@ fn any_tree_at(
 ) -> Result<TreeRead, PartFail>
     requires within { at ≤ length tokens.now }
     ensures read { spec.GivesTree tokens.now (spec.tree_in table.now 8 0 (drop at tokens.now)) result }
-    ensures narrow { IfOk result (λ found. found.leaves ≤ 9) }
+    ensures narrow { IfOk result (λ found. found.leaves ≤ GREATEST_ARITY) }
     ensures fits { IfOk result (λ found. Fits table.now (tree_of found.tree)) }
     ensures further { IfOk result (λ found. at < found.end) }
 {
@@ -266,7 +266,7 @@ pub(crate) fn demanded_tree_at(
 ) -> Result<TreeRead, PartFail>
     requires within { at ≤ length tokens.now }
     ensures read { spec.GivesTree tokens.now (spec.whole_tree_in table.now demands (drop at tokens.now)) result }
-    ensures narrow { IfOk result (λ found. found.leaves ≤ 9) }
+    ensures narrow { IfOk result (λ found. found.leaves ≤ GREATEST_ARITY) }
     ensures fits { IfOk result (λ found. Fits table.now (tree_of found.tree)) }
     ensures further { IfOk result (λ found. at < found.end) }
 {

@@ -2,8 +2,8 @@ ghost use Rattle.std.specs.Prelude.{◌≤◌, ℕ, IsTrue};
 ghost use Rattle.shuffle_insertions.specs.ShuffleTrees.{IsShuffleTree};
 ghost use Rattle.shuffle_trees.specs.LabelLists.{arity_in};
 
-use crate::sums::{MOST_LEAVES, is_over};
-use presentation_text::{Document, write_number};
+use crate::sums::is_over;
+use presentation_text::{Document, GREATEST_ARITY, write_number};
 use rows::{RowFail, end_line, shuffle_of, write_line, write_next, write_text};
 use shuffle_passage::labels_of;
 use shuffle_sums::Shelf;
@@ -15,7 +15,7 @@ fn is_welcome(labels: &Labels, tree: &STree) -> bool
     ensures { IsTrue result → (n : ℕ) × (n ≤ 9) × IsShuffleTree (arity_in labels.now) n tree.now }
 {
     match tree.arity() {
-        Some(arity) => arity <= MOST_LEAVES && is_over(labels, arity, tree),
+        Some(arity) => arity <= GREATEST_ARITY && is_over(labels, arity, tree),
         None => false,
     }
 }
@@ -43,7 +43,7 @@ fn write_shelved(
     if !is_welcome(labels, tree) {
         return Err(RowFail::Refused);
     }
-    let mut shelf = Shelf::new(alloc, labels, MOST_LEAVES)?;
+    let mut shelf = Shelf::new(alloc, labels, GREATEST_ARITY)?;
     let first = shelf.shelve(alloc, tree)?;
     let again = shelf.shelve(alloc, tree)?;
     write_number(first.index() as u64, out)?;

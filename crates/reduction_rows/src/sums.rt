@@ -8,16 +8,13 @@ ghost use Rattle.shuffle_sums.specs.Shelves.{IsShelf, KeepsShelf};
 ghost use Rattle.shuffle_sums.specs.Sums.{FallsBy, HaveKeys};
 
 use path_orders::{LeafPath, Path, PathShort, TreeOrder};
-use presentation_text::{Document, OrderName, write_number};
+use presentation_text::{Document, GREATEST_ARITY, OrderName, write_number};
 use rows::{RowFail, belongs, end_line, end_tree, number_of, shuffle_of};
 use shuffle_passage::labels_of;
 use shuffle_sums::{SSum, SSumFail, Setting, Shelf};
 use shuffle_trees::{Labels, STree};
 use sqlite_items::Items;
 use std::alloc::Global;
-
-/// The most leaves of a tree.
-pub const MOST_LEAVES: u8 = 9;
 
 /// Whether the tree is one over the labels with the leaves 1 to `arity`.
 pub fn is_over(labels: &Labels, arity: u8, tree: &STree) -> bool
@@ -61,7 +58,7 @@ fn are_terms(labels: &Labels, prime: u32, terms: &[(u32, STree)]) -> bool
     ensures trees { IsTrue result → (n : ℕ) × (n ≤ 9) × AllTerms terms.now (IsShuffleTree (arity_in labels.now) n) }
 {
     let arity = first_arity(terms);
-    if arity > MOST_LEAVES {
+    if arity > GREATEST_ARITY {
         return false;
     }
     are_over(labels, prime, arity, terms)
@@ -153,7 +150,7 @@ fn write_both<O: TreeOrder>(
     others: &[String],
     out: &mut Vec<u8>,
 ) -> Result<(), RowFail> {
-    let mut shelf = Shelf::new(alloc, setting.labels(), MOST_LEAVES)?;
+    let mut shelf = Shelf::new(alloc, setting.labels(), GREATEST_ARITY)?;
     let mut sum = sum_of(alloc, setting, &mut shelf, ones)?;
     let other = sum_of(alloc, setting, &mut shelf, others)?;
     let coef = setting.field().of_number(u64::from(factor));

@@ -7,7 +7,7 @@ ghost use Rattle.symmetric_trees.specs.Generators.{generators_of};
 
 use crate::arguments::element;
 use crate::fail::RowFail;
-use presentation_text::Document;
+use presentation_text::{Document, GREATEST_ARITY};
 use prime_field::Field;
 use shuffle_passage::to_shuffle;
 use shuffle_trees::STree;
@@ -15,9 +15,6 @@ use sqlite_items::Items;
 use std::alloc::Global;
 use symmetric_sums::Term;
 use symmetric_trees::{Sign, arity_of};
-
-/// The most leaves of a tree of an element.
-pub const MOST_LEAVES: u8 = 9;
 
 /// The terms of the element of the question at a place by the shuffle forms of their trees, each residue with the sign of its
 /// form; no residue is 0.
@@ -31,7 +28,7 @@ pub fn shuffle_terms(
 {
     let sum = element(document, at)?;
     let arity = sum.arity().unwrap_or(0);
-    if arity > MOST_LEAVES {
+    if arity > GREATEST_ARITY {
         return Err(RowFail::Refused);
     }
     let mut terms = Items::new(alloc);

@@ -16,11 +16,9 @@ mod running;
 mod spelling;
 mod splitting;
 
-pub use arguments::{
-    document_of, element, form, numbers_of, shuffle_tree, tree, vertices_of,
-};
+pub use arguments::{document_of, element, form, numbers_of, shuffle_tree, tree, vertices_of};
 pub use belonging::belongs;
-pub use elements::{MOST_LEAVES, shuffle_terms};
+pub use elements::shuffle_terms;
 pub use fail::RowFail;
 pub use lines::{end_found, end_line, end_number, end_terms, end_tree, write_before, write_text};
 pub use printing::{write_line, write_next, write_plain};
