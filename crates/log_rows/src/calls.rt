@@ -7,6 +7,7 @@ use rows::{Program, RowFail, document_of, numbers_of};
 use std::alloc::Global;
 
 /// The calls of this program. It has no rows but calls.
+#[derive(Drop)]
 pub struct LogCalls {}
 
 // Calls what the name says, where numbers are its arguments.

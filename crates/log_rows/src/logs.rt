@@ -3,7 +3,7 @@ ghost use Rattle.std.specs.List.{All};
 ghost use Rattle.symmetric_trees.specs.declared.generators.Generator.{Generator};
 ghost use Rattle.symmetric_sums.specs.declared.term.Term.{Term};
 ghost use Rattle.symmetric_sums.specs.Terms.{FitsOver};
-ghost use Rattle.cofactor_log.specs.Entries.{IsKept};
+ghost use Rattle.cofactor_log.specs.Entries.{KeepsRule};
 
 use cofactor_log::{Entry, Log};
 use identity_queries::block_of;
@@ -25,7 +25,7 @@ pub fn log_of(alloc: Global, document: &Document) -> Result<Log, RowFail>
 
 // The entry of the element 0, which uses nothing: it keeps the rule over any log.
 fn zero(alloc: Global) -> Entry
-    ensures kept { (p : ℕ) (generators : List Generator) (rels earlier : List (List Term)) → IsKept p generators rels earlier result }
+    ensures kept { (p : ℕ) (generators : List Generator) (rels earlier : List (List Term)) → KeepsRule p generators rels earlier result }
 {
     Entry {
         element: Sum::new(alloc),

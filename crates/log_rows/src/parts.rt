@@ -1,6 +1,6 @@
 ghost use Rattle.std.specs.Prelude.{IfOk};
 ghost use Rattle.std.specs.List.{All};
-ghost use Rattle.normal_listing.specs.Parting.{IsBelow};
+ghost use Rattle.normal_listing.specs.Parting.{BothBelow};
 
 use normal_listing::{Part, part_with_last};
 use presentation_text::write_number;
@@ -9,7 +9,7 @@ use std::alloc::Global;
 
 // The part with these numbers, which are below the unit.
 fn part_below(unit: u16, own: u32, others: u32) -> Result<Part, RowFail>
-    ensures below { IfOk result (IsBelow unit) }
+    ensures below { IfOk result (BothBelow unit) }
 {
     let limit = u32::from(unit);
     if own >= limit || others >= limit {
@@ -23,7 +23,7 @@ fn part_below(unit: u16, own: u32, others: u32) -> Result<Part, RowFail>
 
 // The parts with these numbers, two for each.
 fn parts_below(alloc: Global, unit: u16, numbers: &[u32]) -> Result<Vec<Part>, RowFail>
-    ensures below { IfOk result (λ parts. All (IsBelow unit) parts.items) }
+    ensures below { IfOk result (λ parts. All (BothBelow unit) parts.items) }
 {
     let mut parts = Vec::new(alloc);
     let mut left = numbers;

@@ -26,11 +26,7 @@ fn word(table: &GenTable, tree: &Tree) -> Result<SpellingWord, RowFail>
 }
 
 // The words of trees.
-fn words_of(
-    alloc: Global,
-    table: &GenTable,
-    given: &[String],
-) -> Result<Vec<SpellingWord>, RowFail>
+fn words_of(alloc: Global, table: &GenTable, given: &[String]) -> Result<Vec<SpellingWord>, RowFail>
     ensures spell { IfOk result (λ words. All (SpellsTree table.now) words.items) }
 {
     let mut words = Vec::new(alloc);
