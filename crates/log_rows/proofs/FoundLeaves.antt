@@ -1,19 +1,22 @@
 -- What the listing asks of the tables of two leaves.
 use Rattle.std.proofs.Common.{◌≡◌, ◌<◌, ◌≤◌, ◌∷◌, [], ℕ, zero, suc, List, length, map, refl, ap, sym, subst, ◌∙◌, arith, inl, inr}
+use Rattle.std.specs.Prelude.{Option, Some, None, IfSome}
 use Rattle.std.specs.List.{All}
 use Rattle.std.proofs.lemmas.List.Elements.{All-from_recursion, All-head, All-tail}
-use Rattle.labelled_trees.specs.Trees.{Tree, leaf, node, row}
+use Rattle.labelled_trees.specs.Trees.{Tree, leaf, node, row, IsNode}
 use Rattle.modular_sums.specs.Lists.{Mem}
+use Rattle.shuffle_insertions.specs.ShuffleTrees.{IsShuffle}
 use Rattle.shuffle_places.specs.RootPlaces.{IsShuffleAmong}
 use Rattle.shuffle_trees.specs.ValidTrees.{IsValid}
 use Rattle.tree_store.specs.Stores.{tree_at, IsStore}
 use Rattle.tree_store.proofs.Counts.{held_valid}
 use Rattle.division.proofs.WholeTrees.{among_of_valid}
 use Rattle.normal_listing.specs.Choices.{choices, entry, ArePartsBelow}
-use Rattle.normal_listing.specs.Vertices.{generator_of, spelling, vertex, word_of, IsVertex}
+use Rattle.normal_listing.specs.Vertices.{generator_of, spelling, vertex, word_of, IsShuffleLead, IsVertex}
 use Rattle.normal_listing.specs.Walks.{AreTables, AreWordsOf}
 use Rattle.normal_listing.specs.declared.choosing.Tables.{Tables}
 use Rattle.normal_listing.specs.declared.labels.Label.{Label}
+use Rattle.normal_listing.specs.declared.labels.Lead.{Lead}
 use Rattle.normal_listing.specs.declared.parts.Part.{Part}
 use Rattle.log_rows.specs.declared.vertices.Corolla.{Corolla}
 use Rattle.log_rows.specs.TwoLeaves.{IsCorolla, both_labels, both_parts, each_of}
@@ -31,6 +34,16 @@ parts_below (suc (suc zero)) p m = absurd m
 parts_below (suc (suc (suc zero))) p (inl e) = subst (λ (q : Part). (q.own < 3) × (q.others < 3)) (sym e) (omega arith, omega arith)
 parts_below (suc (suc (suc zero))) p (inr m) = absurd m
 parts_below (suc (suc (suc (suc n)))) p m = absurd m
+
+-- a tree of the store with two leaves is a lead, where it is a shuffle tree
+pub is_lead : (trees : List (Tree ℕ)) (id : ℕ) (corolla : Corolla) → IsCorolla trees id corolla → id < length trees → (lead : Option Lead)
+    → IfSome lead (λ x. x.id ≡ id) → IfSome lead (λ x. IsShuffle x.arity (tree_at trees id)) → IfSome lead (IsShuffleLead trees)
+is_lead trees id corolla is within None e h = tt
+is_lead trees id corolla is within (Some x) e h = record {
+  held = subst (λ i. i < length trees) (sym e) within;
+  valid = subst (λ i. IsShuffle x.arity (tree_at trees i)) (sym e) h;
+  vertex = subst (λ i. IsNode (tree_at trees i)) (sym e) (subst (λ (t : Tree ℕ). IsNode t) (sym is.is) tt);
+}
 
 pub sizes : (generator : ℕ) → generator < 22 → (l : ℕ) → l < 2 → (1 < length (word_of (both_labels generator) l)) × (generator_of (both_labels generator) l < 22)
 sizes generator h zero b = (omega arith, h)

@@ -1,6 +1,7 @@
 ghost use Rattle.std.specs.Prelude.{◌≡◌, ◌<◌, ◌∷◌, [], ℕ, List, IfOk, IfSome, length};
 ghost use Rattle.std.specs.List.{All};
 ghost use Rattle.labelled_trees.specs.Trees.{Tree, leaf};
+ghost use Rattle.shuffle_insertions.specs.ShuffleTrees.{IsShuffle};
 ghost use Rattle.tree_store.specs.Stores.{tree_at};
 ghost use Rattle.normal_listing.specs.Vertices.{IsShuffleLead};
 ghost use Rattle.log_rows.specs.TwoLeaves.{AreTwoLeaves, HasCorolla, IsCorolla, both_labels, both_parts, each_of};
@@ -8,6 +9,7 @@ ghost use Rattle.log_rows.specs.TwoLeaves.{AreTwoLeaves, HasCorolla, IsCorolla, 
 use normal_listing::{Found, Label, Lead, Part, SpellingWord, Tables, find_vertices};
 use presentation_text::write_number;
 use rows::{RowFail, end_line, shuffle_of, small_number_of};
+use shuffle_trees::STree;
 use sqlite_items::Items;
 use std::alloc::{AllocError, Global};
 use tree_store::{NodeView, Store, TreeId};
@@ -128,6 +130,17 @@ fn labels_of(alloc: Global, generator: u8) -> Result<Vec<Label>, AllocError>
     Ok(labels)
 }
 
+// The tree with this id as a lead, if it is to be one and has leaves from 1 on.
+fn lead_of(tree: &STree, id: TreeId, is_lead: bool) -> Option<Lead>
+    ensures id { IfSome result (λ lead. lead.id ≡ id) }
+    ensures valid { IfSome result (λ lead. IsShuffle lead.arity tree.now) }
+{
+    match tree.arity() {
+        Some(arity) if is_lead => Some(Lead { id, arity }),
+        _ => None,
+    }
+}
+
 // The leads with one of the labels: the lead, if there is one and the label is its own.
 fn own_leads(alloc: Global, lead: Option<Lead>, is_own: bool) -> Result<Items<Lead>, AllocError>
     ensures leads { IfOk result (λ leads. (trees : List (Tree ℕ)) → IfSome lead (IsShuffleLead trees) → All (IsShuffleLead trees) leads) }
@@ -201,7 +214,8 @@ fn write_found(
 ) -> Result<(), RowFail>
     requires held { id < length store.now }
     requires generator { generator < 22 }
-    requires lead { IfSome lead (IsShuffleLead store.now) }
+    requires id { IfSome lead (λ lead. lead.id ≡ id) }
+    requires valid { IfSome lead (λ lead. IsShuffle lead.arity (tree_at store.now id)) }
 {
     let corolla = corolla_of(store, id)?;
     let leaves = two_leaves(alloc, corolla)?;
@@ -229,9 +243,6 @@ pub fn find(alloc: Global, given: &[String], out: &mut Vec<u8>) -> Result<(), Ro
     let tree = shuffle_of(alloc, tree)?;
     let mut store = Store::new(alloc);
     let id = store.put(alloc, &tree)?;
-    let lead = match tree.arity() {
-        Some(arity) if !leads.is_empty() => Some(Lead { id, arity }),
-        _ => None,
-    };
+    let lead = lead_of(&tree, id, !leads.is_empty());
     write_found(alloc, &store, id, lead, generator, out)
 }

@@ -19,6 +19,8 @@ fn word(table: &GenTable, tree: &Tree) -> Result<SpellingWord, RowFail>
         }
         return Ok(SpellingWord::symbol(*number));
     }
+    // There are at most twelve generators, so that each has a symbol.
+    let _generators = table.len();
     match arity_of(tree, table) {
         Some(leaves) if leaves <= 9 => Ok(word_of(tree)),
         _ => Err(RowFail::Refused),
