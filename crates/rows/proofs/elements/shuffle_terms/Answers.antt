@@ -1,4 +1,4 @@
-use Rattle.std.proofs.Common.{◌<◌, ◌≤◌, ℕ, [], ◌∷◌, sym, subst, arith}
+use Rattle.std.proofs.Common.{◌<◌, ℕ, [], ◌∷◌, sym, subst, arith}
 use Rattle.std.specs.List.{All}
 use Rattle.std.proofs.lemmas.List.Elements.{All-push}
 use Rattle.modular_sums.specs.Sums.{AllTerms}
@@ -23,5 +23,5 @@ loop-term-preserved c =
 pub returns : goal.returns
 returns c = record {
   residues = c.loop-term.invariant.residues;
-  trees = (c.unwrap_or-arity.result, (omega arith, c.loop-term.invariant.trees));
+  trees = (c.unwrap_or-arity.result, omega arith, c.loop-term.invariant.trees);
 }
