@@ -8,6 +8,5 @@ pub mod KeptEntries
 pub mod Pushing
 pub mod StartUses
 pub mod StepUses
-pub mod TestEntries
 pub mod Ups
 pub mod Wholes

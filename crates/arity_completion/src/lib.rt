@@ -14,6 +14,3 @@ pub use elements::symmetric_element;
 pub use entries::entry_for;
 pub use laws::{differences_are_kept, entries_are_carried, reduced_rows_are_kept, whole_starts};
 pub use uses::{Start, uses_of};
-
-#[cfg(test)]
-mod tests;

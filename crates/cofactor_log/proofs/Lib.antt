@@ -9,4 +9,3 @@ pub mod Members
 pub mod Numbers
 pub mod Reaching
 pub mod Starts
-pub mod ZeroEntries

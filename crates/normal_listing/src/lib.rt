@@ -15,8 +15,6 @@ mod reading;
 mod sorting;
 mod tables;
 mod testing;
-#[cfg(test)]
-mod tests;
 mod trees;
 mod vertex_words;
 mod word;

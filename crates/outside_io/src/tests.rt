@@ -12,15 +12,24 @@ fn five(alloc: Global, fail_at: &[u32]) -> Result<MemorySource, AllocError> {
     Ok(MemorySource::new(bytes, 2, fail_at.to_vec(alloc)?))
 }
 
+// Why the five bytes aren't read, where at most so many may be.
+fn fail_of(alloc: Global, fail_at: &[u32], most: u32) -> Result<Option<ReadFail>, AllocError> {
+    Ok(read_all(alloc, &mut five(alloc, fail_at)?, u64::from(most)).err())
+}
+
+#[test]
+fn fails_to_read_from_memory(rt: HostRuntime) -> Result<(), Fail> {
+    let alloc = rt.alloc();
+    assert!(rt; fail_of(alloc, &[2], 5)? == Some(ReadFail::Fault));
+    assert!(rt; fail_of(alloc, &[], 4)? == Some(ReadFail::TooLong));
+    Ok(())
+}
+
 #[test]
 fn reads_from_memory(rt: HostRuntime) -> Result<(), Fail> {
     let alloc = rt.alloc();
-    let failed = read_all(alloc, &mut five(alloc, &[2])?, 5);
-    assert_eq!(rt; failed.err(), Some(ReadFail::Fault));
     let whole = read_all(alloc, &mut five(alloc, &[])?, 5)?;
-    assert_eq!(rt; whole.as_slice(), b"bytes".as_slice());
-    let long = read_all(alloc, &mut five(alloc, &[])?, 4);
-    assert_eq!(rt; long.err(), Some(ReadFail::TooLong));
+    assert!(rt; whole.as_slice() == b"bytes".as_slice());
     Ok(())
 }
 
@@ -28,22 +37,30 @@ fn reads_from_memory(rt: HostRuntime) -> Result<(), Fail> {
 fn writes_to_memory(rt: HostRuntime) -> Result<(), Fail> {
     let alloc = rt.alloc();
     let mut sink = MemorySink::new(alloc, 4, 3, Vec::new(alloc))?;
-    assert_eq!(rt; write_all(&mut sink, b"bytes"), Err(WriteFail::Fault));
-    assert_eq!(rt; sink.bytes(), b"byte".as_slice());
+    assert!(rt; write_all(&mut sink, b"bytes") == Err(WriteFail::Fault));
+    assert!(rt; sink.bytes() == b"byte".as_slice());
     Ok(())
 }
 
 #[test]
-fn surely_reads_and_writes(rt: HostRuntime) -> Result<(), Fail> {
+fn surely_reads(rt: HostRuntime) -> Result<(), Fail> {
     let alloc = rt.alloc();
     let mut source = SureSource::new(b"bytes".to_vec(alloc)?, 2);
     let whole = read_all(alloc, &mut source, 5)?;
-    assert_eq!(rt; whole.as_slice(), b"bytes".as_slice());
-    for room in [5, 4] {
-        let mut sink = SureSink::new(vec![in alloc; 0; room]?);
-        assert_eq!(rt; sink.write(whole.as_slice()), Ok(5), "{room}");
-        write_all(&mut sink, b"more")?;
-    }
+    assert!(rt; whole.as_slice() == b"bytes".as_slice());
+    Ok(())
+}
+
+// Whether a sink with so much room takes five bytes whole, and then four.
+fn is_sure(alloc: Global, room: usize) -> Result<bool, Fail> {
+    let mut sink = SureSink::new(vec![in alloc; 0; room]?);
+    let taken = sink.write(b"bytes") == Ok(5);
+    Ok(taken && write_all(&mut sink, b"more").is_ok())
+}
+
+#[test]
+fn surely_writes(rt: HostRuntime) -> Result<(), Fail> {
+    assert!(rt; is_sure(rt.alloc(), 5)? && is_sure(rt.alloc(), 4)?);
     Ok(())
 }
 
@@ -53,7 +70,7 @@ fn passes_on(rt: HostRuntime) -> Result<(), Fail> {
     let whole = read_all(alloc, &mut RealSource::new(b"bytes".as_slice()), 5)?;
     let mut written = Vec::new(alloc);
     write_all(&mut RealSink::new(&mut written), whole.as_slice())?;
-    assert_eq!(rt; written.as_slice(), b"bytes".as_slice());
+    assert!(rt; written.as_slice() == b"bytes".as_slice());
     Ok(())
 }
 
@@ -78,10 +95,12 @@ impl Write for Bad {
     }
 }
 
+fn is_fault(count: usize, flushes: bool) -> bool {
+    let mut sink = RealSink::new(Bad { count, flushes });
+    sink.write(b"bytes").is_err()
+}
+
 #[test]
 fn counts_faults_of_a_writer(rt: HostRuntime) {
-    for (count, flushes, fails) in [(2, true, false), (0, true, true), (2, false, true)] {
-        let mut sink = RealSink::new(Bad { count, flushes });
-        assert_eq!(rt; sink.write(b"bytes").is_err(), fails, "{count} {flushes}");
-    }
+    assert!(rt; !is_fault(2, true) && is_fault(0, true) && is_fault(2, false));
 }

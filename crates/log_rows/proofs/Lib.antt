@@ -1,0 +1,3 @@
+pub mod FoundLeaves
+pub mod LabelledWords
+pub mod ZeroEntries

@@ -1,0 +1,149 @@
+ghost use Rattle.std.specs.Prelude.{◌≡◌, ◌<◌, ℕ, IfOk};
+ghost use Rattle.std.specs.List.{All};
+ghost use Rattle.shuffle_transfer.specs.Labels.{inputs_of};
+ghost use Rattle.shuffle_trees.specs.LabelLists.{arity_in};
+ghost use Rattle.symmetric_sums.specs.Terms.{FitsOver};
+ghost use Rattle.arity_completion.specs.Trails.{IsPlaced};
+ghost use Rattle.symmetric_trees.specs.Generators.{generators_of};
+
+use crate::logs::log_of;
+use arity_completion::{Start, entry_for};
+use cofactor_log::{Entry, Log};
+use division::Cofactor;
+use presentation_text::{Document, write_number};
+use rows::{
+    MOST_LEAVES, RowFail, end_line, end_terms, shuffle_terms, shuffle_tree, vertices_of,
+    write_next, write_plain, write_text,
+};
+use shuffle_passage::labels_of;
+use shuffle_sums::Shelf;
+use sqlite_items::Items;
+use std::alloc::{AllocError, Global};
+use symmetric_sums::{Instance, Rule};
+use tree_divisors::Place;
+
+// The rule of a use.
+fn write_rule(rule: Rule, out: &mut Vec<u8>) -> Result<(), AllocError> {
+    match rule {
+        Rule::Rel(number) => {
+            write_text(" rel", out)?;
+            write_next(u64::from(number), out)
+        }
+        Rule::Step(number) => {
+            write_text(" step", out)?;
+            write_next(u64::from(number), out)
+        }
+        Rule::Swap { generator, at } => {
+            write_text(" swap", out)?;
+            write_next(u64::from(generator), out)?;
+            write_next(u64::from(at), out)
+        }
+    }
+}
+
+// A use in a line: its residue, its rule, its context and its inputs.
+fn write_use(item: &Instance, out: &mut Vec<u8>) -> Result<(), AllocError> {
+    write_number(u64::from(item.coef), out)?;
+    write_rule(item.rule, out)?;
+    out.push(b' ')?;
+    write_plain(&item.context, out)?;
+    for input in item.inputs.as_slice() {
+        out.push(b' ')?;
+        write_plain(input, out)?;
+    }
+    end_line("", out)
+}
+
+// The terms of the element, and then the uses.
+fn write_entry(entry: &Entry, out: &mut Vec<u8>) -> Result<(), AllocError> {
+    end_terms(entry.element.terms(), out)?;
+    for item in entry.uses.as_slice() {
+        write_use(item, out)?;
+    }
+    Ok(())
+}
+
+// That so many times the only element is subtracted, at a place of the tree of the second question.
+fn cofactor(
+    alloc: Global,
+    document: &Document,
+    shelf: &mut Shelf,
+    coef: u32,
+    vertices: &[u32],
+) -> Result<Cofactor, RowFail>
+    requires labels { (l : ℕ) → arity_in shelf.old.labels l ≡ inputs_of (generators_of document.now.gens) l }
+    requires most { shelf.old.most ≡ 9 }
+    ensures placed { IfOk result (IsPlaced shelf.new 1) }
+    ensures labels { shelf.new.labels ≡ shelf.old.labels }
+{
+    let host = shuffle_tree(alloc, document, 1)?;
+    match host.arity() {
+        Some(leaves) if leaves <= MOST_LEAVES => {}
+        _ => return Err(RowFail::Refused),
+    }
+    let Some(place) = Place::of(alloc, &host, &vertices_of(alloc, vertices)?)? else {
+        return Err(RowFail::Refused);
+    };
+    Ok(Cofactor {
+        coef,
+        element: 0,
+        host: shelf.shelve(alloc, &host)?,
+        place,
+    })
+}
+
+// The entry for the element of the first question: the first relation as it is, so many times, and what the step subtracts of
+// the first entry.
+fn entry_of(
+    alloc: Global,
+    document: &Document,
+    log: &Log,
+    shelf: &Shelf,
+    factor: u32,
+    steps: &[Cofactor],
+) -> Result<Entry, RowFail>
+    requires field { log.now.field ≡ document.now.field }
+    requires table { log.now.gens ≡ document.now.gens }
+    requires factor { factor < log.now.field }
+    requires labels { (l : ℕ) → arity_in shelf.now.labels l ≡ inputs_of (generators_of log.now.gens) l }
+    requires placed { All (IsPlaced shelf.now 1) steps.now }
+{
+    let terms = shuffle_terms(alloc, document, 0)?;
+    let start = Start {
+        rule: Rule::Rel(1),
+        permutation: Items::from_slice(alloc, &[1, 2, 3])?,
+    };
+    Ok(entry_for(
+        alloc,
+        log,
+        shelf,
+        &[1],
+        &[start],
+        steps,
+        factor,
+        terms.as_slice(),
+    )?)
+}
+
+/// The entry for the element of the first question: the first relation, so many times, less so many times the first entry at a
+/// place of the tree of the second question. The numbers are those two factors and the vertices of the place.
+pub fn entry(
+    alloc: Global,
+    document: &Document,
+    numbers: &[u32],
+    out: &mut Vec<u8>,
+) -> Result<(), RowFail>
+    requires fit { All (FitsOver document.now.field document.now.gens) document.now.rels }
+{
+    let [factor, coef, vertices @ ..] = numbers else {
+        return Err(RowFail::Refused);
+    };
+    if *factor >= document.field.prime() {
+        return Err(RowFail::Refused);
+    }
+    let log = log_of(alloc, document)?;
+    let mut shelf = Shelf::new(alloc, &labels_of(alloc, &document.gens)?, MOST_LEAVES)?;
+    let step = cofactor(alloc, document, &mut shelf, *coef, vertices)?;
+    let made = entry_of(alloc, document, &log, &shelf, *factor, &[step])?;
+    Ok(write_entry(&made, out)?)
+}

@@ -1,0 +1,57 @@
+ghost use Rattle.std.specs.Prelude.{IfOk};
+ghost use Rattle.std.specs.List.{All};
+ghost use Rattle.normal_listing.specs.Parting.{BothBelow};
+
+use normal_listing::{Part, part_with_last};
+use presentation_text::write_number;
+use rows::{RowFail, end_line, write_next};
+use std::alloc::Global;
+
+// The part with these numbers, which are below the unit.
+fn part_below(unit: u16, own: u32, others: u32) -> Result<Part, RowFail>
+    ensures below { IfOk result (BothBelow unit) }
+{
+    let limit = u32::from(unit);
+    if own >= limit || others >= limit {
+        return Err(RowFail::Refused);
+    }
+    Ok(Part {
+        own: own as u16,
+        others: others as u16,
+    })
+}
+
+// The parts with these numbers, two for each.
+fn parts_below(alloc: Global, unit: u16, numbers: &[u32]) -> Result<Vec<Part>, RowFail>
+    ensures below { IfOk result (λ parts. All (BothBelow unit) parts.items) }
+{
+    let mut parts = Vec::new(alloc);
+    let mut left = numbers;
+    for _ in 0..numbers.len() {
+        let [own, others, further @ ..] = left else {
+            break;
+        };
+        parts.push(part_below(unit, *own, *others)?)?;
+        left = further;
+    }
+    Ok(parts)
+}
+
+/// The ways to part a set with one more leaf, each in a line. The numbers are that of the set without it, the leaf's bit, and
+/// two for each way to part that set.
+pub fn part(alloc: Global, numbers: &[u32], out: &mut Vec<u8>) -> Result<(), RowFail> {
+    let [below, unit, before @ ..] = numbers else {
+        return Err(RowFail::Refused);
+    };
+    if *below >= *unit || *unit >= 32768 {
+        return Err(RowFail::Refused);
+    }
+    let unit = *unit as u16;
+    let before = parts_below(alloc, unit, before)?;
+    for part in part_with_last(alloc, &before, *below as u16, unit)?.as_slice() {
+        write_number(u64::from(part.own), out)?;
+        write_next(u64::from(part.others), out)?;
+        end_line("", out)?;
+    }
+    Ok(())
+}
