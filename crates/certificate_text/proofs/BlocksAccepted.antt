@@ -17,7 +17,7 @@ use Rattle.certificate_text.specs.BlockReadings.{Base, Follow, LinePlace, at_end
 use Rattle.certificate_text.specs.BlockText.{AreBlockLines, AreStepLines, AreUseLines, AreSumTokens, end_line, no_blocks, no_steps, no_uses, one_block, one_step, one_use}
 use Rattle.certificate_text.specs.Plain.{PlainBlock, PlainStep, PlainUse}
 use Rattle.presentation_text.proofs.AcceptedParts.{end_read}
-use Rattle.presentation_text.proofs.LineFormsRead.{both_read, one_value}
+use Rattle.presentation_text.proofs.LineReadingsRead.{both_read, one_value}
 use Rattle.presentation_text.proofs.ContentsLines.{is_word}
 use Rattle.certificate_text.proofs.UsesAccepted.{sum_told, use_told}
 

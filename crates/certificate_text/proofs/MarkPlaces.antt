@@ -4,7 +4,7 @@ use Rattle.presentation_text.specs.ElementReadings.{behind_one}
 use Rattle.presentation_text.specs.TreeReadings.{begins_with}
 use Rattle.presentation_text.specs.Readings.{is_mark, mark_in, misfit}
 use Rattle.presentation_text.specs.declared.lexing.Token.{Token}
-use Rattle.presentation_text.proofs.ElementFormsRead.{behind_suc}
+use Rattle.presentation_text.proofs.ElementReadingsRead.{behind_suc}
 
 room : (tokens : List Token) (at c : ℕ) → begins_with c (drop at tokens) ≡ true → at + 1 ≤ length tokens
 room [] zero c e = absurd cc

@@ -10,7 +10,7 @@ use Rattle.presentation_text.specs.declared.lexing.Token.{Token}
 use Rattle.presentation_text.specs.declared.lexing.Token.TheVariants.{Word, Number, Byte}
 use Rattle.certificate_text.specs.BlockReadings.{cited_in, cites_step, coefficient_in}
 use Rattle.certificate_text.specs.UseText.{cited_rule}
-use Rattle.presentation_text.proofs.LineFormsRead.{both_read, number_read, was_known, word_read}
+use Rattle.presentation_text.proofs.LineReadingsRead.{both_read, number_read, was_known, word_read}
 use Rattle.presentation_text.proofs.ContentsLines.{is_word}
 use Rattle.presentation_text.proofs.TreesAcceptedTrees.{marked}
 

@@ -6,7 +6,7 @@ use Rattle.presentation_text.specs.Readings.{Fault, ◌>>=◌, mark_in, StopsAs}
 use Rattle.presentation_text.specs.declared.kinds.PartFail.{PartFail}
 use Rattle.presentation_text.specs.declared.lexing.Token.{Token}
 use Rattle.certificate_text.specs.BlockReadings.{free_tree_in, inputs_in}
-use Rattle.presentation_text.proofs.LineFormsStops.{stops_in, stops_on}
+use Rattle.presentation_text.proofs.LineReadingsStops.{stops_in, stops_on}
 
 abbrev Others : List (Tree ℕ) → Result (List (Tree ℕ)) Fault → Result (List (Tree ℕ)) Fault
 Others inputs others = others >>= λ more. Ok (inputs ++ more)

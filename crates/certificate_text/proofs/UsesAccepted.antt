@@ -19,7 +19,7 @@ use Rattle.certificate_text.specs.BlockText.{AreSumTokens}
 use Rattle.certificate_text.specs.Plain.{PlainUse}
 use Rattle.certificate_text.specs.UseText.{IsUse, behind_tokens, inputs_tokens, signed_residue}
 use Rattle.presentation_text.proofs.AcceptedParts.{end_read}
-use Rattle.presentation_text.proofs.LineFormsRead.{both_read, one_value}
+use Rattle.presentation_text.proofs.LineReadingsRead.{both_read, one_value}
 use Rattle.certificate_text.proofs.TokensRead.{cited_read, cited_there, coefficient_read, coefficient_there, minus}
 use Rattle.certificate_text.proofs.UseReading.{no_input}
 use Rattle.presentation_text.proofs.TreesAcceptedTrees.{mark_in-front}

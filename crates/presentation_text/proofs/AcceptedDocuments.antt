@@ -13,8 +13,8 @@ use Rattle.presentation_text.specs.Tokens.{tokens}
 use Rattle.presentation_text.specs.declared.lexing.Token.{Token}
 use Rattle.presentation_text.specs.declared.lexing.Token.TheVariants.{Word, Number, Long, Byte, Bad}
 use Rattle.presentation_text.proofs.AcceptedWords.{BeginsTail, adds_read, adds_table, counted_adds, counted_tail, tail_read}
-use Rattle.presentation_text.proofs.LineFormsNumbers.{both_true}
-use Rattle.presentation_text.proofs.LineFormsTables.{table-empty}
+use Rattle.presentation_text.proofs.LineReadingsNumbers.{both_true}
+use Rattle.presentation_text.proofs.LineReadingsTables.{table-empty}
 use Rattle.presentation_text.proofs.ContentsLines.{choose, read_behind}
 
 -- lines with their numbers

@@ -16,8 +16,8 @@ use Rattle.presentation_text.specs.declared.kinds.DocKind.TheVariants as kind
 use Rattle.presentation_text.specs.declared.lexing.Token.{Token}
 use Rattle.presentation_text.specs.declared.lexing.Token.TheVariants.{Word, Number, Long, Byte, Bad}
 use Rattle.presentation_text.proofs.AcceptedParts.{end_read, generator_accepted, generator_told}
-use Rattle.presentation_text.proofs.LineFormsNumbers.{not_at_most, not_at_most_told, not_below, not_below_told, not_false_told}
-use Rattle.presentation_text.proofs.LineFormsRead.{both_read, not_refused, number_read, one_value, was_known, word_read}
+use Rattle.presentation_text.proofs.LineReadingsNumbers.{not_at_most, not_at_most_told, not_below, not_below_told, not_false_told}
+use Rattle.presentation_text.proofs.LineReadingsRead.{both_read, not_refused, number_read, one_value, was_known, word_read}
 
 -- a line adds the same where its tokens, and what it leads to, are the same
 adds_as : (contents whole now : Contents) (number : ℕ) (word : List ℕ) (us ts : List Token) → ts ≡ us → whole ≡ now → LineAdds contents number (Word word ∷ us) whole → LineAdds contents number (Word word ∷ ts) now

@@ -14,11 +14,11 @@ use Rattle.presentation_text.specs.TreeReadings.{index_of}
 use Rattle.presentation_text.specs.declared.kinds.DocKind.TheVariants.{PartsOut, Syntax}
 use Rattle.presentation_text.specs.declared.lexing.Token.{Token}
 use Rattle.presentation_text.specs.declared.lexing.Token.TheVariants.{Word, Number}
-use Rattle.presentation_text.proofs.LineFormsGenerators.{generator_read}
-use Rattle.presentation_text.proofs.LineFormsNumbers.{arity_is, not_at_most, not_below, not_below_told, not_equal, not_equal_told, size_fits, size_told}
-use Rattle.presentation_text.proofs.LineFormsParts.{further_parts}
-use Rattle.presentation_text.proofs.LineFormsRead.{both_read, not_refused, number_read, one_value, was_known, word_read}
-use Rattle.presentation_text.proofs.TreeFormsSteps.{index-none}
+use Rattle.presentation_text.proofs.LineReadingsGenerators.{generator_read}
+use Rattle.presentation_text.proofs.LineReadingsNumbers.{arity_is, not_at_most, not_below, not_below_told, not_equal, not_equal_told, size_fits, size_told}
+use Rattle.presentation_text.proofs.LineReadingsParts.{further_parts}
+use Rattle.presentation_text.proofs.LineReadingsRead.{both_read, not_refused, number_read, one_value, was_known, word_read}
+use Rattle.presentation_text.proofs.TreeReadingsSteps.{index-none}
 
 pub end_read : (ts : List Token) (x : Unit {0}) → end_in ts ≡ Ok x → ts ≡ []
 end_read [] x e = refl

@@ -14,7 +14,7 @@ use Rattle.presentation_text.specs.declared.lexing.Token.{Token}
 use Rattle.presentation_text.specs.declared.lexing.Token.TheVariants.{Word, Number, Long, Byte, Bad}
 use Rattle.presentation_text.proofs.AcceptedLines.{field_adds, field_accepted, order_adds, order_accepted, gen_adds, gen_accepted, weight_adds, weight_accepted, rel_adds, rel_accepted, query_adds, query_accepted, same_adds, same_accepted}
 use Rattle.presentation_text.proofs.AcceptedParts.{generator_accepted}
-use Rattle.presentation_text.proofs.LineFormsGenerators.{generator_welcome}
+use Rattle.presentation_text.proofs.LineReadingsGenerators.{generator_welcome}
 use Rattle.presentation_text.proofs.ContentsLines.{free_word, no_tail, went_on, choose}
 
 -- ---- which word a line begins with

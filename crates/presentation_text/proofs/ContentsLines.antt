@@ -13,8 +13,8 @@ use Rattle.presentation_text.specs.WellFormed.{AcceptedTextsAreWellFormed, AreWe
 use Rattle.presentation_text.specs.declared.kinds.DocKind.{DocKind}
 use Rattle.presentation_text.specs.declared.lexing.Token.{Token}
 use Rattle.presentation_text.specs.declared.lexing.Token.TheVariants.{Word, Number, Long, Byte, Bad}
-use Rattle.presentation_text.proofs.DocumentFormsWords.{both_before, no_row}
-use Rattle.presentation_text.proofs.LineFormsNumbers.{both_true, equal_told}
+use Rattle.presentation_text.proofs.DocumentReadingsWords.{both_before, no_row}
+use Rattle.presentation_text.proofs.LineReadingsNumbers.{both_true, equal_told}
 use Rattle.presentation_text.proofs.TokenLaws.{words}
 use Rattle.presentation_text.proofs.ContentsReadings.{HasWords, StandsBefore, field_stands, gen_stands, header_stands, order_stands, later, query_stands, rel_stands, same_stands, weight_stands}
 

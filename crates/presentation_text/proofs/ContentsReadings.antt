@@ -23,11 +23,11 @@ use Rattle.presentation_text.specs.declared.document.OrderName.TheVariants.{Path
 use Rattle.presentation_text.specs.declared.kinds.DocKind.TheVariants as kind
 use Rattle.presentation_text.specs.declared.lexing.Token.{Token}
 use Rattle.presentation_text.specs.declared.lexing.Token.TheVariants.{Word}
-use Rattle.presentation_text.proofs.LineFormsGenerators.{generator_read, generator_welcome, symmetry_read}
-use Rattle.presentation_text.proofs.LineFormsNumbers.{equal_told, not_at_most_told, not_below_told, not_false_told, weighed_set}
-use Rattle.presentation_text.proofs.LineFormsRead.{both_read, not_refused, one_value, was_known}
-use Rattle.presentation_text.proofs.LineFormsTables.{table-empty}
-use Rattle.presentation_text.proofs.DocumentFormsOnce.{same_value}
+use Rattle.presentation_text.proofs.LineReadingsGenerators.{generator_read, generator_welcome, symmetry_read}
+use Rattle.presentation_text.proofs.LineReadingsNumbers.{equal_told, not_at_most_told, not_below_told, not_false_told, weighed_set}
+use Rattle.presentation_text.proofs.LineReadingsRead.{both_read, not_refused, one_value, was_known}
+use Rattle.presentation_text.proofs.LineReadingsTables.{table-empty}
+use Rattle.presentation_text.proofs.DocumentReadingsOnce.{same_value}
 
 -- ---- presentations so far
 

@@ -14,7 +14,7 @@ use Rattle.presentation_text.specs.TreeText.{tree_tokens}
 use Rattle.presentation_text.specs.Elements.{coefficient_tokens, mark}
 use Rattle.presentation_text.specs.ElementReadings.{behind_one, is_zero, is_nothing, coefficient_of, coefficient, behind_coefficient, sign_of, sign}
 use Rattle.presentation_text.specs.Accepted.{NotMarked, EndsTree}
-use Rattle.presentation_text.proofs.LineFormsNumbers.{both_true}
+use Rattle.presentation_text.proofs.LineReadingsNumbers.{both_true}
 
 -- ---- single bytes
 

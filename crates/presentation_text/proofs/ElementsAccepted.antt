@@ -21,8 +21,8 @@ use Rattle.presentation_text.specs.Elements.{Written, coefficient_tokens, term_t
 use Rattle.presentation_text.specs.ElementReadings.{behind_one, is_nothing, coefficient, behind_coefficient, term_in, sign, further_in, element_in}
 use Rattle.presentation_text.specs.Accepted.{IsDemanded, TreesAreAccepted, NotMarked, is_leaf, EndsTree, ends_in_leaf, EndsBefore, HaveDemandedArity, AreDemanded, ElementsAreAccepted}
 use Rattle.presentation_text.proofs.TreesAcceptedTrees.{bound}
-use Rattle.presentation_text.proofs.ElementFormsFurther.{behind_sign, signed, unsigned}
-use Rattle.presentation_text.proofs.ElementFormsWhole.{from_first, first-is, nothing-is, further-reads}
+use Rattle.presentation_text.proofs.ElementReadingsFurther.{behind_sign, signed, unsigned}
+use Rattle.presentation_text.proofs.ElementReadingsWhole.{from_first, first-is, nothing-is, further-reads}
 use Rattle.presentation_text.proofs.ElementFronts.{coefficient-spelled, coefficient-is, behind-is, sign-spelled, sign-is, no-sign, unsigned-ends, sign-no-star, nothing-spelled, nothing-there, something-there, minus-there, minus-behind, minus-spelled}
 
 -- ---- readings

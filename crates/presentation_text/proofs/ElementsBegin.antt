@@ -17,10 +17,10 @@ use Rattle.presentation_text.specs.Elements.{Written, coefficient_tokens, term_t
 use Rattle.presentation_text.specs.ElementReadings.{behind_one, is_nothing, coefficient, behind_coefficient, term_in, sign, further_in, element_in}
 use Rattle.presentation_text.specs.Accepted.{RefusedElementsBegin}
 use Rattle.presentation_text.proofs.TreesAccepted.{all_accepted}
-use Rattle.presentation_text.proofs.TreesStopForms.{within}
+use Rattle.presentation_text.proofs.TreesStopReadings.{within}
 use Rattle.presentation_text.proofs.TreesStop.{all_begin}
-use Rattle.presentation_text.proofs.ElementFormsFurther.{signed, unsigned}
-use Rattle.presentation_text.proofs.ElementFormsWhole.{from_first, first-is, nothing-is}
+use Rattle.presentation_text.proofs.ElementReadingsFurther.{signed, unsigned}
+use Rattle.presentation_text.proofs.ElementReadingsWhole.{from_first, first-is, nothing-is}
 use Rattle.presentation_text.proofs.ElementFronts.{coefficient-spelled, sign-spelled, minus-spelled}
 use Rattle.presentation_text.proofs.ElementsAccepted.{TermSpelled, term-spelled}
 use Rattle.presentation_text.proofs.ElementsRefused.{whole-bounded, term-by-tree, term-bounded, term-length, TermThenStops, sign-either, none-further, further-bounded, FirstThenStops, first-either, first-bounded}

@@ -19,17 +19,17 @@ use Rattle.presentation_text.specs.TreeText.{nested, tree_tokens}
 use Rattle.presentation_text.specs.Elements.{Written, coefficient_tokens, term_tokens, further_tokens, element_tokens}
 use Rattle.presentation_text.specs.ElementReadings.{behind_one, is_zero, is_nothing, coefficient_of, coefficient, behind_coefficient, term_in, sign, further_in, element_in}
 use Rattle.presentation_text.specs.Accepted.{IsDemanded, AreDemanded, NotMarked, EndsTree, EndsBefore, IsSameBefore, AreRuledOut, IsRuledOut, ElementsAreRefusedRightly}
-use Rattle.presentation_text.proofs.TreeFormsSteps.{whole-stops, whole-refused}
+use Rattle.presentation_text.proofs.TreeReadingsSteps.{whole-stops, whole-refused}
 use Rattle.presentation_text.proofs.TreesAcceptedTrees.{IsReadInside, tree_sound}
 use Rattle.presentation_text.proofs.TreesAccepted.{all_accepted}
-use Rattle.presentation_text.proofs.TreesStopForms.{EndTheSame, IsReadFrom, begins-same, same_before, same_last, within}
+use Rattle.presentation_text.proofs.TreesStopReadings.{EndTheSame, IsReadFrom, begins-same, same_before, same_last, within}
 use Rattle.presentation_text.proofs.TreesStopTrees.{local_tree}
 use Rattle.presentation_text.proofs.TreesGoOn.{only_first}
 use Rattle.presentation_text.proofs.TreesStop.{fits_ruled, breaks_ruled, first_of_three, IsJudged, stopped, same_front, same_back}
 use Rattle.presentation_text.proofs.TreesStopLimits.{IsReadOrBreaks, tree_or_breaks}
 use Rattle.presentation_text.proofs.TreeTokens.{read_once}
-use Rattle.presentation_text.proofs.ElementFormsFurther.{behind_sign, signed, unsigned, sign-stops}
-use Rattle.presentation_text.proofs.ElementFormsWhole.{from_first, first-is, nothing-is, first-stops, further-stops}
+use Rattle.presentation_text.proofs.ElementReadingsFurther.{behind_sign, signed, unsigned, sign-stops}
+use Rattle.presentation_text.proofs.ElementReadingsWhole.{from_first, first-is, nothing-is, first-stops, further-stops}
 use Rattle.presentation_text.proofs.ElementFronts.{unmarked, coefficient-is, behind-is, sign-is, nothing-there, minus-there, minus-behind}
 use Rattle.presentation_text.proofs.TermsOnce.{further-no-star}
 use Rattle.presentation_text.proofs.ElementsAccepted.{TermSpelled, term-spelled, term-read, elements_accepted}

@@ -8,7 +8,7 @@ use Rattle.symmetric_trees.specs.Generators.{IsNamed, IsTaken, IsTable}
 use Rattle.symmetric_trees.specs.declared.generators.Generator.{Generator}
 use Rattle.presentation_text.specs.LineReadings.{is_known}
 use Rattle.presentation_text.specs.TreeReadings.{index_of, next_index}
-use Rattle.presentation_text.proofs.TreeFormsSteps.{index-none, index-some}
+use Rattle.presentation_text.proofs.TreeReadingsSteps.{index-none, index-some}
 
 pub same_name : (a b : List ℕ) → a ≡ b → bytes_eq a b ≡ true
 same_name a b e = (bytes_eq-Decides a b).1 e

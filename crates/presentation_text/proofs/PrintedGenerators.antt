@@ -18,7 +18,7 @@ use Rattle.presentation_text.specs.LineReadings.{Contents, part_named, symmetry_
 use Rattle.presentation_text.specs.Lines.{HasNoFeed}
 use Rattle.presentation_text.specs.Tokens.{IsWord, tokens}
 use Rattle.presentation_text.proofs.LineTexts.{no_feed-word, no_feed-decimal}
-use Rattle.presentation_text.proofs.TreeFormsSteps.{index-none}
+use Rattle.presentation_text.proofs.TreeReadingsSteps.{index-none}
 use Rattle.presentation_text.proofs.PrintedTokens.{tokens-decimal}
 use Rattle.presentation_text.proofs.TokenLaws.{tokens-word}
 

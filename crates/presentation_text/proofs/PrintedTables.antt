@@ -16,7 +16,7 @@ use Rattle.presentation_text.specs.Lines.{lines}
 use Rattle.presentation_text.specs.Presentations.{weight_or_none}
 use Rattle.presentation_text.specs.TreeReadings.{index_of}
 use Rattle.presentation_text.proofs.LineTexts.{no_feed-word, no_feed-decimal}
-use Rattle.presentation_text.proofs.TreeFormsSteps.{first_named}
+use Rattle.presentation_text.proofs.TreeReadingsSteps.{first_named}
 use Rattle.presentation_text.proofs.PrintedGenerators.{MayPrint, kind_words, generator_tokens, generator-words, generator_line, no_feed-kinds, tokens-name, tokens-number}
 use Rattle.presentation_text.proofs.PrintedStages.{Reach, reach-line, stage, IsVersion, stands-gen, stands-weight}
 

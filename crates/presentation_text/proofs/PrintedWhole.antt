@@ -22,7 +22,7 @@ use Rattle.presentation_text.proofs.PrintedStages.{Reach, numbered-first, reach-
 use Rattle.presentation_text.proofs.PrintedTables.{MayWeigh, reach-generators, regroup}
 use Rattle.presentation_text.proofs.TreeTokens.{name_of-is}
 use Rattle.presentation_text.proofs.PrintedSums.{small_prime}
-use Rattle.presentation_text.proofs.LineFormsField.{prime_is}
+use Rattle.presentation_text.proofs.LineReadingsField.{prime_is}
 
 -- ---- the opening
 

@@ -13,8 +13,8 @@ use Rattle.presentation_text.specs.declared.lexing.Token.{Token}
 use Rattle.presentation_text.specs.declared.trees.Demands.{Demands}
 use Rattle.presentation_text.specs.TreeReadings.{tree_in, has_each, differs, whole_tree_in}
 use Rattle.presentation_text.specs.TreeText.{tree_tokens}
-use Rattle.presentation_text.proofs.TreeFormsLeaves.{has-each, numbered-had}
-use Rattle.presentation_text.proofs.TreeFormsSteps.{judged, whole-accepted}
+use Rattle.presentation_text.proofs.TreeReadingsLeaves.{has-each, numbered-had}
+use Rattle.presentation_text.proofs.TreeReadingsSteps.{judged, whole-accepted}
 use Rattle.presentation_text.proofs.ElementFronts.{not-marked, unmarked}
 use Rattle.presentation_text.proofs.TreesAcceptedTrees.{bound, none_held, no_rows, IsReadInside, tree_sound, tree_back}
 

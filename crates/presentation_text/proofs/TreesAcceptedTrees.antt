@@ -19,7 +19,7 @@ use Rattle.presentation_text.specs.Readings.{Fault, Reading, ◌>>=◌, is_mark,
 use Rattle.presentation_text.specs.TreeReadings.{Inside, next_index, index_of, begins_with, before_in, close_in, input_in, row_in, leaf_in, node_in, begun_in, tree_or_end_in, tree_in}
 use Rattle.presentation_text.specs.TreeText.{name_of, tree_tokens, row_tokens, more_tokens, nested, nested_row}
 use Rattle.presentation_text.proofs.TreeTokens.{arity_in, arity_in-least, in_table, name_of-is}
-use Rattle.presentation_text.proofs.TreeFormsSteps as steps
+use Rattle.presentation_text.proofs.TreeReadingsSteps as steps
 
 -- ---- what was read before something else
 

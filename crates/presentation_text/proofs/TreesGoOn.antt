@@ -15,9 +15,9 @@ use Rattle.presentation_text.specs.Readings.{Fault, Reading, ◌>>=◌, is_mark,
 use Rattle.presentation_text.specs.TreeReadings.{Inside, index_of, begins_with, before_in, close_in, input_in, row_in, node_in, begun_in, tree_or_end_in, tree_in}
 use Rattle.presentation_text.specs.TreeText.{tree_tokens}
 use Rattle.presentation_text.proofs.TreeTokens.{arity_in}
-use Rattle.presentation_text.proofs.TreeFormsSteps as steps
+use Rattle.presentation_text.proofs.TreeReadingsSteps as steps
 use Rattle.presentation_text.proofs.TreesAcceptedTrees.{mark_of, inputs_tokens, node_tokens, before_in-front, input_in-read, IsHeld, index_held, least_arity, IsReadInside, ReadsInside, tree_sound}
-use Rattle.presentation_text.proofs.TreesStopForms.{IsByToken, local_by_token, within}
+use Rattle.presentation_text.proofs.TreesStopReadings.{IsByToken, local_by_token, within}
 use Rattle.presentation_text.proofs.TreesStopTrees.{input_by_token, local_row, tree_by_token}
 
 -- a tree over the table whose tokens begin so

@@ -15,7 +15,7 @@ use Rattle.presentation_text.specs.Readings.{Fault, Reading, ◌>>=◌, first_ro
 use Rattle.presentation_text.specs.TreeReadings.{has_each, differs, against, tree_in, whole_tree_in}
 use Rattle.presentation_text.specs.TreeText.{nested, tree_tokens}
 use Rattle.presentation_text.proofs.TreeTokens.{read_once}
-use Rattle.presentation_text.proofs.TreeFormsSteps.{judged}
+use Rattle.presentation_text.proofs.TreeReadingsSteps.{judged}
 use Rattle.presentation_text.proofs.TreesAcceptedTrees.{IsReadInside, tree_sound, tree_back}
 use Rattle.presentation_text.proofs.ElementFronts.{not-marked}
 use Rattle.presentation_text.proofs.TreesAccepted.{all_accepted}

@@ -17,7 +17,7 @@ use Rattle.presentation_text.specs.Readings.{Reading, ◌>>=◌, first_row, refu
 use Rattle.presentation_text.specs.TreeReadings.{begins_with, input_in, row_in, tree_in}
 use Rattle.presentation_text.specs.TreeText.{name_of, tree_tokens, nested, nested_row}
 use Rattle.presentation_text.proofs.TreeTokens.{arity_in}
-use Rattle.presentation_text.proofs.TreeFormsSteps as steps
+use Rattle.presentation_text.proofs.TreeReadingsSteps as steps
 use Rattle.presentation_text.proofs.TreesAcceptedTrees.{mark_of, inputs_tokens, node_tokens, tree_begins, input_ends, before_in-back, close_in-back, index_back}
 
 -- The limit that a tree breaks of which so many generators stand one inside the other, and so many leaves stand up to its end.

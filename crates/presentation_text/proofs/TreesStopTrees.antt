@@ -11,7 +11,7 @@ use Rattle.presentation_text.specs.declared.lexing.Token.TheVariants.{Word, Numb
 use Rattle.presentation_text.specs.Readings.{Fault, Reading, ◌>>=◌, is_mark, misplaced, first_row, refused}
 use Rattle.presentation_text.specs.TreeReadings.{Inside, index_of, begins_with, before_in, close_in, input_in, row_in, node_in, tree_or_end_in, tree_in}
 use Rattle.presentation_text.proofs.TreeTokens.{arity_in}
-use Rattle.presentation_text.proofs.TreesStopForms.{IsLocal, joined, local_joined, local_same, local_done, given, IsGiven, IsGoneInto, IsByToken, local_by_token, before_by_token, close_by_token}
+use Rattle.presentation_text.proofs.TreesStopReadings.{IsLocal, joined, local_joined, local_same, local_done, given, IsGiven, IsGoneInto, IsByToken, local_by_token, before_by_token, close_by_token}
 
 -- ---- inputs
 

@@ -6,7 +6,7 @@ use Rattle.presentation_text.specs.Readings.{end_in}
 use Rattle.certificate_text.specs.BlockReadings.{between, block_line, in_step, sum_in}
 use Rattle.certificate_text.specs.Plain.{plain_block, plain_use}
 use Rattle.certificate_text.proofs.BlockReading.{follow_stops}
-use Rattle.presentation_text.proofs.LineFormsStops.{stops_on}
+use Rattle.presentation_text.proofs.LineReadingsStops.{stops_on}
 use Rattle.certificate_text.proofs.places.block_line.Goals as goal
 
 pub returns-in_err-end_at : goal.returns-in_err-end_at

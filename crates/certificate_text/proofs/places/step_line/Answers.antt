@@ -6,7 +6,7 @@ use Rattle.certificate_text.specs.BlockReadings.{block_line, in_step, step_line,
 use Rattle.certificate_text.specs.PlaceReadings.{GivesFollow}
 use Rattle.certificate_text.specs.Plain.{plain_block, plain_step, plain_use}
 use Rattle.certificate_text.proofs.BlockReading.{follow_stops}
-use Rattle.presentation_text.proofs.LineFormsStops.{stops_on}
+use Rattle.presentation_text.proofs.LineReadingsStops.{stops_on}
 use Rattle.certificate_text.proofs.places.step_line.Goals as goal
 
 pub returns-in_err-item : goal.returns-in_err-item

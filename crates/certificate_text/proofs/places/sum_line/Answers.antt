@@ -3,7 +3,7 @@ use Rattle.presentation_text.specs.ElementReadings.{element_in}
 use Rattle.presentation_text.specs.Readings.{StopsAs, end_in}
 use Rattle.presentation_text.specs.TreeReadings.{demands_of}
 use Rattle.certificate_text.specs.BlockReadings.{sum_in}
-use Rattle.presentation_text.proofs.LineFormsStops.{part_stops, stops_on}
+use Rattle.presentation_text.proofs.LineReadingsStops.{part_stops, stops_on}
 use Rattle.certificate_text.proofs.places.sum_line.Goals as goal
 
 pub returns-in_err-element-clause-read : goal.returns-in_err-element-clause-read

@@ -3,7 +3,7 @@ use Rattle.symmetric_sums.specs.Terms.{terms_of}
 use Rattle.certificate_text.specs.BlockReadings.{in_block, sum_in, want_line}
 use Rattle.certificate_text.specs.Plain.{plain_block, plain_step}
 use Rattle.certificate_text.proofs.BlockReading.{follow_stops}
-use Rattle.presentation_text.proofs.LineFormsStops.{stops_on}
+use Rattle.presentation_text.proofs.LineReadingsStops.{stops_on}
 use Rattle.certificate_text.proofs.places.want_line.Goals as goal
 
 pub returns-in_err-want : goal.returns-in_err-want

@@ -6,7 +6,7 @@ use Rattle.certificate_text.specs.BlockReadings.{base_of, refused_at, rest_of_ta
 use Rattle.certificate_text.specs.PlaceReadings.{follow_of}
 use Rattle.certificate_text.proofs.BlockReading.{line_fails, line_goes_on, line_refused}
 use Rattle.certificate_text.proofs.reading.tail_line.Goals as goal
-use Rattle.presentation_text.proofs.DocumentFormsLines.{begun_by}
+use Rattle.presentation_text.proofs.DocumentReadingsLines.{begun_by}
 
 pub returns-in-Some : goal.returns-in-Some
 returns-in-Some c =

@@ -4,7 +4,7 @@ use Rattle.presentation_text.specs.Readings.{StopsAs, number_in, word_in}
 use Rattle.presentation_text.specs.declared.kinds.DocKind.TheVariants.{Syntax}
 use Rattle.certificate_text.specs.BlockReadings.{cited_in, cites_step}
 use Rattle.certificate_text.specs.UseText.{greatest_cited}
-use Rattle.presentation_text.proofs.LineFormsStops.{part_fails, part_stops, stops_on}
+use Rattle.presentation_text.proofs.LineReadingsStops.{part_fails, part_stops, stops_on}
 use Rattle.certificate_text.proofs.uses.cited_at.Goals as goal
 
 pub returns-in_err-word : goal.returns-in_err-word

@@ -3,7 +3,7 @@ use Rattle.presentation_text.specs.ElementReadings.{behind_one}
 use Rattle.presentation_text.specs.TreeReadings.{begins_with}
 use Rattle.presentation_text.specs.Readings.{StopsAs, number_in}
 use Rattle.certificate_text.specs.BlockReadings.{coefficient_in}
-use Rattle.presentation_text.proofs.LineFormsStops.{part_stops, stops_on}
+use Rattle.presentation_text.proofs.LineReadingsStops.{part_stops, stops_on}
 use Rattle.certificate_text.proofs.MarkPlaces.{marked_within}
 use Rattle.certificate_text.proofs.uses.coefficient_at.Goals as goal
 

@@ -3,7 +3,7 @@ use Rattle.std.proofs.lemmas.List.{map-append}
 use Rattle.labelled_trees.specs.Meaning.{tree_of}
 use Rattle.presentation_text.specs.Readings.{StopsAs}
 use Rattle.certificate_text.specs.BlockReadings.{inputs_in}
-use Rattle.presentation_text.proofs.LineFormsStops.{part_stops}
+use Rattle.presentation_text.proofs.LineReadingsStops.{part_stops}
 use Rattle.certificate_text.proofs.MarkPlaces.{marked_behind}
 use Rattle.certificate_text.proofs.UseReading.{all_read, input_read, mark_stops, none_yet, tree_stops}
 use Rattle.certificate_text.proofs.uses.inputs_at.Goals as goal

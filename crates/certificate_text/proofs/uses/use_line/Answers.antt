@@ -1,7 +1,7 @@
 use Rattle.std.proofs.Common.{◌+◌, drop, length, refl}
 use Rattle.presentation_text.specs.Readings.{StopsAs, mark_in}
 use Rattle.certificate_text.specs.BlockReadings.{cited_in, coefficient_in, free_tree_in, inputs_in, use_in}
-use Rattle.presentation_text.proofs.LineFormsStops.{part_stops, stops_on}
+use Rattle.presentation_text.proofs.LineReadingsStops.{part_stops, stops_on}
 use Rattle.certificate_text.proofs.uses.use_line.Goals as goal
 
 pub returns-in_err-negative-clause-read : goal.returns-in_err-negative-clause-read

@@ -5,8 +5,8 @@ use Rattle.presentation_text.specs.declared.document.Ask.{Ask}
 use Rattle.presentation_text.specs.LineReadings.{field_line, is_prime}
 use Rattle.presentation_text.specs.Readings.{number_in, end_in}
 use Rattle.presentation_text.specs.declared.kinds.DocKind.TheVariants.{FieldUnknown}
-use Rattle.presentation_text.proofs.LineFormsField.{prime_is, prime_isnt}
-use Rattle.presentation_text.proofs.LineFormsStops.{draft_fails, draft_stops, stops_on, none_hold}
+use Rattle.presentation_text.proofs.LineReadingsField.{prime_is, prime_isnt}
+use Rattle.presentation_text.proofs.LineReadingsStops.{draft_fails, draft_stops, stops_on, none_hold}
 use Rattle.presentation_text.proofs.line_forms.field_line.Goals as goal
 
 pub returns-in_err-number : goal.returns-in_err-number

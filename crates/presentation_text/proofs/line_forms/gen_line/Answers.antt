@@ -4,8 +4,8 @@ use Rattle.symmetric_trees.specs.Generators.{IsTable}
 use Rattle.presentation_text.specs.DraftReadings.{contents_of}
 use Rattle.presentation_text.specs.LineReadings.{gen_line, generator_in, prime_of}
 use Rattle.presentation_text.proofs.FitsLonger.{asks_fit-longer, sums_fit-longer}
-use Rattle.presentation_text.proofs.LineFormsGenerators.{generator_welcome, no_refusal}
-use Rattle.presentation_text.proofs.LineFormsStops.{draft_stops, stops_on}
+use Rattle.presentation_text.proofs.LineReadingsGenerators.{generator_welcome, no_refusal}
+use Rattle.presentation_text.proofs.LineReadingsStops.{draft_stops, stops_on}
 use Rattle.presentation_text.proofs.line_forms.gen_line.Goals as goal
 
 pub returns-in_err-generator : goal.returns-in_err-generator

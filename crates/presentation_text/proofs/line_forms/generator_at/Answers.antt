@@ -1,7 +1,7 @@
 use Rattle.std.proofs.Common.{Ok, ap, drop, sym}
 use Rattle.presentation_text.specs.LineReadings.{generator_in, inputs_in, named_arity_in}
 use Rattle.presentation_text.specs.Readings.{StopsAs}
-use Rattle.presentation_text.proofs.LineFormsStops.{part_stops, stops_on}
+use Rattle.presentation_text.proofs.LineReadingsStops.{part_stops, stops_on}
 use Rattle.presentation_text.proofs.line_forms.generator_at.Goals as goal
 
 pub returns-in_err-name : goal.returns-in_err-name

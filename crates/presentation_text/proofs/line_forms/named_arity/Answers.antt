@@ -2,8 +2,8 @@ use Rattle.std.proofs.Common.{◌≡◌, None, Some, arith, drop, false, length,
 use Rattle.presentation_text.specs.LineReadings.{is_arity, name_fault, named_arity_in}
 use Rattle.presentation_text.specs.Readings.{StopsAs, number_in, word_in}
 use Rattle.presentation_text.specs.declared.kinds.DocKind.TheVariants.{ArityOut, TooManyGens}
-use Rattle.presentation_text.proofs.LineFormsNumbers.{arity_above, arity_below, arity_is, at_most, not_at_most}
-use Rattle.presentation_text.proofs.LineFormsStops.{part_fails, part_stops, stops_on}
+use Rattle.presentation_text.proofs.LineReadingsNumbers.{arity_above, arity_below, arity_is, at_most, not_at_most}
+use Rattle.presentation_text.proofs.LineReadingsStops.{part_fails, part_stops, stops_on}
 use Rattle.presentation_text.proofs.line_forms.named_arity.Goals as goal
 use Rattle.presentation_text.proofs.line_forms.named_arity.Goals.{then-arity-lt2-via-then-arity-lt2, then-arity-lt2-via-else-arity-lt2+then-arity-gt6}
 

@@ -2,7 +2,7 @@ use Rattle.std.proofs.Common.{◌≡◌, drop, refl, sym, None, Some}
 use Rattle.presentation_text.specs.LineReadings.{order_line, order_named}
 use Rattle.presentation_text.specs.Readings.{word_in, end_in}
 use Rattle.presentation_text.specs.declared.kinds.DocKind.TheVariants.{OrderUnknown}
-use Rattle.presentation_text.proofs.LineFormsStops.{draft_fails, draft_stops, stops_on}
+use Rattle.presentation_text.proofs.LineReadingsStops.{draft_fails, draft_stops, stops_on}
 use Rattle.presentation_text.proofs.line_forms.order_line.Goals as goal
 
 pub returns-in_err-name : goal.returns-in_err-name

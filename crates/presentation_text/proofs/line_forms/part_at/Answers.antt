@@ -2,8 +2,8 @@ use Rattle.std.proofs.Common.{◌≡◌, ◌+◌, ◌==◌, ◌||◌, ap, arith,
 use Rattle.presentation_text.specs.LineReadings.{part_in, part_named}
 use Rattle.presentation_text.specs.Readings.{StopsAs, number_in, word_in}
 use Rattle.presentation_text.specs.declared.kinds.DocKind.TheVariants.{PartsOut, Syntax}
-use Rattle.presentation_text.proofs.LineFormsNumbers.{size_above, size_fits, size_zero}
-use Rattle.presentation_text.proofs.LineFormsStops.{part_fails, part_stops, stops_on}
+use Rattle.presentation_text.proofs.LineReadingsNumbers.{size_above, size_fits, size_zero}
+use Rattle.presentation_text.proofs.LineReadingsStops.{part_fails, part_stops, stops_on}
 use Rattle.presentation_text.proofs.line_forms.part_at.Goals as goal
 use Rattle.presentation_text.proofs.line_forms.part_at.Goals.{then-size-eq0-via-then-size-eq0, then-size-eq0-via-else-size-eq0+then-size-from}
 

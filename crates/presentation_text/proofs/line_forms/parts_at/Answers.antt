@@ -2,8 +2,8 @@ use Rattle.std.proofs.Common.{◌≡◌, ◌+◌, ◌-◌, ◌++◌, Ok, arith, 
 use Rattle.presentation_text.specs.LineReadings.{all_parts_in}
 use Rattle.presentation_text.specs.Readings.{StopsAs, ◌>>=◌}
 use Rattle.presentation_text.specs.declared.kinds.DocKind.TheVariants.{PartsOut}
-use Rattle.presentation_text.proofs.LineFormsParts.{behind_none, behind_part, parts_short, parts_whole}
-use Rattle.presentation_text.proofs.LineFormsStops.{part_fails_last, part_stops, stops_in, stops_on}
+use Rattle.presentation_text.proofs.LineReadingsParts.{behind_none, behind_part, parts_short, parts_whole}
+use Rattle.presentation_text.proofs.LineReadingsStops.{part_fails_last, part_stops, stops_in, stops_on}
 use Rattle.presentation_text.proofs.line_forms.parts_at.Goals as goal
 
 pub loop-parts-init : goal.loop-parts-init

@@ -1,6 +1,6 @@
 use Rattle.std.proofs.Common.{◌≤◌, ◌-◌, drop, length}
 use Rattle.presentation_text.specs.LineReadings.{all_parts_in}
-use Rattle.presentation_text.proofs.LineFormsParts.{Behind}
+use Rattle.presentation_text.proofs.LineReadingsParts.{Behind}
 use Rattle.presentation_text.proofs.line_forms.parts_at.Given as goal
 
 abbrev pub invariant-loop-parts : goal.invariant-loop-parts

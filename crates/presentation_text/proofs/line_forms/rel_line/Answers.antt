@@ -11,8 +11,8 @@ use Rattle.presentation_text.specs.LineReadings.{prime_of, rel_line}
 use Rattle.presentation_text.specs.Readings.{end_in}
 use Rattle.presentation_text.specs.TreeReadings.{demands_of}
 use Rattle.presentation_text.specs.declared.kinds.DocKind.TheVariants.{TooManyRelations}
-use Rattle.presentation_text.proofs.LineFormsNumbers.{at_most, not_at_most}
-use Rattle.presentation_text.proofs.LineFormsStops.{draft_fails, draft_stops, stops_on}
+use Rattle.presentation_text.proofs.LineReadingsNumbers.{at_most, not_at_most}
+use Rattle.presentation_text.proofs.LineReadingsStops.{draft_fails, draft_stops, stops_on}
 use Rattle.presentation_text.proofs.line_forms.rel_line.Goals as goal
 
 pub returns-then-len-ge-MOST_RELATIONS : goal.returns-then-len-ge-MOST_RELATIONS

@@ -3,7 +3,7 @@ use Rattle.presentation_text.specs.ElementReadings.{element_in}
 use Rattle.presentation_text.specs.LineReadings.{same_in}
 use Rattle.presentation_text.specs.Readings.{end_in, mark_in}
 use Rattle.presentation_text.specs.TreeReadings.{demands_of}
-use Rattle.presentation_text.proofs.LineFormsStops.{ask_stops, stops_on}
+use Rattle.presentation_text.proofs.LineReadingsStops.{ask_stops, stops_on}
 use Rattle.presentation_text.proofs.line_forms.same_at.Goals as goal
 
 pub returns-in_err-left : goal.returns-in_err-left

@@ -1,7 +1,7 @@
 use Rattle.std.proofs.Common.{drop, refl}
 use Rattle.presentation_text.specs.DraftReadings.{asked_kind, contents_of}
 use Rattle.presentation_text.specs.LineReadings.{same_in, same_line, with_ask}
-use Rattle.presentation_text.proofs.LineFormsStops.{draft_asked, draft_stops, stops_on}
+use Rattle.presentation_text.proofs.LineReadingsStops.{draft_asked, draft_stops, stops_on}
 use Rattle.presentation_text.proofs.line_forms.same_line.Goals as goal
 
 pub returns-in_err-kind : goal.returns-in_err-kind

@@ -2,7 +2,7 @@ use Rattle.std.proofs.Common.{◌≡◌, ◌∙◌, ◌+◌, ◌++◌, ◌∷◌
 use Rattle.presentation_text.specs.LineReadings.{symmetry_in, symmetry_named}
 use Rattle.presentation_text.specs.Readings.{StopsAs, end_in, word_in}
 use Rattle.presentation_text.specs.declared.kinds.DocKind.TheVariants.{Syntax}
-use Rattle.presentation_text.proofs.LineFormsStops.{part_fails, part_stops, stops_on}
+use Rattle.presentation_text.proofs.LineReadingsStops.{part_fails, part_stops, stops_on}
 use Rattle.presentation_text.proofs.line_forms.symmetry_at.Goals as goal
 
 pub returns-in_err-word : goal.returns-in_err-word

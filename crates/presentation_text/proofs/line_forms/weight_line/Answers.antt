@@ -6,8 +6,8 @@ use Rattle.presentation_text.specs.LineReadings.{is_weighed, weight_line}
 use Rattle.presentation_text.specs.Readings.{end_in, number_in, word_in}
 use Rattle.presentation_text.specs.TreeReadings.{index_of}
 use Rattle.presentation_text.specs.declared.kinds.DocKind.TheVariants.{NameUnknown, WeightOut, WeightTaken}
-use Rattle.presentation_text.proofs.LineFormsNumbers.{below, not_below, weighed_is, weighed_set}
-use Rattle.presentation_text.proofs.LineFormsStops.{draft_fails, draft_stops, stops_on}
+use Rattle.presentation_text.proofs.LineReadingsNumbers.{below, not_below, weighed_is, weighed_set}
+use Rattle.presentation_text.proofs.LineReadingsStops.{draft_fails, draft_stops, stops_on}
 use Rattle.presentation_text.proofs.Names.{index_found}
 use Rattle.presentation_text.proofs.line_forms.weight_line.Goals as goal
 

@@ -1,6 +1,6 @@
 use Rattle.std.proofs.Common.{refl}
 use Rattle.presentation_text.specs.Readings.{word_in}
-use Rattle.presentation_text.proofs.TreeFormsPlaces.{stops-end}
+use Rattle.presentation_text.proofs.TreeReadingsPlaces.{stops-end}
 use Rattle.presentation_text.proofs.parts.word_at.Goals as goal
 
 pub returns-in_default : goal.returns-in_default

@@ -5,9 +5,9 @@ use Rattle.presentation_text.specs.LineReadings.{rest_of_line, section_of}
 use Rattle.presentation_text.specs.Readings.{StopsAs}
 use Rattle.presentation_text.specs.Tokens.{tokens}
 use Rattle.presentation_text.specs.declared.lexing.Token.TheVariants.{Word}
-use Rattle.presentation_text.proofs.DocumentFormsLines.{begun_by, line_begins_tail, line_fails, line_goes_on, line_refused}
-use Rattle.presentation_text.proofs.DocumentFormsWords.{both_before}
-use Rattle.presentation_text.proofs.LineFormsNumbers.{not_equal}
+use Rattle.presentation_text.proofs.DocumentReadingsLines.{begun_by, line_begins_tail, line_fails, line_goes_on, line_refused}
+use Rattle.presentation_text.proofs.DocumentReadingsWords.{both_before}
+use Rattle.presentation_text.proofs.LineReadingsNumbers.{not_equal}
 use Rattle.presentation_text.proofs.presentations.counted_line.Goals as goal
 
 pub returns-in-Some : goal.returns-in-Some

@@ -1,7 +1,7 @@
 use Rattle.std.proofs.Common.{◌∙◌}
 use Rattle.presentation_text.specs.DocumentDrafts.{tail_number}
 use Rattle.presentation_text.specs.DraftReadings.{contents_of}
-use Rattle.presentation_text.proofs.DocumentFormsRest.{is_tail, rest_joined}
+use Rattle.presentation_text.proofs.DocumentReadingsRest.{is_tail, rest_joined}
 use Rattle.presentation_text.proofs.ElementsAccepted.{elements_accepted}
 use Rattle.presentation_text.proofs.ContentsLines.{documents_well}
 use Rattle.presentation_text.proofs.TreesAccepted.{all_accepted}

@@ -8,9 +8,9 @@ use Rattle.presentation_text.specs.Lines.{lines}
 use Rattle.presentation_text.specs.Tokens.{tokens}
 use Rattle.presentation_text.specs.declared.draft.Draft.{Draft}
 use Rattle.presentation_text.specs.declared.kinds.DocKind.TheVariants.{Missing}
-use Rattle.presentation_text.proofs.DocumentFormsLines.{end_missing, end_whole, line_fails, line_stops, lines_counted, lines_end, lines_go_on, lines_passed, lines_stop, lines_tail, tail_some}
-use Rattle.presentation_text.proofs.DocumentFormsRest.{rest_behind, rest_itself}
-use Rattle.presentation_text.proofs.LineFormsNumbers.{both_true}
+use Rattle.presentation_text.proofs.DocumentReadingsLines.{end_missing, end_whole, line_fails, line_stops, lines_counted, lines_end, lines_go_on, lines_passed, lines_stop, lines_tail, tail_some}
+use Rattle.presentation_text.proofs.DocumentReadingsRest.{rest_behind, rest_itself}
+use Rattle.presentation_text.proofs.LineReadingsNumbers.{both_true}
 use Rattle.presentation_text.proofs.presentations.read_presentation.Goals as goal
 use Rattle.presentation_text.proofs.presentations.read_presentation.Goals.{then-counts+in_ok-now+in-GoesOn, else-counts}
 

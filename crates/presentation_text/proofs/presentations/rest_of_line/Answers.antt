@@ -1,5 +1,5 @@
 use Rattle.presentation_text.specs.DraftReadings.{contents_of}
-use Rattle.presentation_text.proofs.DocumentFormsWords.{field_before, first_field}
+use Rattle.presentation_text.proofs.DocumentReadingsWords.{field_before, first_field}
 use Rattle.presentation_text.proofs.presentations.rest_of_line.Goals as goal
 
 pub field_line-requires-clause-first : goal.field_line-requires-clause-first

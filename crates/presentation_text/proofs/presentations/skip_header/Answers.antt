@@ -4,8 +4,8 @@ use Rattle.presentation_text.specs.LineReadings.{contents_by_header}
 use Rattle.presentation_text.specs.Lines.{lines}
 use Rattle.presentation_text.specs.Tokens.{tokens}
 use Rattle.presentation_text.specs.declared.kinds.DocKind.TheVariants.{Header}
-use Rattle.presentation_text.proofs.DocumentFormsLines.{header_counted, header_missing, header_passed, line_fails}
-use Rattle.presentation_text.proofs.DocumentFormsRest.{rest_behind, rest_itself}
+use Rattle.presentation_text.proofs.DocumentReadingsLines.{header_counted, header_missing, header_passed, line_fails}
+use Rattle.presentation_text.proofs.DocumentReadingsRest.{rest_behind, rest_itself}
 use Rattle.presentation_text.proofs.presentations.skip_header.Goals as goal
 
 pub loop-line-init : goal.loop-line-init

@@ -1,4 +1,4 @@
-use Rattle.presentation_text.proofs.ElementFormsSums.{over-push, joins, never_differs}
+use Rattle.presentation_text.proofs.ElementReadingsSums.{over-push, joins, never_differs}
 use Rattle.presentation_text.proofs.terms.add.Goals as goal
 
 pub unreachable-requires : goal.unreachable-requires

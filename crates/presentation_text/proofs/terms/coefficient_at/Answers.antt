@@ -1,5 +1,5 @@
 use Rattle.std.proofs.Common.{◌≡◌, ◌+◌, refl, arith}
-use Rattle.presentation_text.proofs.ElementFormsRead.{drop-behind_one}
+use Rattle.presentation_text.proofs.ElementReadingsRead.{drop-behind_one}
 use Rattle.presentation_text.proofs.terms.coefficient_at.Goals as goal
 
 pub returns-then-has_mark-clause-behind : goal.returns-then-has_mark-clause-behind

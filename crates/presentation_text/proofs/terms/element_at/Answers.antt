@@ -3,9 +3,9 @@ use Rattle.symmetric_sums.specs.Terms.{terms_of}
 use Rattle.presentation_text.specs.Elements as elements
 use Rattle.presentation_text.specs.ElementReadings as spec
 use Rattle.presentation_text.specs.TreeReadings.{demands_of}
-use Rattle.presentation_text.proofs.TreeFormsPlaces.{stops-on}
-use Rattle.presentation_text.proofs.ElementFormsRead.{given_on}
-use Rattle.presentation_text.proofs.ElementFormsWhole.{nothing-read, element-stops, element-reads}
+use Rattle.presentation_text.proofs.TreeReadingsPlaces.{stops-on}
+use Rattle.presentation_text.proofs.ElementReadingsRead.{given_on}
+use Rattle.presentation_text.proofs.ElementReadingsWhole.{nothing-read, element-stops, element-reads}
 use Rattle.presentation_text.proofs.terms.element_at.Goals as goal
 
 pub returns-then-is_nothing-clause-read : goal.returns-then-is_nothing-clause-read

@@ -1,10 +1,10 @@
 use Rattle.std.proofs.Common.{◌≡◌, ◌+◌, Some, None, drop, length, sym, ◌∙◌, subst, refl}
 use Rattle.presentation_text.specs.ElementReadings as spec
 use Rattle.presentation_text.specs.TreeReadings.{demands_of}
-use Rattle.presentation_text.proofs.TreeFormsPlaces.{stops-on}
-use Rattle.presentation_text.proofs.ElementFormsRead.{given_on}
-use Rattle.presentation_text.proofs.ElementFormsSums.{over-fits}
-use Rattle.presentation_text.proofs.ElementFormsFurther.{way-start, way-stops, way-step, way-ends}
+use Rattle.presentation_text.proofs.TreeReadingsPlaces.{stops-on}
+use Rattle.presentation_text.proofs.ElementReadingsRead.{given_on}
+use Rattle.presentation_text.proofs.ElementReadingsSums.{over-fits}
+use Rattle.presentation_text.proofs.ElementReadingsFurther.{way-start, way-stops, way-step, way-ends}
 use Rattle.presentation_text.proofs.terms.further_at.Goals as goal
 
 pub loop-negative-init : goal.loop-negative-init

@@ -1,7 +1,7 @@
 use Rattle.std.proofs.Common.{◌-◌, length}
 use Rattle.presentation_text.specs.ElementReadings.{IsUnderWay}
 use Rattle.presentation_text.specs.TreeReadings.{demands_of}
-use Rattle.presentation_text.proofs.ElementFormsFurther.{OnTheWay}
+use Rattle.presentation_text.proofs.ElementReadingsFurther.{OnTheWay}
 use Rattle.presentation_text.proofs.terms.further_at.Given as goal
 
 abbrev pub invariant-loop-negative : goal.invariant-loop-negative

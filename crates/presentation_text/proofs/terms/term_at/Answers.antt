@@ -1,8 +1,8 @@
 use Rattle.std.proofs.Common.{drop}
 use Rattle.presentation_text.specs.ElementReadings as spec
 use Rattle.presentation_text.specs.TreeReadings.{whole_tree_in}
-use Rattle.presentation_text.proofs.TreeFormsPlaces.{stops-on}
-use Rattle.presentation_text.proofs.ElementFormsRead.{given_on, term-stops, term-reads, term-labelled, term-arity}
+use Rattle.presentation_text.proofs.TreeReadingsPlaces.{stops-on}
+use Rattle.presentation_text.proofs.ElementReadingsRead.{given_on, term-stops, term-reads, term-labelled, term-arity}
 use Rattle.presentation_text.proofs.terms.term_at.Goals as goal
 
 pub returns-in_err-tree-clause-read : goal.returns-in_err-tree-clause-read

@@ -13,9 +13,9 @@ use Rattle.presentation_text.specs.declared.trees.TreeRead.{TreeRead}
 use Rattle.presentation_text.specs.Readings.{misfit, StopsAs}
 use Rattle.presentation_text.specs.TreeReadings.{input_in, node_in, tree_in, index_of, GivesInput}
 use Rattle.presentation_text.proofs.TreeTokens.{arity_in, arity_in-get, arity_in-least}
-use Rattle.presentation_text.proofs.LineFormsStops.{part_stops}
-use Rattle.presentation_text.proofs.TreeFormsPlaces.{stops-misfit, stops-end, fault-at}
-use Rattle.presentation_text.proofs.TreeFormsSteps as steps
+use Rattle.presentation_text.proofs.LineReadingsStops.{part_stops}
+use Rattle.presentation_text.proofs.TreeReadingsPlaces.{stops-misfit, stops-end, fault-at}
+use Rattle.presentation_text.proofs.TreeReadingsSteps as steps
 use Rattle.presentation_text.proofs.trees.+read.Goals as goal
 
 pub input_within-returns-then-has_mark-clause-read :

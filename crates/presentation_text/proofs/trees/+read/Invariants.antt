@@ -1,7 +1,7 @@
 use Rattle.std.proofs.Common.{◌+◌, ◌*◌, map}
 use Rattle.labelled_trees.specs.Meaning.{tree_of}
 use Rattle.presentation_text.specs.TreeReadings.{tree_in}
-use Rattle.presentation_text.proofs.TreeFormsSteps.{IsReadSoFar}
+use Rattle.presentation_text.proofs.TreeReadingsSteps.{IsReadSoFar}
 use Rattle.presentation_text.proofs.trees.+read.Given as goal
 
 abbrev pub decreases-tree_within : goal.decreases-tree_within

@@ -2,8 +2,8 @@ use Rattle.std.proofs.Common.{◌≡◌, Err, Bool, drop, length, ap, sym, ◌�
 use Rattle.presentation_text.specs.declared.kinds.DocKind.TheVariants.{InputCount}
 use Rattle.presentation_text.specs.Readings.{GivesBehind}
 use Rattle.presentation_text.specs.TreeReadings.{before_in}
-use Rattle.presentation_text.proofs.TreeFormsPlaces.{gives-fault}
-use Rattle.presentation_text.proofs.TreeFormsSteps.{before_in-closed, before_in-mark}
+use Rattle.presentation_text.proofs.TreeReadingsPlaces.{gives-fault}
+use Rattle.presentation_text.proofs.TreeReadingsSteps.{before_in-closed, before_in-mark}
 use Rattle.presentation_text.proofs.trees.before_input.Goals as goal
 
 pub returns-then-has_mark : goal.returns-then-has_mark

@@ -2,8 +2,8 @@ use Rattle.std.proofs.Common.{drop, sym, ◌∙◌, subst}
 use Rattle.presentation_text.specs.declared.kinds.DocKind.TheVariants.{InputCount}
 use Rattle.presentation_text.specs.Readings.{GivesBehind}
 use Rattle.presentation_text.specs.TreeReadings.{close_in}
-use Rattle.presentation_text.proofs.TreeFormsPlaces.{gives-fault}
-use Rattle.presentation_text.proofs.TreeFormsSteps.{close_in-more, close_in-mark}
+use Rattle.presentation_text.proofs.TreeReadingsPlaces.{gives-fault}
+use Rattle.presentation_text.proofs.TreeReadingsSteps.{close_in-more, close_in-mark}
 use Rattle.presentation_text.proofs.trees.behind_inputs.Goals as goal
 
 pub returns-then-has_mark : goal.returns-then-has_mark

@@ -2,8 +2,8 @@ use Rattle.std.proofs.Common.{◌≡◌, ◌≤◌, ◌-◌, suc, Err, Some, Non
 use Rattle.labelled_trees.specs.Meaning.{tree_of}
 use Rattle.presentation_text.specs.Readings.{first_row}
 use Rattle.presentation_text.specs.TreeReadings.{tree_in, whole_tree_in, against}
-use Rattle.presentation_text.proofs.TreeFormsPlaces.{stops-on, tree-fault, tree-handed_on}
-use Rattle.presentation_text.proofs.TreeFormsSteps.{whole-stops, whole-refused, whole-accepted}
+use Rattle.presentation_text.proofs.TreeReadingsPlaces.{stops-on, tree-fault, tree-handed_on}
+use Rattle.presentation_text.proofs.TreeReadingsSteps.{whole-stops, whole-refused, whole-accepted}
 use Rattle.presentation_text.proofs.trees.demanded_tree_at.Goals as goal
 
 pub returns-in_err-found-clause-read : goal.returns-in_err-found-clause-read

@@ -1,6 +1,6 @@
 use Rattle.std.proofs.Common.{◌≡◌, None, ap, sym, ◌∙◌}
 use Rattle.presentation_text.specs.TreeReadings.{index_of}
-use Rattle.presentation_text.proofs.TreeFormsSteps.{index-none, index-some}
+use Rattle.presentation_text.proofs.TreeReadingsSteps.{index-none, index-some}
 use Rattle.presentation_text.proofs.trees.generator_named.Goals as goal
 
 pub returns-in_err-generator-clause-index : goal.returns-in_err-generator-clause-index

@@ -1,6 +1,6 @@
 use Rattle.std.proofs.Common.{◌∙◌}
 use Rattle.labelled_trees.specs.Meaning.{tree_of}
-use Rattle.presentation_text.proofs.TreeFormsLeaves.{numbered-tested}
+use Rattle.presentation_text.proofs.TreeReadingsLeaves.{numbered-tested}
 use Rattle.presentation_text.proofs.trees.is_numbered.Goals as goal
 
 pub returns : goal.returns

@@ -3,8 +3,8 @@ use Rattle.symmetric_sums.specs.Terms.{FitsOver}
 use Rattle.symmetric_trees.specs.Generators.{IsTable}
 use Rattle.presentation_text.specs.DraftReadings.{AskFits}
 use Rattle.presentation_text.specs.declared.document.Ask.{Ask}
-use Rattle.presentation_text.proofs.LineFormsStops.{none_hold}
-use Rattle.presentation_text.proofs.LineFormsTables.{table-empty}
+use Rattle.presentation_text.proofs.LineReadingsStops.{none_hold}
+use Rattle.presentation_text.proofs.LineReadingsTables.{table-empty}
 use Rattle.presentation_text.proofs.draft.Draft.new.Goals as goal
 
 pub returns-clause-sound : goal.returns-clause-sound

@@ -7,8 +7,8 @@ use Rattle.presentation_text.specs.Readings.{Fault, ◌>>=◌, first_row, number
 use Rattle.presentation_text.specs.declared.kinds.DocKind.TheVariants.{PartsOut, Syntax}
 use Rattle.presentation_text.specs.declared.lexing.Token.{Token}
 use Rattle.presentation_text.specs.declared.lexing.Token.TheVariants.{Word, Number}
-use Rattle.presentation_text.proofs.LineFormsNumbers.{below, not_below}
-use Rattle.presentation_text.proofs.LineFormsRead.{both_read, not_refused, number_read, one_value, word_read}
+use Rattle.presentation_text.proofs.LineReadingsNumbers.{below, not_below}
+use Rattle.presentation_text.proofs.LineReadingsRead.{both_read, not_refused, number_read, one_value, word_read}
 
 -- A part that was read: two tokens, and a size that fits.
 pub record IsPartRead (arity sum : ℕ) (ts : List Token) (x : Part × List Token) : Type 0 where

@@ -24,7 +24,7 @@ use Rattle.presentation_text.specs.Readings.{Fault, Reading, ◌>>=◌, is_mark,
 use Rattle.presentation_text.specs.TreeReadings.{Inside, next_index, index_of, begins_with, before_in, close_in, input_in, row_in, leaf_in, node_in, begun_in, tree_in, against, whole_tree_in, IsTreeRead}
 use Rattle.std.proofs.lemmas.Bool.Decides.{nat_tests}
 use Rattle.presentation_text.proofs.TreeTokens.{arity_in}
-use Rattle.presentation_text.proofs.TreeFormsPlaces.{stops-on}
+use Rattle.presentation_text.proofs.TreeReadingsPlaces.{stops-on}
 
 -- ---- names
 

@@ -10,8 +10,8 @@ use Rattle.presentation_text.specs.declared.trees.Demands.{Demands}
 use Rattle.presentation_text.specs.Readings.{Fault, Reading, ◌>>=◌}
 use Rattle.presentation_text.specs.Elements.{Written, written_sum}
 use Rattle.presentation_text.specs.ElementReadings.{behind_one, sign, term_in, further_in, written, IsTermRead, GoesOn}
-use Rattle.presentation_text.proofs.ElementFormsRead.{drop-behind_one}
-use Rattle.presentation_text.proofs.ElementFormsSums.{said-append}
+use Rattle.presentation_text.proofs.ElementReadingsRead.{drop-behind_one}
+use Rattle.presentation_text.proofs.ElementReadingsSums.{said-append}
 
 -- the terms that are read, behind others
 abbrev pub behind_terms : List Written → Reading (List Written) → Reading (List Written)

@@ -14,9 +14,9 @@ use Rattle.symmetric_trees.specs.declared.generators.GenFail.TheVariants.{NameTa
 use Rattle.presentation_text.specs.declared.kinds.DocKind.TheVariants as kind
 use Rattle.presentation_text.specs.declared.lexing.Token.{Token}
 use Rattle.presentation_text.specs.declared.lexing.Token.TheVariants.{Word, Number}
-use Rattle.presentation_text.proofs.LineFormsNumbers.{arity_told, not_at_most_told, not_below_told, not_false_told, size_told}
-use Rattle.presentation_text.proofs.LineFormsParts.{part_read}
-use Rattle.presentation_text.proofs.LineFormsRead.{both_read, neither_refused, not_refused, number_read, one_value, word_read}
+use Rattle.presentation_text.proofs.LineReadingsNumbers.{arity_told, not_at_most_told, not_below_told, not_false_told, size_told}
+use Rattle.presentation_text.proofs.LineReadingsParts.{part_read}
+use Rattle.presentation_text.proofs.LineReadingsRead.{both_read, neither_refused, not_refused, number_read, one_value, word_read}
 use Rattle.presentation_text.proofs.Names.{unknown_free}
 
 -- ---- parts

@@ -14,9 +14,9 @@ use Rattle.presentation_text.specs.Readings.{Fault, Reading, ◌>>=◌}
 use Rattle.presentation_text.specs.TreeReadings.{begins_with, demands_of}
 use Rattle.presentation_text.specs.Elements.{Written, written_sum}
 use Rattle.presentation_text.specs.ElementReadings.{behind_one, is_nothing, term_in, further_in, element_in, IsElementAsRead, GivesElement, written, IsTermRead, GivesFurther}
-use Rattle.presentation_text.proofs.TreeFormsPlaces.{stops-on}
-use Rattle.presentation_text.proofs.ElementFormsRead.{drop-behind_one}
-use Rattle.presentation_text.proofs.ElementFormsSums.{said-append}
+use Rattle.presentation_text.proofs.TreeReadingsPlaces.{stops-on}
+use Rattle.presentation_text.proofs.ElementReadingsRead.{drop-behind_one}
+use Rattle.presentation_text.proofs.ElementReadingsSums.{said-append}
 
 module _ (generators : List Generator) (least : ℕ) (arity : Option ℕ) where
   -- what is read from the first term on

@@ -10,7 +10,7 @@ use Rattle.labelled_trees.specs.Leaves.{leaf_count, occurs}
 use Rattle.labelled_trees.specs.Labelled.{IsNumbered}
 use Rattle.labelled_trees.proofs.Counts.{only_within, leaf_count-numbered}
 use Rattle.presentation_text.specs.TreeReadings.{has_each}
-use Rattle.presentation_text.proofs.LineFormsNumbers.{both_true}
+use Rattle.presentation_text.proofs.LineReadingsNumbers.{both_true}
 
 by_place : (n : ℕ) (t : Tree ℕ) (i : ℕ) → i ≤ suc n → Dec (n < i) → (i ≤ n → occurs i t ≡ 1) → occurs (suc n) t ≡ 1 → occurs i t ≡ 1
 by_place n t i b (yes l) before last = let same : suc n ≡ i = omega arith in subst (λ j. occurs j t ≡ 1) same last

@@ -17,8 +17,8 @@ use Rattle.presentation_text.specs.declared.trees.TreeRead.{TreeRead}
 use Rattle.presentation_text.specs.Readings.{Fault}
 use Rattle.presentation_text.specs.TreeReadings.{has_each, differs, tree_in, whole_tree_in, IsTreeRead}
 use Rattle.presentation_text.specs.ElementReadings.{behind_one, coefficient, behind_coefficient, term_in, IsTermRead}
-use Rattle.presentation_text.proofs.TreeFormsLeaves.{numbered-had}
-use Rattle.presentation_text.proofs.TreeFormsSteps.{judged}
+use Rattle.presentation_text.proofs.TreeReadingsLeaves.{numbered-had}
+use Rattle.presentation_text.proofs.TreeReadingsSteps.{judged}
 use Rattle.presentation_text.proofs.TreesAcceptedTrees.{NoneOfThree, bound, none_held}
 use Rattle.presentation_text.proofs.TreesAccepted.{unlike_leaves, same_arity}
 
