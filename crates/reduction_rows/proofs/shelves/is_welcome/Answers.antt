@@ -1,4 +1,4 @@
-use Rattle.std.proofs.Common.{◌≤◌, arith}
+use Rattle.std.proofs.Common.{arith}
 use Rattle.reduction_rows.proofs.shelves.is_welcome.Goals as goal
 
 pub returns : goal.returns
