@@ -27,12 +27,10 @@ fn listing(alloc: Global, document: &Document, store: &mut Store) -> Result<Vec<
     let labels = labels_of(alloc, &document.gens)?;
     let trees = all_trees(alloc, &labels, 3)?;
     let ids = put_all(alloc, store, trees.as_slice())?;
-    match ids.as_slice() {
-        [first, ..] => {
-            let _view = store.node(*first);
-        }
-        [] => return Err(RowFail::Refused),
-    }
+    let [first, ..] = ids.as_slice() else {
+        return Err(RowFail::Refused);
+    };
+    let _view = store.node(*first);
     Ok(ids)
 }
 

@@ -158,9 +158,9 @@ fn write_step(
     requires room { HaveRoom element.now.reducers 16 }
     requires host { host < length store.old }
 {
+    let mut parts = vec![in alloc; TreeId::numbered(0); ROOM]?;
     let mut found = Items::new(alloc);
     let mut kept = Items::new(alloc);
-    let mut parts = vec![in alloc; TreeId::numbered(0); ROOM]?;
     let tail = step(
         store,
         alloc,

@@ -43,9 +43,9 @@ fn gather_all(
     ensures held { OnOk result (All (λ id. id < length store.new) ids.new) }
     ensures places { OnOk result (ArePlaces places.new ids.new) }
 {
+    let mut parts = vec![in alloc; TreeId::numbered(0); ROOM]?;
     let mut found = Items::new(alloc);
     let mut kept = Items::new(alloc);
-    let mut parts = vec![in alloc; TreeId::numbered(0); ROOM]?;
     let tails = gather(
         store,
         alloc,

@@ -14,10 +14,13 @@ use std::alloc::Global;
 fn is_welcome(labels: &Labels, tree: &STree) -> bool
     ensures { IsTrue result → (n : ℕ) × (n ≤ 9) × IsShuffleTree (arity_in labels.now) n tree.now }
 {
-    match tree.arity() {
-        Some(arity) => arity <= GREATEST_ARITY && is_over(labels, arity, tree),
-        None => false,
+    let Some(arity) = tree.arity() else {
+        return false;
+    };
+    if arity > GREATEST_ARITY {
+        return false;
     }
+    is_over(labels, arity, tree)
 }
 
 // The words of the leaves of a key, each in a line, and its leaf row.

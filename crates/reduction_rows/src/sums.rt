@@ -64,18 +64,20 @@ fn are_terms(labels: &Labels, prime: u32, terms: &[(u32, STree)]) -> bool
     are_over(labels, prime, arity, terms)
 }
 
+// The term of a residue and a tree.
+fn term_of(alloc: Global, coef: &String, tree: &String) -> Result<(u32, STree), RowFail> {
+    let coef = number_of(coef)?;
+    Ok((coef, shuffle_of(alloc, tree)?))
+}
+
 // The terms that words spell: for each a residue and a tree.
 fn spelled(alloc: Global, words: &[String]) -> Result<Items<(u32, STree)>, RowFail> {
+    if words.len() % 2 == 1 {
+        return Err(RowFail::Refused);
+    }
     let mut terms = Items::new(alloc);
-    let mut coef = None;
-    for word in words {
-        coef = match coef {
-            None => Some(number_of(word)?),
-            Some(coef) => {
-                terms.push((coef, shuffle_of(alloc, word)?))?;
-                None
-            }
-        };
+    for at in 0..words.len() / 2 {
+        terms.push(term_of(alloc, &words[2 * at], &words[2 * at + 1])?)?;
     }
     Ok(terms)
 }
