@@ -51,10 +51,10 @@ sizes generator h (suc zero) b = (omega arith, h)
 sizes generator h (suc (suc l)) b = absurd (omega (arith, b))
 
 module _ (trees : List (Tree ℕ)) (id : ℕ) (corolla : Corolla) (is : IsCorolla trees id corolla) where
-  first : Tree ℕ
+  abbrev first : Tree ℕ
   first = leaf corolla.first_leaf
 
-  second : Tree ℕ
+  abbrev second : Tree ℕ
   second = leaf corolla.second_leaf
 
   words_at : (labels : List Label) (n : ℕ) → AreWordsOf trees labels (entry (each_of corolla.first corolla.second) n) (entry (each_of (corolla.first_leaf ∷ []) (corolla.second_leaf ∷ [])) n)
@@ -90,8 +90,8 @@ module _ (trees : List (Tree ℕ)) (id : ℕ) (corolla : Corolla) (is : IsCoroll
   by_ids P l h = subst (λ t. P (node l (row (t ∷ tree_at trees corolla.second ∷ [])))) (sym is.first) (subst (λ t. P (node l (row (first ∷ t ∷ [])))) (sym is.second) h)
 
   short : (generator l : ℕ) → l < 2 → length (spelling (both_labels generator) (node l (row (first ∷ second ∷ [])))) ≤ 25
-  short generator zero h = omega arith
-  short generator (suc zero) h = omega arith
+  short generator zero h = let three : length (spelling (both_labels generator) (node 0 (row (first ∷ second ∷ [])))) ≡ 3 = refl in omega (arith, three)
+  short generator (suc zero) h = let three : length (spelling (both_labels generator) (node 1 (row (first ∷ second ∷ [])))) ≡ 3 = refl in omega (arith, three)
   short generator (suc (suc l)) h = absurd (omega (arith, h))
 
   numbers : (generator l : ℕ) → l < 2 → All (λ i. (0 < i) × (i ≤ 2)) (word_of (both_labels generator) l)

@@ -125,6 +125,53 @@ fn entry_of(
     )?)
 }
 
+// A shelf for the labels of the document.
+fn shelf_of(alloc: Global, document: &Document) -> Result<Shelf, RowFail>
+    ensures labels { IfOk result (λ shelf. (l : ℕ) → arity_in shelf.labels l ≡ inputs_of (generators_of document.now.gens) l) }
+    ensures most { IfOk result (λ shelf. shelf.most ≡ 9) }
+{
+    let labels = labels_of(alloc, &document.gens)?;
+    Ok(Shelf::new(alloc, &labels, MOST_LEAVES)?)
+}
+
+// The same entry, where so many times the first entry is subtracted at a place of the tree of the second question.
+fn made(
+    alloc: Global,
+    document: &Document,
+    log: &Log,
+    shelf: &mut Shelf,
+    factors: (u32, u32),
+    vertices: &[u32],
+) -> Result<Entry, RowFail>
+    requires field { log.now.field ≡ document.now.field }
+    requires table { log.now.gens ≡ document.now.gens }
+    requires factor { factors.0 < log.now.field }
+    requires labels { (l : ℕ) → arity_in shelf.old.labels l ≡ inputs_of (generators_of document.now.gens) l }
+    requires most { shelf.old.most ≡ 9 }
+{
+    let (factor, coef) = factors;
+    let step = cofactor(alloc, document, shelf, coef, vertices)?;
+    entry_of(alloc, document, log, shelf, factor, &[step])
+}
+
+// Writes that entry over this log.
+fn write_over(
+    alloc: Global,
+    document: &Document,
+    log: &Log,
+    factors: (u32, u32),
+    vertices: &[u32],
+    out: &mut Vec<u8>,
+) -> Result<(), RowFail>
+    requires field { log.now.field ≡ document.now.field }
+    requires table { log.now.gens ≡ document.now.gens }
+    requires factor { factors.0 < log.now.field }
+{
+    let mut shelf = shelf_of(alloc, document)?;
+    let made = made(alloc, document, log, &mut shelf, factors, vertices)?;
+    Ok(write_entry(&made, out)?)
+}
+
 /// The entry for the element of the first question: the first relation, so many times, less so many times the first entry at a
 /// place of the tree of the second question. The numbers are those two factors and the vertices of the place.
 pub fn entry(
@@ -142,8 +189,5 @@ pub fn entry(
         return Err(RowFail::Refused);
     }
     let log = log_of(alloc, document)?;
-    let mut shelf = Shelf::new(alloc, &labels_of(alloc, &document.gens)?, MOST_LEAVES)?;
-    let step = cofactor(alloc, document, &mut shelf, *coef, vertices)?;
-    let made = entry_of(alloc, document, &log, &shelf, *factor, &[step])?;
-    Ok(write_entry(&made, out)?)
+    write_over(alloc, document, &log, (*factor, *coef), vertices, out)
 }

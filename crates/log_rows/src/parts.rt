@@ -25,14 +25,13 @@ fn part_below(unit: u16, own: u32, others: u32) -> Result<Part, RowFail>
 fn parts_below(alloc: Global, unit: u16, numbers: &[u32]) -> Result<Vec<Part>, RowFail>
     ensures below { IfOk result (λ parts. All (BothBelow unit) parts.items) }
 {
+    if numbers.len() % 2 == 1 {
+        return Err(RowFail::Refused);
+    }
     let mut parts = Vec::new(alloc);
-    let mut left = numbers;
-    for _ in 0..numbers.len() {
-        let [own, others, further @ ..] = left else {
-            break;
-        };
-        parts.push(part_below(unit, *own, *others)?)?;
-        left = further;
+    for at in 0..numbers.len() / 2 {
+        let part = part_below(unit, numbers[2 * at], numbers[2 * at + 1])?;
+        parts.push(part)?;
     }
     Ok(parts)
 }

@@ -2,7 +2,7 @@ ghost use Rattle.std.specs.Prelude.{◌≡◌, ◌<◌, ◌∷◌, [], ℕ, List
 ghost use Rattle.std.specs.List.{All};
 ghost use Rattle.labelled_trees.specs.Trees.{Tree, leaf};
 ghost use Rattle.shuffle_insertions.specs.ShuffleTrees.{IsShuffle};
-ghost use Rattle.tree_store.specs.Stores.{tree_at};
+ghost use Rattle.tree_store.specs.Stores.{IsStore, tree_at};
 ghost use Rattle.normal_listing.specs.Vertices.{IsShuffleLead};
 ghost use Rattle.log_rows.specs.TwoLeaves.{AreTwoLeaves, HasCorolla, IsCorolla, both_labels, both_parts, each_of};
 
@@ -49,6 +49,7 @@ fn leaf_of(store: &Store, id: TreeId) -> Result<u8, RowFail>
 fn corolla_of(store: &Store, id: TreeId) -> Result<Corolla, RowFail>
     requires held { id < length store.now }
     ensures corolla { IfOk result (IsCorolla store.now id) }
+    ensures store { IsStore store.now }
 {
     match store.node(id) {
         NodeView::Node(label, [first, second]) => Ok(Corolla {
@@ -121,12 +122,14 @@ fn labels_of(alloc: Global, generator: u8) -> Result<Vec<Label>, AllocError>
     ensures labels { IfOk result (λ labels. labels.items ≡ both_labels generator) }
 {
     let mut labels = Vec::new(alloc);
-    for order in [[1, 2], [2, 1]] {
-        labels.push(Label {
-            generator,
-            order: Items::from_slice(alloc, &order)?,
-        })?;
-    }
+    labels.push(Label {
+        generator,
+        order: Items::from_slice(alloc, &[1, 2])?,
+    })?;
+    labels.push(Label {
+        generator,
+        order: Items::from_slice(alloc, &[2, 1])?,
+    })?;
     Ok(labels)
 }
 

@@ -101,7 +101,7 @@ fn iterate(
 ) -> Result<(), RowFail> {
     let words = words_of(alloc, table, given)?;
     let mut trees = NormalTrees::new(alloc, table, &words);
-    for _ in 0..=given.len() {
+    for _at in 0..=given.len() {
         take(&mut trees, out)?;
     }
     Ok(())
