@@ -10,10 +10,10 @@ use crate::logs::log_of;
 use arity_completion::{Start, entry_for};
 use cofactor_log::{Entry, Log};
 use division::Cofactor;
-use presentation_text::{Document, write_number};
+use presentation_text::{Document, GREATEST_ARITY, write_number};
 use rows::{
-    MOST_LEAVES, RowFail, end_line, end_terms, shuffle_terms, shuffle_tree, vertices_of,
-    write_next, write_plain, write_text,
+    RowFail, end_line, end_terms, shuffle_terms, shuffle_tree, vertices_of, write_next,
+    write_plain, write_text,
 };
 use shuffle_passage::labels_of;
 use shuffle_sums::Shelf;
@@ -78,7 +78,7 @@ fn cofactor(
 {
     let host = shuffle_tree(alloc, document, 1)?;
     match host.arity() {
-        Some(leaves) if leaves <= MOST_LEAVES => {}
+        Some(leaves) if leaves <= GREATEST_ARITY => {}
         _ => return Err(RowFail::Refused),
     }
     let Some(place) = Place::of(alloc, &host, &vertices_of(alloc, vertices)?)? else {
@@ -131,7 +131,7 @@ fn shelf_of(alloc: Global, document: &Document) -> Result<Shelf, RowFail>
     ensures most { IfOk result (λ shelf. shelf.most ≡ 9) }
 {
     let labels = labels_of(alloc, &document.gens)?;
-    Ok(Shelf::new(alloc, &labels, MOST_LEAVES)?)
+    Ok(Shelf::new(alloc, &labels, GREATEST_ARITY)?)
 }
 
 // The same entry, where so many times the first entry is subtracted at a place of the tree of the second question.

@@ -10,11 +10,9 @@ mod words;
 
 use calls::LogCalls;
 use outside_io::{RealSink, RealSource, read_all, write_all};
+use presentation_text::MOST_BYTES;
 use rows::run_all;
 use std::process::ExitCode;
-
-// The most bytes of all rows.
-const MOST_BYTES: u64 = 1_048_576;
 
 fn main(rt: HostRuntime) -> ExitCode {
     let alloc = rt.alloc();
