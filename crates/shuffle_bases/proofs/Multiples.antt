@@ -1,5 +1,5 @@
 -- The premise on small common multiples by vertices gives that by contexts.
-use Rattle.std.proofs.Common.{◌≡◌, ℕ, suc, ◌≤◌, List, [], ◌∷◌, refl, sym, ◌∙◌, ap, arith, subst, inl, inr, ◌⊎◌}
+use Rattle.std.proofs.Common.{◌≡◌, ℕ, suc, List, [], ◌∷◌, refl, sym, ◌∙◌, ap, arith, subst, inl, inr, ◌⊎◌}
 use mathlib.Core.Path.{ap₂}
 use mathlib.Core.List.{◌++◌}
 use Rattle.modular_sums.specs.Lists.{Mem}
@@ -8,28 +8,24 @@ use Rattle.shuffle_insertions.specs.Orders.{IsTreeOrder}
 use Rattle.shuffle_bases.specs.Elements.{Element, Setting, IsLess, AreMonic}
 use Rattle.shuffle_bases.specs.Elements.{inserted, value_of, s_element, InOrder}
 use Rattle.shuffle_bases.specs.Reductions.{ReducesBelow, SElementsReduce}
-use Rattle.shuffle_places.specs.Places.{IsPlace}
-use Rattle.shuffle_places.proofs.Covers.{self, union_covers, numbers_fill, ctx_covers, fill_one, root_mem}
-use Rattle.shuffle_places.proofs.Places.{place_of_cut}
+use Rattle.shuffle_places.proofs.Covers.{fill_one}
+use Rattle.shuffle_places.proofs.Overlays.{turned as turned_overlap}
+use Rattle.shuffle_places.proofs.SmallOverlaps.{overlap_of_parts}
+use Rattle.shuffle_insertions.specs.ShuffleTrees.{IsShuffle}
 use Rattle.shuffle_bases.proofs.Placed.{placed, placed_host, placed_value, value_inserted, turned, Placed, host, value, set_of, Meets, IsSmall, SmallMeet, lead_valid, lead_node}
 use Rattle.std.specs.declared.cmp.Ordering.TheVariants.{Less as LessIs}
 use Rattle.std.specs.Ordering.{nat_cmp}
 use Rattle.std.specs.Cmp.Lexicographic.{slice_cmp}
-use Rattle.labelled_trees.specs.Trees.{Tree, leaf, node, graft, IsNode, vertices}
+use Rattle.labelled_trees.specs.Trees.{Tree, leaf, node, graft, IsNode}
 use Rattle.labelled_trees.specs.Contexts.{Ctx, hole, inside, fill, graft_ctx, graft_row_ctx}
-use Rattle.labelled_trees.specs.Leaves.{occurs}
 use Rattle.shuffle_places.specs.Cuts.{numbers, numbers_row, start, start_row}
 use Rattle.shuffle_places.specs.Multiples.{IsMultiple, IsOverlap}
 use Rattle.modular_sums.specs.Sums.{Same, scale, expand, moved}
 use Rattle.modular_sums.proofs.Sums.{expand-moved, AllTerms-moved}
 use Rattle.modular_sums.proofs.Images.{AllTerms-imp}
-use Rattle.labelled_trees.proofs.Grafts.{graft_assoc}
 use Rattle.labelled_trees.proofs.Contexts.{graft-fill}
 use Rattle.shuffle_insertions.proofs.Comparing.{less_nat, then_first}
-use Rattle.shuffle_insertions.proofs.LabelSums.{once_of}
-use Rattle.shuffle_places.proofs.Vertices.{In}
 use Rattle.shuffle_places.proofs.PatternSets.{start_row_in}
-use Rattle.shuffle_places.proofs.Frames.{numbers-graft, cut_of_slot}
 
 pub in_order_self : (g : Element) (l : List Element) → Mem g l → InOrder g g l
 in_order_self g [] m = absurd m
@@ -49,8 +45,11 @@ in_order_total g h (x ∷ l) (inr m) (inr n) = go (in_order_total g h l m n)
 module _ (base : Setting) (basis : AreMonic base) (order : IsTreeOrder base.arity base.compare) where
   -- the structural form gives the vertex form
   module _ (m : ℕ) (i j : Placed base m) (small : IsSmall base m i j) where
-    first_set : set_of i ≡ numbers i.at.parts 1 (fill small.front small.part)
-    first_set = ap₂ (λ c x. numbers i.at.parts (start 1 c) x) small.at_root small.lead_is
+    at_the_root : set_of i ≡ numbers i.at.parts 1 i.of.lead
+    at_the_root = ap (λ c. numbers i.at.parts (start 1 c) i.of.lead) small.at_root
+
+    host_is : host i ≡ graft i.of.lead i.at.parts
+    host_is = ap (λ c. fill c (graft i.of.lead i.at.parts)) small.at_root
 
     second_set : set_of j ≡ numbers j.at.parts (start 1 (graft_ctx small.front i.at.parts)) j.of.lead
     second_set = ap (λ c. numbers j.at.parts (start 1 c) j.of.lead) small.second_at
@@ -62,40 +61,13 @@ module _ (base : Setting) (basis : AreMonic base) (order : IsTreeOrder base.arit
     meet = fill_one (graft_ctx small.front i.at.parts) (graft small.part i.at.parts) (graft j.of.lead j.at.parts)
         (sym (graft-fill small.front small.part i.at.parts) ∙ sym whole ∙ small.one_host ∙ ap (λ c. fill c (graft j.of.lead j.at.parts)) small.second_at)
 
-    top : ℕ
-    top = start 1 (graft_ctx small.front i.at.parts)
-
-    covered : (v : ℕ) → Mem v (numbers i.at.parts 1 (fill small.front small.part)) ⊎ In v (start 1 (graft_ctx small.front i.at.parts)) (vertices (graft small.part i.at.parts))
-        → Mem v (set_of i) ⊎ Mem v (set_of j)
-    covered v (inl h) = inl (subst (Mem v) (sym first_set) h)
-    covered v (inr h) = either (union_covers (graft small.part (λ k. leaf (i.at.parts k))) (graft j.of.lead (λ k. leaf (j.at.parts k))) (start 1 (graft_ctx small.front i.at.parts)) v
-        (graft_assoc small.part (λ k. leaf (i.at.parts k)) self ∙ meet ∙ sym (graft_assoc j.of.lead (λ k. leaf (j.at.parts k)) self)) small.covers
-        (subst (λ x. In v (start 1 (graft_ctx small.front i.at.parts)) (vertices x)) (sym (graft_assoc small.part (λ k. leaf (i.at.parts k)) self)) h))
-      where
-        either : Mem v (numbers self (start 1 (graft_ctx small.front i.at.parts)) (graft small.part (λ k. leaf (i.at.parts k))))
-            ⊎ Mem v (numbers self (start 1 (graft_ctx small.front i.at.parts)) (graft j.of.lead (λ k. leaf (j.at.parts k))))
-            → Mem v (set_of i) ⊎ Mem v (set_of j)
-        either (inl g) = inl (subst (Mem v) (sym first_set) (numbers_fill i.at.parts 1 small.front small.part v
-            (subst (Mem v) (numbers-graft small.part i.at.parts self (start 1 (graft_ctx small.front i.at.parts))) g)))
-        either (inr g) = inr (subst (Mem v) (sym second_set) (subst (Mem v) (numbers-graft j.of.lead j.at.parts self (start 1 (graft_ctx small.front i.at.parts))) g))
-
     pub overlap_of : IsOverlap m i.of.lead j.of.lead (host i) (set_of i) (set_of j)
-    overlap_of = record {
-      valid = i.valid;
-      first_at = place_of_cut (host i) (set_of i) i.of.lead (cut_of_slot i.of.arity i.at i.of.lead (lead_valid base basis i.of i.member) i.rises (lead_node base basis i.of i.member));
-      second_at = subst (λ x. IsPlace x (set_of j) j.of.lead) (sym small.one_host) (place_of_cut (host j) (set_of j) j.of.lead
-          (cut_of_slot j.of.arity j.at j.of.lead (lead_valid base basis j.of j.member) j.rises (lead_node base basis j.of j.member)));
-      shared = (
-        start 1 (graft_ctx small.front i.at.parts),
-        subst (Mem (start 1 (graft_ctx small.front i.at.parts))) (sym first_set)
-            (numbers_fill i.at.parts 1 small.front small.part (start 1 (graft_ctx small.front i.at.parts)) (root_mem i.at.parts (start 1 (graft_ctx small.front i.at.parts)) small.part small.shares)),
-        subst (Mem (start 1 (graft_ctx small.front i.at.parts))) (sym second_set)
-            (root_mem j.at.parts (start 1 (graft_ctx small.front i.at.parts)) j.of.lead (lead_node base basis j.of j.member)),
-      );
-      covers = λ v p le. covered v (ctx_covers i.at.parts 1 small.front small.part v
-          (λ k. subst (λ x. occurs k x ≤ 1) small.lead_is (once_of i.of.arity i.of.lead (lead_valid base basis i.of i.member) k)) small.bare
-          (let e : vertices (host i) ≡ vertices (graft (fill small.front small.part) i.at.parts) = ap vertices whole in omega (arith, p, le, e)));
-    }
+    overlap_of = subst (λ t. IsOverlap m i.of.lead j.of.lead t (set_of i) (set_of j)) (sym host_is)
+        (subst (λ l. IsOverlap m i.of.lead j.of.lead (graft i.of.lead i.at.parts) l (set_of j)) (sym at_the_root)
+        (subst (λ l. IsOverlap m i.of.lead j.of.lead (graft i.of.lead i.at.parts) (numbers i.at.parts 1 i.of.lead) l) (sym second_set)
+        (overlap_of_parts m i.of.arity j.of.arity i.of.lead j.of.lead i.at.parts j.at.parts small.front small.part
+        (lead_valid base basis i.of i.member) (lead_valid base basis j.of j.member) (lead_node base basis j.of j.member) small.lead_is small.shares i.rises j.rises
+        (subst (IsShuffle m) host_is i.valid) meet small.covers small.bare)))
 
     first_less : (c : Ctx ℕ) (t : Tree ℕ) (u : Tree ℕ) → IsNode t → IsNode u → (c ≡ hole → ⊥) → slice_cmp nat_cmp (numbers i.at.parts 1 t) (numbers j.at.parts (start 1 (graft_ctx c i.at.parts)) u) ≡ LessIs
     first_less hole t u nt nu f = absurd (f refl)
@@ -135,23 +107,11 @@ module _ (base : Setting) (basis : AreMonic base) (order : IsTreeOrder base.arit
       first_second : IsMultiple m i.of.lead j.of.lead (host i) (set_of i) (set_of j)
       first_second = record { overlap = overlap_of m i j small; ordered = in_order m i j small }
 
-      flip : {P Q : Type 0} → P ⊎ Q → Q ⊎ P
-      flip (inl p) = inr p
-      flip (inr q) = inl q
-
       go : Dec (i.of.lead ≡ j.of.lead) → InOrder i.of j.of base.elements ⊎ InOrder j.of i.of base.elements → Meets base m i j
       go (yes e) b = from_reduced m i j small.one_host
           (rows m le i.of j.of (subst (λ h. InOrder i.of h base.elements) (basis.apart i.of j.of i.member j.member e) (in_order_self i.of base.elements i.member)) (host i) (set_of i) (set_of j) first_second)
       go (no f) (inl b) = from_reduced m i j small.one_host (rows m le i.of j.of b (host i) (set_of i) (set_of j) first_second)
       go (no f) (inr b) = turned base m i j small.one_host (from_reduced m j i (sym small.one_host)
           (subst (λ t. ReducesBelow base m t (s_element base.q j.of i.of t (set_of j) (set_of i))) small.one_host
-          (rows m le j.of i.of b (host i) (set_of j) (set_of i) record {
-            overlap = record {
-              valid = i.valid;
-              first_at = o.second_at;
-              second_at = o.first_at;
-              shared = (o.shared.0, o.shared.2, o.shared.1);
-              covers = λ v p l. flip (o.covers v p l);
-            };
-            ordered = λ e. absurd (f (sym e));
-          })))
+          (rows m le j.of i.of b (host i) (set_of j) (set_of i)
+          record { overlap = turned_overlap m i.of.lead j.of.lead (host i) (set_of i) (set_of j) o; ordered = λ e. absurd (f (sym e)) })))

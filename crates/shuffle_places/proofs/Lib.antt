@@ -21,4 +21,5 @@ pub mod RootLaws
 pub mod RootPlaces
 pub mod Shifts
 pub mod Sizes
+pub mod SmallOverlaps
 pub mod Vertices

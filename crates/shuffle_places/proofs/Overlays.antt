@@ -14,7 +14,7 @@ use Rattle.modular_sums.specs.Lists.{Mem}
 use Rattle.shuffle_places.specs.Multiples.{IsOverlap}
 use Rattle.shuffle_places.specs.Overlays.{shape, shape_row, overlays, overlays_row, shapes_of}
 use Rattle.labelled_trees.proofs.Grafts.{graft_assoc}
-use Rattle.labelled_trees.proofs.Contexts.{node-eq, more-eq, graft-fill, graft_row-fill, compose-hole}
+use Rattle.labelled_trees.proofs.Contexts.{node-eq, more-eq, graft-fill, graft_row-fill, compose-hole, same_ctx, graft_ctx_assoc}
 use Rattle.labelled_trees.proofs.Unions.{Within, within}
 use Rattle.modular_sums.proofs.Lists.{mem_right, mem_map, mem_left, mem_either}
 use Rattle.shuffle_places.proofs.Vertices.{In, numbers_in, numbers_row_in}
@@ -226,6 +226,36 @@ at_top {A = A} (inside n c) h = absurd (no (start_row_low c))
     no : 2 ≤ start_row 2 c → ⊥
     no k = omega arith
 
+mutual
+  -- as many vertices, whatever the leaves are
+  vertices-named : {A B : Type 0} (t : Tree A) (f : A → B) → vertices (graft t (λ a. leaf (f a))) ≡ vertices t
+  vertices-named (leaf a) f = refl
+  vertices-named (node l r) f = ap suc (vertices_row-named r f)
+
+  vertices_row-named : {A B : Type 0} (r : Row A) (f : A → B) → vertices_row (graft_row r (λ a. leaf (f a))) ≡ vertices_row r
+  vertices_row-named none f = refl
+  vertices_row-named (more t r) f = ap₂ (λ m n. m + n) (vertices-named t f) (vertices_row-named r f)
+
+mutual
+  -- the hole's number doesn't depend on the leaves
+  pub start-named : {A B : Type 0} (k : ℕ) (c : Ctx A) (f : A → B) → start k (graft_ctx c (λ a. leaf (f a))) ≡ start k c
+  start-named k hole f = refl
+  start-named k (inside l c) f = start_row-named (suc k) c f
+
+  pub start_row-named : {A B : Type 0} (k : ℕ) (c : RowCtx A) (f : A → B) → start_row k (graft_row_ctx c (λ a. leaf (f a))) ≡ start_row k c
+  start_row-named k (here c r) f = start-named k c f
+  start_row-named k (past t c) f = ap (λ m. start_row (k + m) (graft_row_ctx c (λ a. leaf (f a)))) (vertices-named t f) ∙ start_row-named (k + vertices t) c f
+
+-- The second of two places that hold all vertices lies over the first, which has the root: where it lies, and the shape that this makes.
+pub record LiesOver (tree a b : Tree ℕ) (second : List ℕ) : Type 0 where
+  pub context : Ctx (Unit {0})
+  pub part : Tree (Unit {0})
+  pub first_is : shape a ≡ fill context part
+  pub is_node : IsNode part
+  pub tree_is : shape tree ≡ fill context (union part (shape b))
+  pub rest : List ℕ
+  pub top_is : second ≡ start 1 context ∷ rest
+
 pub standard_shape : (p : Tree (Tree ℕ)) → shape (standard (graft p (λ v. leaf (least v)))) ≡ shape p
 standard_shape p =
     graft_assoc (graft p (λ v. leaf (least v))) (λ i. leaf (suc (below i (graft p (λ v. leaf (least v)))))) (λ a. leaf tt)
@@ -288,34 +318,68 @@ module _ (tree : Tree ℕ) (first second : List ℕ) (a b : Tree ℕ) (p : IsCut
           ∙ bare_shape self (union part q.pattern_at) (union_bare part q.pattern_at (start 1 (graft_ctx front self)) one part_covered)
           ∙ shape_union part q.pattern_at ∙ ap (union (shape part)) (sym (ap shape q.divisor_is ∙ standard_shape q.pattern_at))
 
-      tree_shape : Mem (shape tree) (overlays (shape a) (shape b))
-      tree_shape = subst (λ x. Mem x (overlays (shape a) (shape b)))
-          (sym (ap shape whole_is ∙ ctx_shape front part 1 second all_in second_in ∙ ap (fill (graft_ctx front (λ x. leaf tt))) part_shape))
-          (subst (λ x. Mem (fill (graft_ctx front (λ x. leaf tt)) (union (shape part) (shape b))) (overlays x (shape b)))
-          (sym (ap shape p.divisor_is ∙ standard_shape p.pattern_at ∙ ap shape is ∙ graft-fill front part (λ x. leaf tt)))
-          (at_vertex (graft_ctx front (λ x. leaf tt)) (shape part) (shape b) (node_shape part is_node)))
+      contexts : graft_ctx front shape ≡ graft_ctx front (λ x. leaf tt)
+      contexts = same_ctx front shape (λ x. leaf tt) (graft part shape) (shape (join part))
+          (sym (graft-fill front part shape) ∙ sym (graft_assoc (fill front part) self (λ x. leaf tt)) ∙ ctx_shape front part 1 second all_in second_in)
+
+      starts : start 1 (graft_ctx front self) ≡ start {A = Unit {0}} 1 (graft_ctx front (λ x. leaf tt))
+      starts = sym (start-named 1 (graft_ctx front self) (λ x. tt {0})) ∙ ap (start {A = Unit {0}} 1) (graft_ctx_assoc front self (λ x. leaf tt) ∙ contexts)
+
+      top : (k : ℕ) (x : Tree (Tree ℕ)) → IsNode x → (rest : List ℕ) × (numbers self k x ≡ k ∷ rest)
+      top k (leaf x) n = absurd n
+      top k (node l r) n = (numbers_row self (suc k) r, refl)
+
+      over : LiesOver tree a b second
+      over = record {
+        context = graft_ctx front (λ x. leaf tt);
+        part = shape part;
+        first_is = ap shape p.divisor_is ∙ standard_shape p.pattern_at ∙ ap shape is ∙ graft-fill front part (λ x. leaf tt);
+        is_node = node_shape part is_node;
+        tree_is = ap shape whole_is ∙ ctx_shape front part 1 second all_in second_in ∙ ap (fill (graft_ctx front (λ x. leaf tt))) part_shape;
+        rest = (top (start 1 (graft_ctx front self)) q.pattern_at q.is_node).0;
+        top_is = second_is ∙ (top (start 1 (graft_ctx front self)) q.pattern_at q.is_node).1
+            ∙ ap (λ k. k ∷ (top (start 1 (graft_ctx front self)) q.pattern_at q.is_node).0) starts;
+      }
         where
           node_shape : (x : Tree (Tree ℕ)) → IsNode x → IsNode (shape x)
           node_shape (leaf x) n = absurd n
           node_shape (node l r) n = tt
 
-  pub rooted_shape : Mem (shape tree) (overlays (shape a) (shape b))
-  rooted_shape = go w.either
+  lies_over : LiesOver tree a b second
+  lies_over = go w.either
     where
-      go : ((w.rest ≡ hole) × IsNode w.part) ⊎ ((x : Tree ℕ) × (w.part ≡ leaf x)) → Mem (shape tree) (overlays (shape a) (shape b))
-      go (inl h) = tree_shape w.front w.part w.rest w.is w.hole_is w.inner h.0 h.1
+      go : ((w.rest ≡ hole) × IsNode w.part) ⊎ ((x : Tree ℕ) × (w.part ≡ leaf x)) → LiesOver tree a b second
+      go (inl h) = over w.front w.part w.rest w.is w.hole_is w.inner h.0 h.1
       go (inr h) = absurd (not_hanging w.front w.part w.rest w.is w.hole_is w.inner h.0 h.1)
 
--- each small common multiple has one of the candidate shapes
-pub multiple_shape : (n : ℕ) (a b tree : Tree ℕ) (first second : List ℕ) → IsOverlap n a b tree first second → Mem (shape tree) (shapes_of a b)
-multiple_shape n a b tree first second o = go (o.covers 1 (omega arith) (some_vertex o.shared.0 first_cut o.shared.1))
+-- a place with the root has no context
+rooted : (tree x : Tree ℕ) (l : List ℕ) (p : IsCut tree l x) → Mem 1 l → p.context ≡ hole
+rooted tree x l p m = let i = numbers_in self (start 1 p.context) p.pattern_at 1 (subst (Mem 1) p.set_is m) in at_top p.context i.0
+
+-- where the first place has the root, the second lies over it
+pub second_over_first : (n : ℕ) (a b tree : Tree ℕ) (first second : List ℕ) → IsOverlap n a b tree first second → Mem 1 first → LiesOver tree a b second
+second_over_first n a b tree first second o m =
+    let p = cut_of_place tree first a o.first_at in
+    lies_over tree first second a b p (cut_of_place tree second b o.second_at) o.covers o.shared.0 o.shared.1 o.shared.2 (rooted tree a first p m)
+
+-- the overlap seen from its second place
+pub turned : (n : ℕ) (a b tree : Tree ℕ) (first second : List ℕ) → IsOverlap n a b tree first second → IsOverlap n b a tree second first
+turned n a b tree first second o = record {
+  valid = o.valid;
+  first_at = o.second_at;
+  second_at = o.first_at;
+  shared = (o.shared.0, o.shared.2, o.shared.1);
+  covers = λ v p l. swap (o.covers v p l);
+}
   where
-    first_cut : IsCut tree first a
-    first_cut = cut_of_place tree first a o.first_at
+    swap : {P Q : Type 0} → P ⊎ Q → Q ⊎ P
+    swap (inl p) = inr p
+    swap (inr q) = inl q
 
-    second_cut : IsCut tree second b
-    second_cut = cut_of_place tree second b o.second_at
-
+-- the root is in one of the two places
+pub root_covered : (n : ℕ) (a b tree : Tree ℕ) (first second : List ℕ) → IsOverlap n a b tree first second → Mem 1 first ⊎ Mem 1 second
+root_covered n a b tree first second o = o.covers 1 (omega arith) (some_vertex o.shared.0 (cut_of_place tree first a o.first_at) o.shared.1)
+  where
     some_vertex : (v : ℕ) (p : IsCut tree first a) → Mem v first → 1 ≤ vertices tree
     some_vertex v p m =
         let i = numbers_in self (start 1 p.context) p.pattern_at v (subst (Mem v) p.set_is m) in
@@ -323,15 +387,16 @@ multiple_shape n a b tree first second o = go (o.covers 1 (omega arith) (some_ve
         let e : vertices tree ≡ vertices (fill p.context (join p.pattern_at)) = ap vertices p.host_is in
         omega (arith, i.0, i.1, s.0, s.1, e)
 
-    rooted : (l : List ℕ) (x : Tree ℕ) (p : IsCut tree l x) → Mem 1 l → p.context ≡ hole
-    rooted l x p m = let i = numbers_in self (start 1 p.context) p.pattern_at 1 (subst (Mem 1) p.set_is m) in at_top p.context i.0
+-- so the tree has one of the overlays for its shape
+overlaid : (a b tree : Tree ℕ) (second : List ℕ) → LiesOver tree a b second → Mem (shape tree) (overlays (shape a) (shape b))
+overlaid a b tree second h = subst (λ x. Mem x (overlays (shape a) (shape b))) (sym h.tree_is)
+    (subst (λ x. Mem (fill h.context (union h.part (shape b))) (overlays x (shape b))) (sym h.first_is) (at_vertex h.context h.part (shape b) h.is_node))
 
-    swap : {P Q : Type 0} → P ⊎ Q → Q ⊎ P
-    swap (inl p) = inr p
-    swap (inr q) = inl q
-
+-- each small common multiple has one of the candidate shapes
+pub multiple_shape : (n : ℕ) (a b tree : Tree ℕ) (first second : List ℕ) → IsOverlap n a b tree first second → Mem (shape tree) (shapes_of a b)
+multiple_shape n a b tree first second o = go (root_covered n a b tree first second o)
+  where
     go : Mem 1 first ⊎ Mem 1 second → Mem (shape tree) (shapes_of a b)
-    go (inl m) = mem_left (shape tree) (overlays (shape a) (shape b)) (overlays (shape b) (shape a))
-        (rooted_shape tree first second a b first_cut second_cut o.covers o.shared.0 o.shared.1 o.shared.2 (rooted first a first_cut m))
+    go (inl m) = mem_left (shape tree) (overlays (shape a) (shape b)) (overlays (shape b) (shape a)) (overlaid a b tree second (second_over_first n a b tree first second o m))
     go (inr m) = mem_right (shape tree) (overlays (shape a) (shape b)) (overlays (shape b) (shape a))
-        (rooted_shape tree second first b a second_cut first_cut (λ v p l. swap (o.covers v p l)) o.shared.0 o.shared.2 o.shared.1 (rooted second b second_cut m))
+        (overlaid b a tree first (second_over_first n b a tree second first (turned n a b tree first second o) m))
