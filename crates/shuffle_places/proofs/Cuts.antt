@@ -178,7 +178,7 @@ connected_of {A = A} host set c =
 
 mutual
   -- one number, one vertex
-  one_vertex : {A : Type 0} (k : ℕ) (c d : Ctx A) (x y : Tree A) → IsNode x → IsNode y → fill c x ≡ fill d y → start k c ≡ start k d → (c ≡ d) × (x ≡ y)
+  pub one_vertex : {A : Type 0} (k : ℕ) (c d : Ctx A) (x y : Tree A) → IsNode x → IsNode y → fill c x ≡ fill d y → start k c ≡ start k d → (c ≡ d) × (x ≡ y)
   one_vertex k hole hole x y nx ny e s = (refl, e)
   one_vertex k hole (inside m d) x y nx ny e s = let i = start_row_in (suc k) d y in absurd (omega (arith, i.0, s))
   one_vertex k (inside l c) hole x y nx ny e s = let i = start_row_in (suc k) c x in absurd (omega (arith, i.0, s))
@@ -187,7 +187,7 @@ mutual
       let h = one_vertex_row (suc k) c d x y nx ny q.1 s in
       (ap₂ inside q.0 h.0, h.1)
 
-  one_vertex_row : {A : Type 0} (k : ℕ) (c d : RowCtx A) (x y : Tree A) → IsNode x → IsNode y → fill_row c x ≡ fill_row d y → start_row k c ≡ start_row k d → (c ≡ d) × (x ≡ y)
+  pub one_vertex_row : {A : Type 0} (k : ℕ) (c d : RowCtx A) (x y : Tree A) → IsNode x → IsNode y → fill_row c x ≡ fill_row d y → start_row k c ≡ start_row k d → (c ≡ d) × (x ≡ y)
   one_vertex_row k (here c r) (here d z) x y nx ny e s =
       let q = more-eq (fill c x) (fill d y) r z e in
       let h = one_vertex k c d x y nx ny q.0 s in

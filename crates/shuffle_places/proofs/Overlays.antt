@@ -33,12 +33,12 @@ mutual
       (mem_map (more t) (fill_row c (union x b)) (overlays_row (fill_row c x) b) (at_vertex_row c x b n))
 
 mutual
-  shape_union : {X : Type 0} (p q : Tree X) → shape (union p q) ≡ union (shape p) (shape q)
+  pub shape_union : {X : Type 0} (p q : Tree X) → shape (union p q) ≡ union (shape p) (shape q)
   shape_union (leaf t) q = refl
   shape_union (node l r) (leaf u) = refl
   shape_union (node l r) (node m s) = ap (node l) (shape_union_row r s)
 
-  shape_union_row : {X : Type 0} (r s : Row X) → shape_row (union_row r s) ≡ union_row (shape_row r) (shape_row s)
+  pub shape_union_row : {X : Type 0} (r s : Row X) → shape_row (union_row r s) ≡ union_row (shape_row r) (shape_row s)
   shape_union_row none s = refl
   shape_union_row (more t r) none = refl
   shape_union_row (more t r) (more u s) = ap₂ more (shape_union t u) (shape_union_row r s)
@@ -49,11 +49,11 @@ leaf_shape (node l r) h = absurd h
 
 mutual
   -- where the hanging parts are leaves, the pattern has the shape of the whole
-  bare_shape : {X : Type 0} (s : X → Tree ℕ) (t : Tree X) → AllLeaves t (λ x. IsLeaf (s x)) → shape (graft t s) ≡ shape t
+  pub bare_shape : {X : Type 0} (s : X → Tree ℕ) (t : Tree X) → AllLeaves t (λ x. IsLeaf (s x)) → shape (graft t s) ≡ shape t
   bare_shape s (leaf x) h = leaf_shape (s x) h
   bare_shape s (node l r) h = ap (node l) (bare_shape_row s r h)
 
-  bare_shape_row : {X : Type 0} (s : X → Tree ℕ) (r : Row X) → AllRow r (λ x. IsLeaf (s x)) → shape_row (graft_row r s) ≡ shape_row r
+  pub bare_shape_row : {X : Type 0} (s : X → Tree ℕ) (r : Row X) → AllRow r (λ x. IsLeaf (s x)) → shape_row (graft_row r s) ≡ shape_row r
   bare_shape_row s none h = refl
   bare_shape_row s (more t r) h = ap₂ more (bare_shape s t h.0) (bare_shape_row s r h.1)
 
@@ -228,11 +228,11 @@ at_top {A = A} (inside n c) h = absurd (no (start_row_low c))
 
 mutual
   -- as many vertices, whatever the leaves are
-  vertices-named : {A B : Type 0} (t : Tree A) (f : A → B) → vertices (graft t (λ a. leaf (f a))) ≡ vertices t
+  pub vertices-named : {A B : Type 0} (t : Tree A) (f : A → B) → vertices (graft t (λ a. leaf (f a))) ≡ vertices t
   vertices-named (leaf a) f = refl
   vertices-named (node l r) f = ap suc (vertices_row-named r f)
 
-  vertices_row-named : {A B : Type 0} (r : Row A) (f : A → B) → vertices_row (graft_row r (λ a. leaf (f a))) ≡ vertices_row r
+  pub vertices_row-named : {A B : Type 0} (r : Row A) (f : A → B) → vertices_row (graft_row r (λ a. leaf (f a))) ≡ vertices_row r
   vertices_row-named none f = refl
   vertices_row-named (more t r) f = ap₂ (λ m n. m + n) (vertices-named t f) (vertices_row-named r f)
 
