@@ -1,2 +1,4 @@
 //! Small common multiples of shuffle trees.
 #![tactic(auto)]
+
+mod overlays;
