@@ -1,0 +1,2 @@
+//! Small common multiples of shuffle trees.
+#![tactic(auto)]
