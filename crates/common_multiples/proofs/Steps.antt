@@ -1,13 +1,9 @@
 -- The listed sequences of two chains, leaf by leaf.
-use Rattle.std.proofs.Common.{◌≡◌, ◌≢◌, ℕ, zero, suc, ◌+◌, ◌<◌, ◌≤◌, List, [], ◌∷◌, length, map, refl, sym, ◌∙◌, ap, arith, subst, inl, inr, ◌⊎◌}
-use Rattle.std.specs.Prelude.{slice_index, slice_set}
-use mathlib.Core.List.{◌++◌}
-use native.Mathlib.Decide.{ℕ_discrete, dec_le, dec_lt}
-use Rattle.std.proofs.lemmas.List.{length-set}
+use Rattle.std.proofs.Common.{◌≡◌, ℕ, zero, suc, ◌<◌, ◌≤◌, List, [], ◌∷◌, map, refl, sym, ◌∙◌, ap, arith, subst, inl, inr, ◌⊎◌}
+use native.Mathlib.Decide.{ℕ_discrete, dec_le}
 use Rattle.modular_sums.specs.Lists.{Mem, Distinct, choose}
-use Rattle.modular_sums.proofs.Lists.{tail_same, mem_left, mem_right, mem_either, mem_map, mem_of_map, Distinct-append}
-use Rattle.common_multiples.specs.Merging.{Chains, by_first, by_second, merges, assigned, AreChains, IsMerged}
-use Rattle.common_multiples.proofs.Assigned.{IsLeafList, first_number, number_between, number_taken, numbers_apart, read_back, all_leaves}
+use Rattle.modular_sums.proofs.Lists.{tail_same, mem_left, mem_right, mem_either, mem_map, mem_of_map}
+use Rattle.common_multiples.specs.Merging.{Chains, by_first, by_second, merges, AreChains}
 
 -- ---- choices
 
@@ -72,40 +68,48 @@ module _ (c : Chains) (n : ℕ) (h : AreChains c n) where
 
       go : i ≤ c.m → (d : Dec (c.on_second (c.first i) ≡ 0)) (f : Dec (c.on_second (c.first i) ≡ j))
           → Mem s (choose d (map (λ s. c.first i ∷ s) (merges c left (suc i) j)) (choose f (map (λ s. c.first i ∷ s) (merges c left (suc i) (suc j))) [])) → (b : Begins c n left i j s) × (c.on_first b.head ≡ i)
-      go le (yes e) f m = let r = mem_of_map (λ s. c.first i ∷ s) s (merges c left (suc i) j) m in (record {
-        head = c.first i;
-        rest = r.0;
-        next_i = suc i;
-        next_j = j;
-        is = r.2;
-        step = record { inside = h.first_in i pi le; along_first = inr (h.first_back i pi le, refl); along_second = inl (e, refl) };
-        listed = r.1;
-      }, h.first_back i pi le)
-      go le (no _) (yes e) m = let r = mem_of_map (λ s. c.first i ∷ s) s (merges c left (suc i) (suc j)) m in (record {
-        head = c.first i;
-        rest = r.0;
-        next_i = suc i;
-        next_j = suc j;
-        is = r.2;
-        step = record { inside = h.first_in i pi le; along_first = inr (h.first_back i pi le, refl); along_second = inr (e, refl) };
-        listed = r.1;
-      }, h.first_back i pi le)
+      go le (yes e) f m = let r = mem_of_map (λ s. c.first i ∷ s) s (merges c left (suc i) j) m in (
+        record {
+          head = c.first i;
+          rest = r.0;
+          next_i = suc i;
+          next_j = j;
+          is = r.2;
+          step = record { inside = h.first_in i pi le; along_first = inr (h.first_back i pi le, refl); along_second = inl (e, refl) };
+          listed = r.1;
+        },
+        h.first_back i pi le,
+      )
+      go le (no _) (yes e) m = let r = mem_of_map (λ s. c.first i ∷ s) s (merges c left (suc i) (suc j)) m in (
+        record {
+          head = c.first i;
+          rest = r.0;
+          next_i = suc i;
+          next_j = suc j;
+          is = r.2;
+          step = record { inside = h.first_in i pi le; along_first = inr (h.first_back i pi le, refl); along_second = inr (e, refl) };
+          listed = r.1;
+        },
+        h.first_back i pi le,
+      )
       go le (no _) (no _) m = absurd m
 
   pub second_begins : (left i j : ℕ) (s : List ℕ) → 0 < j → Mem s (by_second c i j (merges c left)) → (b : Begins c n left i j s) × (c.on_first b.head ≡ 0)
   second_begins left i j s pj m =
       let k = in_choice (dec_le j c.k) (choose (ℕ_discrete (c.on_first (c.second j)) 0) (map (λ s. c.second j ∷ s) (merges c left i (suc j))) []) s m in
       let a = in_choice (ℕ_discrete (c.on_first (c.second j)) 0) (map (λ s. c.second j ∷ s) (merges c left i (suc j))) s k.1 in
-      let r = mem_of_map (λ s. c.second j ∷ s) s (merges c left i (suc j)) a.1 in
-      (record {
-        head = c.second j;
-        rest = r.0;
-        next_i = i;
-        next_j = suc j;
-        is = r.2;
-        step = record { inside = h.second_in j pj k.0; along_first = inl (a.0, refl); along_second = inr (h.second_back j pj k.0, refl) };
-        listed = r.1;
-      }, a.0)
+      let r = mem_of_map (λ s. c.second j ∷ s) s (merges c left i (suc j)) a.1 in (
+        record {
+          head = c.second j;
+          rest = r.0;
+          next_i = i;
+          next_j = suc j;
+          is = r.2;
+          step = record { inside = h.second_in j pj k.0; along_first = inl (a.0, refl); along_second = inr (h.second_back j pj k.0, refl) };
+          listed = r.1;
+        },
+        a.0,
+      )
 
   begins : (left i j : ℕ) (s : List ℕ) → 0 < i → 0 < j → Mem s (merges c (suc left) i j) → Begins c n left i j s
   begins left i j s pi pj m = go (mem_either s (by_first c i j (merges c left)) (by_second c i j (merges c left)) m)
