@@ -45,11 +45,11 @@ rises_along on (next {x = x} {s = s} g r) n a t lt h y z (inr p) (inr q) pos les
 
 -- ---- the leaves of a merge
 
-merge_length : {c : Chains} {n left i j : ℕ} {s : List ℕ} → Merge c n left i j s → length s ≡ left
+pub merge_length : {c : Chains} {n left i j : ℕ} {s : List ℕ} → Merge c n left i j s → length s ≡ left
 merge_length none = refl
 merge_length (more k w) = ap suc (merge_length w)
 
-merge_inside : {c : Chains} {n left i j : ℕ} {s : List ℕ} → Merge c n left i j s → (z : ℕ) → Mem z s → (0 < z) × (z ≤ n)
+pub merge_inside : {c : Chains} {n left i j : ℕ} {s : List ℕ} → Merge c n left i j s → (z : ℕ) → Mem z s → (0 < z) × (z ≤ n)
 merge_inside none z m = absurd m
 merge_inside {n = n} (more k w) z (inl e) = subst (λ v. (0 < v) × (v ≤ n)) (sym e) k.inside
 merge_inside (more k w) z (inr m) = merge_inside w z m
@@ -59,7 +59,7 @@ gone : (on : ℕ → ℕ) (i next_i x : ℕ) (s : List ℕ) → Goes (on x) i ne
 gone on i next_i x s (inl e) r m p = omega (arith, e.0)
 gone on i next_i x s (inr e) r m p = let k = not_before on r x m p in omega (arith, k, e.0, e.1)
 
-merge_leaves : {c : Chains} {n left i j : ℕ} {s : List ℕ} → AreChains c n → Merge c n left i j s → IsLeafList n s
+pub merge_leaves : {c : Chains} {n left i j : ℕ} {s : List ℕ} → AreChains c n → Merge c n left i j s → IsLeafList n s
 merge_leaves h none = record { once = tt; inside = λ z m. absurd m }
 merge_leaves {c = c} h (more {i = i} {j = j} {x = x} {next_i = next_i} {next_j = next_j} {s = s} k w) = record {
   once = (λ m. again m (h.each x k.inside.0 k.inside.1), (merge_leaves h w).once);
