@@ -1,1 +1,4 @@
+pub mod Assigned
 pub mod LaidParts
+pub mod Merged
+pub mod Steps

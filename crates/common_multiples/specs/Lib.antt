@@ -1,2 +1,3 @@
 pub mod Building
+pub mod Merging
 pub mod Overlaying
