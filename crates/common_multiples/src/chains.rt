@@ -1,0 +1,46 @@
+ghost use Rattle.std.specs.Prelude.{◌≡◌, ◌<◌, ◌≤◌, ◌×◌, ℕ, slice_index};
+ghost use Rattle.common_multiples.specs.Listing.{IsInverse, IsOneToOne, chains_of};
+ghost use Rattle.common_multiples.specs.Merging as spec;
+
+// Two chains of leaves: which leaf is at each place of them, from 1 on, and the place of each leaf in them, 0 if it has none.
+pub(crate) struct Chains {
+    pub(crate) first: [u8; 256],
+    pub(crate) first_length: u8,
+    pub(crate) on_first: [u8; 256],
+    pub(crate) second: [u8; 256],
+    pub(crate) second_length: u8,
+    pub(crate) on_second: [u8; 256],
+}
+
+// The place of each leaf in the chain, 0 if it has none.
+fn places_in(chain: &[u8; 256], length: u8) -> [u8; 256]
+    requires once { IsOneToOne length (slice_index chain.now) }
+    ensures places { IsInverse length (slice_index chain.now) (slice_index result) }
+{
+    let mut places = [0; 256];
+    for at in 0..length {
+        places[chain[at as usize + 1] as usize] = at + 1;
+    }
+    places
+}
+
+impl Chains {
+    // The two chains, in each of which no leaf stands twice.
+    pub(crate) fn of(first: [u8; 256], first_length: u8, second: [u8; 256], second_length: u8) -> Chains
+        requires first { IsOneToOne first_length (slice_index first) }
+        requires second { IsOneToOne second_length (slice_index second) }
+        ensures first { (result.first ≡ first) × (result.first_length ≡ first_length) }
+        ensures second { (result.second ≡ second) × (result.second_length ≡ second_length) }
+        ensures on_first { IsInverse first_length (slice_index first) (slice_index result.on_first) }
+        ensures on_second { IsInverse second_length (slice_index second) (slice_index result.on_second) }
+    {
+        Chains {
+            first,
+            first_length,
+            on_first: places_in(&first, first_length),
+            second,
+            second_length,
+            on_second: places_in(&second, second_length),
+        }
+    }
+}
