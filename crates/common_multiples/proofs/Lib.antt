@@ -1,2 +1,3 @@
+pub mod FromOverlaps
 pub mod LaidParts
 pub mod NumberedTrees
