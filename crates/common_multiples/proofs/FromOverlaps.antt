@@ -146,3 +146,75 @@ not_root n a b host first_set second_set o f = go (root_covered n a b host first
         other : (v : ℕ) → 0 < v → Begins v first_set → Dec (1 < v) → 1 < v
         other v p b (yes h) = h
         other v p b (no h) = absurd (f (begins_mem 1 first_set (subst (λ k. Begins k first_set) (let e : v ≡ 1 = omega (arith, p, h) in e) b)))
+
+-- ---- the second tree over the first
+
+mutual
+  -- two trees that make up one tree agree
+  agree_of_grafts : (x b : Tree ℕ) (f s : ℕ → Tree ℕ) → graft x f ≡ graft b s → Agree x b
+  agree_of_grafts (leaf i) b f s e = tt
+  agree_of_grafts (node l r) (leaf j) f s e = tt
+  agree_of_grafts (node l r) (node m q) f s e =
+      let h = node-eq l m (graft_row r f) (graft_row q s) e in
+      (h.0, agree_of_grafts_row r q f s h.1)
+
+  agree_of_grafts_row : (r q : Row ℕ) (f s : ℕ → Tree ℕ) → graft_row r f ≡ graft_row q s → AgreeRow r q
+  agree_of_grafts_row none none f s e = tt
+  agree_of_grafts_row none (more u q) f s e = absurd (cc e)
+  agree_of_grafts_row (more t r) none f s e = absurd (cc e)
+  agree_of_grafts_row (more t r) (more u q) f s e =
+      let h = more-eq (graft t f) (graft u s) (graft_row r f) (graft_row q s) e in
+      (agree_of_grafts t u f s h.0, agree_of_grafts_row r q f s h.1)
+
+-- a shuffle tree of arity n has n leaves, and so has its shape
+shape_count : (n : ℕ) (host : Tree ℕ) → IsShuffle n host → leaf_count (shape host) ≡ n
+shape_count n host valid = sum_leaves-graft host (λ i. leaf tt) (λ i. 1) ∙ sym (length_leaves host) ∙ leaves_count n host valid
+
+module _ (n : ℕ) (a b : Tree ℕ) (c : Ctx ℕ) (x : Tree ℕ) (a_is : a ≡ fill c x) (node_x : IsNode x)
+    (host : Tree ℕ) (first_set second_set : List ℕ) (o : IsOverlap n a b host first_set second_set) (root : Mem 1 first_set) (top : Begins (start 1 c) second_set) where
+  lies : LiesOver host a b second_set
+  lies = second_over_first n a b host first_set second_set o root
+
+  bare_start : start 1 (graft_ctx c (λ i. leaf (tt {0}))) ≡ start 1 c
+  bare_start = start-named 1 c (λ i. tt {0})
+
+  there : (lies.context ≡ graft_ctx c (λ i. leaf tt)) × (lies.part ≡ shape x)
+  there = one_vertex 1 lies.context (graft_ctx c (λ i. leaf tt)) lies.part (shape x) lies.is_node (node_graft x (λ i. leaf tt) node_x)
+      (sym lies.first_is ∙ ap shape a_is ∙ graft-fill c x (λ i. leaf tt))
+      (one_start (start 1 lies.context) (start 1 c) second_set (lies.rest, lies.top_is) top ∙ sym bare_start)
+
+  -- the whole has the shape of the second tree laid over the first
+  pub shape_is_laid : shape host ≡ laid_over c x b
+  shape_is_laid = lies.tree_is ∙ ap₂ (λ d y. fill d (union y (shape b))) there.0 there.1
+
+  pub laid_count : leaf_count (laid_over c x b) ≡ n
+  laid_count = ap leaf_count (sym shape_is_laid) ∙ shape_count n host o.valid
+
+  first_place : LiesAt host first_set 1 a
+  first_place = lies_at n host first_set a o.valid o.first_at 1 (root_begins n a b host first_set second_set o root)
+
+  second_place : LiesAt host second_set (start 1 c) b
+  second_place = lies_at n host second_set b o.valid o.second_at (start 1 c) top
+
+  host_grafted : host ≡ graft a first_place.parts
+  host_grafted = whole_is host first_set a first_place
+
+  host_filled : host ≡ fill (graft_ctx c first_place.parts) (graft x first_place.parts)
+  host_filled = host_grafted ∙ ap (λ y. graft y first_place.parts) a_is ∙ graft-fill c x first_place.parts
+
+  -- what hangs beside x are leaves
+  bare_beside : graft_ctx c (λ i. shape (first_place.parts i)) ≡ graft_ctx c (λ i. leaf tt)
+  bare_beside = same_ctx c (λ i. shape (first_place.parts i)) (λ i. leaf tt) (graft x (λ i. shape (first_place.parts i))) (union (shape x) (shape b))
+      (sym (graft-fill c x (λ i. shape (first_place.parts i))) ∙ sym (graft_assoc (fill c x) first_place.parts (λ i. leaf tt))
+      ∙ ap (λ y. shape (graft y first_place.parts)) (sym a_is) ∙ ap shape (sym host_grafted) ∙ shape_is_laid)
+
+  same_start : start 1 (graft_ctx c first_place.parts) ≡ start 1 c
+  same_start = sym (start-named 1 (graft_ctx c first_place.parts) (λ i. tt {0})) ∙ ap (start 1) (graft_ctx_assoc c first_place.parts (λ i. leaf tt) ∙ bare_beside) ∙ bare_start
+
+  meets : graft x first_place.parts ≡ graft b second_place.parts
+  meets = (one_vertex 1 (graft_ctx c first_place.parts) second_place.context (graft x first_place.parts) (graft b second_place.parts)
+      (node_graft x first_place.parts node_x) (node_graft b second_place.parts second_place.is_node) (sym host_filled ∙ second_place.host_is) (same_start ∙ sym second_place.number)).1
+
+  -- root on root, the second tree and what it lies over have the same vertices wherever both have one
+  pub agrees : Agree x b × (leaf_count (laid_over c x b) ≡ n)
+  agrees = (agree_of_grafts x b first_place.parts second_place.parts meets, laid_count)
