@@ -1,3 +1,4 @@
 pub mod Building
+pub mod Listing
 pub mod Merging
 pub mod Overlaying

@@ -1,8 +1,9 @@
-ghost use Rattle.std.specs.Prelude.{◌≡◌, ◌<◌, ◌≤◌, ◌×◌, ℕ, slice_index};
+ghost use Rattle.std.specs.Prelude.{◌≡◌, ◌<◌, ◌≤◌, ℕ, slice_index};
 ghost use Rattle.common_multiples.specs.Listing.{IsInverse, IsOneToOne, chains_of};
 ghost use Rattle.common_multiples.specs.Merging as spec;
 
 // Two chains of leaves: which leaf is at each place of them, from 1 on, and the place of each leaf in them, 0 if it has none.
+#[derive(Drop)]
 pub(crate) struct Chains {
     pub(crate) first: [u8; 256],
     pub(crate) first_length: u8,
@@ -26,7 +27,12 @@ fn places_in(chain: &[u8; 256], length: u8) -> [u8; 256]
 
 impl Chains {
     // The two chains, in each of which no leaf stands twice.
-    pub(crate) fn of(first: [u8; 256], first_length: u8, second: [u8; 256], second_length: u8) -> Chains
+    pub(crate) fn of(
+        first: [u8; 256],
+        first_length: u8,
+        second: [u8; 256],
+        second_length: u8,
+    ) -> Chains
         requires first { IsOneToOne first_length (slice_index first) }
         requires second { IsOneToOne second_length (slice_index second) }
         ensures first { (result.first ≡ first) × (result.first_length ≡ first_length) }

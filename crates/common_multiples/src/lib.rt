@@ -1,4 +1,9 @@
 //! Small common multiples of shuffle trees.
 #![tactic(auto)]
 
+mod chains;
+mod families;
+mod merging;
 mod overlays;
+
+pub use families::{Multiple, multiples};

@@ -16,6 +16,7 @@ use std::alloc::{AllocError, Global};
 use tree_divisors::Place;
 
 // Where one tree is laid over another, and the places of both in what comes out, whatever the numbers of its leaves are.
+#[derive(Drop)]
 pub(crate) struct Site<'a> {
     pub(crate) host: &'a Shape,
     pub(crate) guest: &'a Shape,
@@ -37,9 +38,17 @@ impl Site<'_> {
         let host_place = self.host_place.copy(alloc)?;
         let guest_place = self.guest_place.copy(alloc)?;
         if self.is_turned {
-            Ok(Multiple { tree, first: guest_place, second: host_place })
+            Ok(Multiple {
+                tree,
+                first: guest_place,
+                second: host_place,
+            })
         } else {
-            Ok(Multiple { tree, first: host_place, second: guest_place })
+            Ok(Multiple {
+                tree,
+                first: host_place,
+                second: guest_place,
+            })
         }
     }
 
@@ -61,7 +70,8 @@ impl Site<'_> {
         ensures found { OnOk result (found.new.items ≡ found.old.items ++ map (λ s. multiple_at self.now (assigned s (given + 1) numbers)) (merges (chains_of chains.now) left next.0 next.1)) }
     {
         if left == 0 {
-            return found.push(self.multiple(alloc, &numbers)?);
+            found.push(self.multiple(alloc, &numbers)?)?;
+            return Ok(());
         }
         let (i, j) = next;
         if i <= chains.first_length as usize {
@@ -72,7 +82,15 @@ impl Site<'_> {
             if other == 0 {
                 self.push_merged(alloc, chains, given + 1, left - 1, (i + 1, j), now, found)?;
             } else if other == j {
-                self.push_merged(alloc, chains, given + 1, left - 1, (i + 1, j + 1), now, found)?;
+                self.push_merged(
+                    alloc,
+                    chains,
+                    given + 1,
+                    left - 1,
+                    (i + 1, j + 1),
+                    now,
+                    found,
+                )?;
             }
         }
         if j <= chains.second_length as usize {

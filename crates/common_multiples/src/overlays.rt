@@ -13,6 +13,7 @@ use std::alloc::{AllocError, Global};
 use tree_divisors::count_vertices;
 
 // What a search for a vertex answers: the tree from it on, or the number behind those of the tree.
+#[derive(Drop)]
 pub(crate) enum Vertex<'a> {
     At(&'a Shape),
     Past(u8),

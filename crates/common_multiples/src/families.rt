@@ -1,0 +1,165 @@
+ghost use Rattle.std.specs.Prelude.{◌≡◌, ◌<◌, ◌≤◌, ◌++◌, ℕ, List, IfOk, OnOk, slice_index};
+ghost use Rattle.labelled_trees.specs.Trees.{IsNode, vertices};
+ghost use Rattle.shuffle_insertions.specs.ShuffleTrees.{IsShuffle};
+ghost use Rattle.common_multiples.specs.Listing.{AreAllMultiples, AreOverlapsAt, AreOverlapsFrom, IsPattern};
+
+use crate::chains::Chains;
+use crate::merging::Site;
+use crate::overlays::{Vertex, count_leaves, leaves_over, overlay, vertex_at};
+use shuffle_trees::{Labels, STree, vertex_count};
+use std::alloc::{AllocError, Global};
+use std::cmp::Ordering;
+use symmetric_trees::spelling_order;
+use tree_divisors::{Place, lies, numbers};
+
+/// A small common multiple: a tree with two places that share a vertex and together hold all vertices.
+#[derive(Drop)]
+pub struct Multiple {
+    /// The tree.
+    pub tree: STree,
+    /// The place whose divisor is the first of the two trees.
+    pub first: Place,
+    /// The place whose divisor is the second of them.
+    pub second: Place,
+}
+
+// A tree with a vertex and the leaves 1 to its arity.
+#[derive(Drop)]
+struct Pattern<'a> {
+    tree: &'a STree,
+    arity: u8,
+}
+
+// The table that has at each number this number.
+fn same_numbers() -> [u8; 256]
+    ensures same { (i : ℕ) → i < 256 → slice_index result i ≡ i }
+{
+    let mut numbers = [0; 256];
+    for i in 0..256 {
+        numbers[i] = i as u8;
+    }
+    numbers
+}
+
+// The number of the leaves of a tree that are 1 to that number.
+fn arity_of(tree: &STree) -> u8
+    requires { (m : ℕ) × IsShuffle m tree.now }
+    ensures { IsShuffle result tree.now }
+{
+    match tree.arity() {
+        Some(arity) => arity,
+        None => unreachable!(),
+    }
+}
+
+// Puts the overlaps of arity `n` behind the others in which the host has the root and the guest lies over its vertex `at`.
+fn push_overlaps(
+    alloc: Global,
+    host: &Pattern,
+    guest: &Pattern,
+    at: u8,
+    n: u8,
+    is_turned: bool,
+    found: &mut Vec<Multiple>,
+) -> Result<(), AllocError>
+    requires patterns { IsPattern host.now × IsPattern guest.now }
+    requires at { (0 < at) × (at ≤ vertices host.now.tree.now) }
+    ensures overlaps { OnOk result ((more : List _) × (found.new.items ≡ found.old.items ++ more) × AreOverlapsAt n host.now.tree.now guest.now.tree.now at is_turned more) }
+{
+    let Vertex::At(part) = vertex_at(host.tree.shape(), 1, at) else {
+        unreachable!()
+    };
+    let Some(count) = leaves_over(part, guest.tree.shape()) else {
+        return Ok(());
+    };
+    if host.arity as u16 + count != n as u16 + count_leaves(part) {
+        return Ok(());
+    }
+    let plain = same_numbers();
+    let made = overlay(
+        alloc,
+        host.tree.shape(),
+        guest.tree.shape(),
+        1,
+        at,
+        0,
+        &plain,
+    )?;
+    let Vertex::At(inner) = vertex_at(&made.tree, 1, at) else {
+        unreachable!()
+    };
+    let mut first = [0; 256];
+    let mut second = [0; 256];
+    if !lies(host.tree.shape(), &made.tree, &mut first)
+        || !lies(guest.tree.shape(), inner, &mut second)
+    {
+        unreachable!()
+    }
+    let host_place = Place::from_vertices(numbers(alloc, host.tree.shape(), &made.tree, 1)?);
+    let guest_place = Place::from_vertices(numbers(alloc, guest.tree.shape(), inner, at)?);
+    let chains = Chains::of(first, host.arity, second, guest.arity);
+    let site = Site {
+        host: host.tree.shape(),
+        guest: guest.tree.shape(),
+        at,
+        host_place,
+        guest_place,
+        is_turned,
+    };
+    site.push_merged(alloc, &chains, 0, n, (1, 1), plain, found)
+}
+
+// Puts the overlaps of arity `n` behind the others in which the host has the root and the guest's first vertex is the host's
+// vertex `from` or a later one.
+fn push_family(
+    alloc: Global,
+    host: &Pattern,
+    guest: &Pattern,
+    from: u8,
+    n: u8,
+    is_turned: bool,
+    found: &mut Vec<Multiple>,
+) -> Result<(), AllocError>
+    requires patterns { IsPattern host.now × IsPattern guest.now }
+    requires from { 0 < from }
+    ensures overlaps { OnOk result ((more : List _) × (found.new.items ≡ found.old.items ++ more) × AreOverlapsFrom n host.now.tree.now guest.now.tree.now from is_turned more) }
+{
+    let behind = vertex_count(host.tree) as u8 + 1;
+    for at in from..behind {
+        push_overlaps(alloc, host, guest, at, n, is_turned, found)?;
+    }
+    Ok(())
+}
+
+/// The small common multiples of two trees of arity `n`, each once: the trees with leaves 1 to `n` and two places in them, the first
+/// with the divisor `one` and the second with the divisor `other`, that share a vertex and together hold all vertices; where
+/// the two trees are one, the first place comes before the second. Both trees belong to the labels, have a vertex, and have
+/// the leaves 1 to m, each for its own m. `AllocError` comes for want of memory alone.
+pub fn multiples(
+    alloc: Global,
+    _labels: &Labels,
+    one: &STree,
+    other: &STree,
+    n: u8,
+) -> Result<Vec<Multiple>, AllocError>
+    requires one { ((m : ℕ) × IsShuffle m one.now) × IsNode one.now }
+    requires other { ((m : ℕ) × IsShuffle m other.now) × IsNode other.now }
+    ensures multiples { IfOk result (λ found. AreAllMultiples n one.now other.now found.items) }
+{
+    let mut found = Vec::new(alloc);
+    let first = Pattern {
+        tree: one,
+        arity: arity_of(one),
+    };
+    let second = Pattern {
+        tree: other,
+        arity: arity_of(other),
+    };
+    if spelling_order(one.shape(), other.shape()) == Ordering::Equal {
+        push_family(alloc, &first, &second, 2, n, false, &mut found)?;
+        return Ok(found);
+    }
+    push_family(alloc, &first, &second, 1, n, false, &mut found)?;
+    push_family(alloc, &second, &first, 2, n, true, &mut found)?;
+    Ok(found)
+}
