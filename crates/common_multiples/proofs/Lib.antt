@@ -1,1 +1,2 @@
 pub mod LaidParts
+pub mod OverlayPatterns
