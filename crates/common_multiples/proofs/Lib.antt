@@ -1,2 +1,3 @@
 pub mod LaidParts
 pub mod OverlayPatterns
+pub mod OverlayParts
