@@ -1,3 +1,4 @@
 pub mod LaidParts
 pub mod OverlayPatterns
 pub mod OverlayParts
+pub mod OverlaidPlaces

@@ -11,9 +11,8 @@ use Rattle.labelled_trees.proofs.Contexts.{node-eq, more-eq, graft-fill, graft_c
 use Rattle.labelled_trees.proofs.Factors.{both_ways, both_ways_left}
 use Rattle.labelled_trees.proofs.GraftLeaves.{agree, agree_graft, agree_graft_row, AllLeaves_of_graft}
 use Rattle.labelled_trees.proofs.Grafts.{graft_assoc}
-use Rattle.labelled_trees.proofs.Leaves.{AllLeaves-imp, AllRow-imp, at_leaf, at_row, occurs_self}
+use Rattle.labelled_trees.proofs.Leaves.{AllLeaves-imp, at_leaf, at_row, occurs_self}
 use Rattle.labelled_trees.proofs.Unions.{join-over_first, parts-over_first}
-use Rattle.modular_sums.specs.Lists.{choose}
 use Rattle.modular_sums.proofs.Choices.{choose-no}
 use Rattle.shuffle_insertions.specs.ShuffleTrees.{least, least_row, HasInput, IsRising, IsRisingRow, IsShuffle}
 use Rattle.shuffle_places.specs.AllPlaces.{lay}
@@ -101,7 +100,8 @@ leaf_of_shape (node l r) e = absurd (cc e)
 abbrev self : Tree ℕ → Tree ℕ
 self v = v
 
-join-union : (p q : Tree (Tree ℕ)) → join p ≡ join q → join (union p q) ≡ join p
+-- what two patterns make is the tree that each is
+pub join-union : (p q : Tree (Tree ℕ)) → join p ≡ join q → join (union p q) ≡ join p
 join-union p q e =
     ap join (sym (join-over_first self p q e)) ∙ graft_assoc (over_first p q) (λ u. u) self ∙ sym (graft_assoc (over_first p q) (λ u. leaf (join u)) self)
     ∙ ap join (parts-over_first self p q e) ∙ graft_assoc p (λ v. leaf v) self

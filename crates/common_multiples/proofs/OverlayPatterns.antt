@@ -1,9 +1,9 @@
 -- Both patterns of an overlay lie on it.
-use Rattle.std.proofs.Common.{◌≡◌, ℕ, ◌+◌, ◌<◌, ◌≤◌, List, [], ◌∷◌, map, refl, sym, ◌∙◌, ap, arith, subst}
+use Rattle.std.proofs.Common.{◌≡◌, ℕ, ◌+◌, ◌≤◌, [], ◌∷◌, map, refl, sym, ◌∙◌, ap, arith, subst}
 use mathlib.Core.Path.{ap₂}
 use native.Mathlib.Decide.{ℕ_discrete}
-use Rattle.labelled_trees.specs.Trees.{Tree, Row, leaf, node, none, more, graft, IsNode, vertices}
-use Rattle.labelled_trees.specs.Contexts.{Ctx, RowCtx, hole, inside, here, past, fill, fill_row, graft_ctx, graft_row_ctx}
+use Rattle.labelled_trees.specs.Trees.{Tree, Row, leaf, node, none, more, IsNode, vertices}
+use Rattle.labelled_trees.specs.Contexts.{Ctx, RowCtx, hole, inside, here, past, fill, fill_row, graft_ctx}
 use Rattle.labelled_trees.specs.Unions.{union, union_row}
 use Rattle.labelled_trees.proofs.Contexts.{graft-fill}
 use Rattle.shuffle_insertions.specs.Listing.{each_with_each}
@@ -16,7 +16,7 @@ use Rattle.shuffle_places.proofs.Cuts.{one_vertex}
 use Rattle.shuffle_places.proofs.Overlays.{vertices-named, start-named}
 use Rattle.shuffle_places.proofs.PatternSets.{start_in, node_has, At, vertex_at}
 use Rattle.tree_divisors.specs.Laying.{Covers}
-use Rattle.common_multiples.specs.Overlaying.{Agree, AgreeRow, StandsAt, laid_over, IsOverlay}
+use Rattle.common_multiples.specs.Overlaying.{Agree, AgreeRow, StandsAt, IsOverlay}
 
 -- Each vertex of the first tree is one of the second, with the same label and as many inputs.
 abbrev mutual
