@@ -3,4 +3,7 @@ pub mod FromOverlaps
 pub mod LaidParts
 pub mod Merged
 pub mod NumberedTrees
+pub mod OverlaidPlaces
+pub mod OverlayParts
+pub mod OverlayPatterns
 pub mod Steps
