@@ -10,7 +10,7 @@ use shuffle_trees::{Labels, STree, vertex_count};
 use std::alloc::{AllocError, Global};
 use std::cmp::Ordering;
 use symmetric_trees::spelling_order;
-use tree_divisors::{Place, lies, numbers};
+use tree_divisors::{Place, arity_of, lies, numbers};
 
 /// A small common multiple: a tree with two places that share a vertex and together hold all vertices.
 #[derive(Drop)]
@@ -39,17 +39,6 @@ fn same_numbers() -> [u8; 256]
         numbers[i] = i as u8;
     }
     numbers
-}
-
-// The number of the leaves of a tree that are 1 to that number.
-fn arity_of(tree: &STree) -> u8
-    requires { (m : ℕ) × IsShuffle m tree.now }
-    ensures { IsShuffle result tree.now }
-{
-    match tree.arity() {
-        Some(arity) => arity,
-        None => unreachable!(),
-    }
 }
 
 // Puts the overlaps of arity `n` behind the others in which the host has the root and the guest lies over its vertex `at`.
