@@ -1,5 +1,6 @@
 pub mod Assigned
 pub mod FromOverlaps
+pub mod Inverses
 pub mod LaidParts
 pub mod Merged
 pub mod NumberedTrees
