@@ -1,0 +1,77 @@
+-- Numbered trees: what is left of the inputs of a vertex, and what a numbering keeps.
+use Rattle.std.proofs.Common.{◌≡◌, ℕ, suc, ◌+◌, ◌<◌, ◌≤◌, List, [], ◌∷◌, length, map, drop, get_or, refl, sym, ◌∙◌, ap, arith, subst, append_assoc}
+use mathlib.Core.List.{◌++◌, append-nil}
+use mathlib.Core.Path.{ap₂}
+use Rattle.std.proofs.lemmas.List.{map-append}
+use Rattle.labelled_trees.specs.Trees.{Tree, Row, leaf, node, none, more, row, inputs, graft, graft_row, vertices, vertices_row}
+use Rattle.labelled_trees.specs.Leaves.{leaf_count, leaf_count_row}
+use Rattle.labelled_trees.specs.Meaning.{tree_of}
+use Rattle.labelled_trees.specs.Unions.{union, union_row}
+use Rattle.labelled_trees.specs.declared.Tree as program
+use Rattle.labelled_trees.specs.declared.Tree.TheVariants.{Node, Leaf}
+use Rattle.labelled_trees.proofs.ProgramTrees.{tree_of-leaf, tree_of-node}
+use Rattle.labelled_trees.proofs.GraftLeaves.{sum_leaves-graft, sum_row-graft}
+use Rattle.labelled_trees.proofs.Rows.{row-inputs}
+use Rattle.shuffle_places.specs.Overlays.{shape, shape_row}
+use Rattle.shuffle_trees.proofs.Walking.{left_from, none_left}
+use Rattle.tree_divisors.proofs.LaidPatterns.{rows}
+use Rattle.tree_divisors.proofs.MarkedCuts.{as_node}
+use Rattle.common_multiples.specs.Building.{numbered, numbered_row}
+
+-- ---- the shapes of the inputs
+
+pub shape_leaf : (t : program.Tree) (i : ℕ) → t ≡ Leaf i → shape (tree_of t) ≡ leaf tt
+shape_leaf t i e = ap shape (ap tree_of e ∙ tree_of-leaf i)
+
+pub shape_node : (t : program.Tree) (g : ℕ) (ts items : List program.Tree) → t ≡ Node g ts → items ≡ ts → shape (tree_of t) ≡ node g (shape_row (rows items))
+shape_node t g ts items e s = ap shape (as_node g t ts items e s)
+
+pub leaf_count-shape : {A : Type 0} (t : Tree A) → leaf_count (shape t) ≡ leaf_count t
+leaf_count-shape t = sum_leaves-graft t (λ a. leaf tt) (λ u. 1)
+
+pub count_inside : (t : program.Tree) (g : ℕ) (ts items : List program.Tree) → t ≡ Node g ts → items ≡ ts → leaf_count_row (shape_row (rows items)) ≡ leaf_count (tree_of t)
+count_inside t g ts items e s = sym (ap leaf_count (shape_node t g ts items e s)) ∙ leaf_count-shape (tree_of t)
+
+-- the shapes of the inputs from one on
+abbrev pub shapes_from : ℕ → List program.Tree → Row (Unit {0})
+shapes_from i items = shape_row (rows (drop i items))
+
+pub shapes_more : (items : List program.Tree) (i : ℕ) (t : program.Tree) → i < length items → t ≡ get_or items i t → shapes_from i items ≡ more (shape (tree_of t)) (shapes_from (i + 1) items)
+shapes_more items i t lt e = ap (λ us. shape_row (rows us)) (left_from items i t lt e)
+
+pub shapes_none : (items : List program.Tree) (i : ℕ) → length items ≤ i → shapes_from i items ≡ none
+shapes_none items i le = ap (λ us. shape_row (rows us)) (none_left items i le)
+
+-- ---- the loops over the inputs
+
+-- The trees that are made, with the numbered trees of what is left behind them, are the numbered trees of the whole.
+pub record RowLeft (f : ℕ → ℕ) (first : ℕ) (all : Row (Unit {0})) (made : List program.Tree) (placed : ℕ) (left : Row (Unit {0})) : Type 0 where
+  pub rest : map tree_of made ++ inputs (numbered_row f placed left) ≡ inputs (numbered_row f first all)
+  pub ends : placed + leaf_count_row left ≡ first + leaf_count_row all
+
+pub row_start : (f : ℕ → ℕ) (first : ℕ) (all : Row (Unit {0})) → RowLeft f first all [] first all
+row_start f first all = record { rest = refl; ends = refl }
+
+pub row_next : (f : ℕ → ℕ) (first : ℕ) (all : Row (Unit {0})) (made after : List program.Tree) (x : program.Tree) (placed n : ℕ) (left : Row (Unit {0})) (t : Tree (Unit {0})) (r : Row (Unit {0})) → left ≡ more t r
+    → RowLeft f first all made placed left → tree_of x ≡ numbered f placed t → n ≡ placed + leaf_count t → after ≡ made ++ x ∷ [] → RowLeft f first all after n r
+row_next f first all made after x placed n left t r e h ex en ea =
+    let s = subst (RowLeft f first all made placed) e h in
+    subst (λ m. RowLeft f first all after m r) (sym en) record {
+      rest =
+          ap (λ l. l ++ inputs (numbered_row f (placed + leaf_count t) r)) (ap (map tree_of) ea ∙ map-append tree_of made (x ∷ []) ∙ ap (λ u. map tree_of made ++ u ∷ []) ex)
+          ∙ append_assoc (map tree_of made) (numbered f placed t ∷ []) (inputs (numbered_row f (placed + leaf_count t) r)) ∙ s.rest;
+      ends = (let o = s.ends in omega (arith, o));
+    }
+
+pub row_fits : (f : ℕ → ℕ) (first : ℕ) (all : Row (Unit {0})) (made : List program.Tree) (placed : ℕ) (left : Row (Unit {0})) (t : Tree (Unit {0})) (r : Row (Unit {0})) → left ≡ more t r
+    → RowLeft f first all made placed left → placed + leaf_count t ≤ first + leaf_count_row all
+row_fits f first all made placed left t r e h = let o = (subst (RowLeft f first all made placed) e h).ends in omega (arith, o)
+
+pub row_end : (f : ℕ → ℕ) (first : ℕ) (all : Row (Unit {0})) (made : List program.Tree) (placed g : ℕ) (left : Row (Unit {0})) (t : Tree (Unit {0})) → left ≡ none → t ≡ node g all
+    → RowLeft f first all made placed left → (tree_of (Node g made) ≡ numbered f first t) × (placed ≡ first + leaf_count t)
+row_end f first all made placed g left t e is h =
+    let s = subst (RowLeft f first all made placed) e h in
+    (
+      tree_of-node g made ∙ ap (λ us. node g (row us)) (sym (append-nil (map tree_of made)) ∙ s.rest) ∙ ap (node g) (row-inputs (numbered_row f first all)) ∙ ap (numbered f first) (sym is),
+      (let o = s.ends in let c = ap leaf_count is in omega (arith, o, c)),
+    )
