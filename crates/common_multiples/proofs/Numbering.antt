@@ -75,3 +75,43 @@ row_end f first all made placed g left t e is h =
       tree_of-node g made ∙ ap (λ us. node g (row us)) (sym (append-nil (map tree_of made)) ∙ s.rest) ∙ ap (node g) (row-inputs (numbered_row f first all)) ∙ ap (numbered f first) (sym is),
       (let o = s.ends in let c = ap leaf_count is in omega (arith, o, c)),
     )
+
+-- ---- the inputs of two vertices laid over each other
+
+pub union_leaf : (x : Tree (Unit {0})) → union x (leaf tt) ≡ x
+union_leaf (leaf u) = refl
+union_leaf (node l r) = refl
+
+pub union_none : {X : Type 0} (r : Row X) → union_row r none ≡ r
+union_none none = refl
+union_none (more t r) = refl
+
+pub unions_more : (items parts : List program.Tree) (i : ℕ) (t p : program.Tree) → i < length items → t ≡ get_or items i t → i < length parts → p ≡ get_or parts i p
+    → union_row (shapes_from i items) (shapes_from i parts) ≡ more (union (shape (tree_of t)) (shape (tree_of p))) (union_row (shapes_from (i + 1) items) (shapes_from (i + 1) parts))
+unions_more items parts i t p lt e lp ep = ap₂ union_row (shapes_more items i t lt e) (shapes_more parts i p lp ep)
+
+pub unions_alone : (items parts : List program.Tree) (i : ℕ) (t : program.Tree) → i < length items → t ≡ get_or items i t → length parts ≤ i
+    → union_row (shapes_from i items) (shapes_from i parts) ≡ more (shape (tree_of t)) (union_row (shapes_from (i + 1) items) (shapes_from (i + 1) parts))
+unions_alone items parts i t lt e le =
+    ap₂ union_row (shapes_more items i t lt e) (shapes_none parts i le)
+    ∙ ap (more (shape (tree_of t))) (sym (ap (union_row (shapes_from (i + 1) items)) (shapes_none parts (i + 1) (omega (arith, le))) ∙ union_none (shapes_from (i + 1) items)))
+
+pub unions_none : (items parts : List program.Tree) (i : ℕ) → length items ≤ i → union_row (shapes_from i items) (shapes_from i parts) ≡ none
+unions_none items parts i le = ap (λ r. union_row r (shapes_from i parts)) (shapes_none items i le)
+
+-- where one of the two is a leaf
+pub union_first : (h g : program.Tree) (i : ℕ) → h ≡ Leaf i → union (shape (tree_of h)) (shape (tree_of g)) ≡ shape (tree_of g)
+union_first h g i e = ap (λ x. union x (shape (tree_of g))) (shape_leaf h i e)
+
+pub union_second : (h g : program.Tree) (i : ℕ) → g ≡ Leaf i → union (shape (tree_of h)) (shape (tree_of g)) ≡ shape (tree_of h)
+union_second h g i e = ap (union (shape (tree_of h))) (shape_leaf g i e) ∙ union_leaf (shape (tree_of h))
+
+pub union_nodes : (h g : program.Tree) (l m : ℕ) (ts items parts : List program.Tree) → h ≡ Node l ts → items ≡ ts → g ≡ Node m parts
+    → union (shape (tree_of h)) (shape (tree_of g)) ≡ node l (union_row (shape_row (rows items)) (shape_row (rows parts)))
+union_nodes h g l m ts items parts eh e eg = ap₂ union (shape_node h l ts items eh e) (shape_node g m parts parts eg refl)
+
+pub count_first : (h g : program.Tree) (i : ℕ) → h ≡ Leaf i → leaf_count (tree_of g) ≡ leaf_count (union (shape (tree_of h)) (shape (tree_of g)))
+count_first h g i e = sym (ap leaf_count (union_first h g i e) ∙ leaf_count-shape (tree_of g))
+
+pub count_second : (h g : program.Tree) (i : ℕ) → g ≡ Leaf i → leaf_count (tree_of h) ≡ leaf_count (union (shape (tree_of h)) (shape (tree_of g)))
+count_second h g i e = sym (ap leaf_count (union_second h g i e) ∙ leaf_count-shape (tree_of h))
