@@ -2,7 +2,9 @@
 use Rattle.std.proofs.Common.{◌≡◌, ℕ, suc, ◌+◌, ◌<◌, ◌≤◌, List, [], ◌∷◌, length, map, drop, get_or, refl, sym, ◌∙◌, ap, arith, subst, append_assoc}
 use mathlib.Core.List.{◌++◌, append-nil}
 use mathlib.Core.Path.{ap₂}
+use native.Mathlib.Decide.{ℕ_discrete}
 use Rattle.std.proofs.lemmas.List.{map-append}
+use Rattle.modular_sums.specs.Lists.{choose}
 use Rattle.labelled_trees.specs.Trees.{Tree, Row, leaf, node, none, more, row, inputs, graft, graft_row, vertices, vertices_row}
 use Rattle.labelled_trees.specs.Leaves.{leaf_count, leaf_count_row}
 use Rattle.labelled_trees.specs.Meaning.{tree_of}
@@ -13,10 +15,11 @@ use Rattle.labelled_trees.proofs.ProgramTrees.{tree_of-leaf, tree_of-node}
 use Rattle.labelled_trees.proofs.GraftLeaves.{sum_leaves-graft, sum_row-graft}
 use Rattle.labelled_trees.proofs.Rows.{row-inputs}
 use Rattle.shuffle_places.specs.Overlays.{shape, shape_row}
+use Rattle.shuffle_places.proofs.Overlays.{vertices-named}
 use Rattle.shuffle_trees.proofs.Walking.{left_from, none_left}
 use Rattle.tree_divisors.proofs.LaidPatterns.{rows}
 use Rattle.tree_divisors.proofs.MarkedCuts.{as_node}
-use Rattle.common_multiples.specs.Building.{numbered, numbered_row}
+use Rattle.common_multiples.specs.Building.{numbered, numbered_row, over_at, over_at_row}
 
 -- ---- the shapes of the inputs
 
@@ -115,3 +118,50 @@ count_first h g i e = sym (ap leaf_count (union_first h g i e) ∙ leaf_count-sh
 
 pub count_second : (h g : program.Tree) (i : ℕ) → g ≡ Leaf i → leaf_count (tree_of h) ≡ leaf_count (union (shape (tree_of h)) (shape (tree_of g)))
 count_second h g i e = sym (ap leaf_count (union_second h g i e) ∙ leaf_count-shape (tree_of h))
+
+-- ---- one tree laid over a vertex of another
+
+chosen : {A X : Type 0} (d : Dec A) (x y : X) → A → choose d x y ≡ x
+chosen (yes _) x y a = refl
+chosen (no f) x y a = absurd (f a)
+
+not_chosen : {A X : Type 0} (d : Dec A) (x y : X) → (A → ⊥) → choose d x y ≡ y
+not_chosen (yes a) x y f = absurd (f a)
+not_chosen (no _) x y f = refl
+
+pub vertices-shape : {A : Type 0} (t : Tree A) → vertices (shape t) ≡ vertices t
+vertices-shape t = vertices-named t (λ a. tt)
+
+pub over_leaf : (k v : ℕ) (h g : program.Tree) (i : ℕ) → h ≡ Leaf i → over_at k v (shape (tree_of h)) (shape (tree_of g)) ≡ leaf tt
+over_leaf k v h g i e = ap (λ x. over_at k v x (shape (tree_of g))) (shape_leaf h i e)
+
+pub over_here : (k v : ℕ) (h g : program.Tree) (l : ℕ) (ts : List program.Tree) → k ≡ v → h ≡ Node l ts → over_at k v (shape (tree_of h)) (shape (tree_of g)) ≡ union (shape (tree_of h)) (shape (tree_of g))
+over_here k v h g l ts same e =
+    let b = shape (tree_of g) in
+    let is = shape_node h l ts ts e refl in
+    ap (λ x. over_at k v x b) is ∙ chosen (ℕ_discrete k v) (union (node l (shape_row (rows ts))) b) (node l (over_at_row (suc k) v (shape_row (rows ts)) b)) same ∙ ap (λ x. union x b) (sym is)
+
+pub over_inside : (k v : ℕ) (h g : program.Tree) (l : ℕ) (ts items : List program.Tree) → (k ≡ v → ⊥) → h ≡ Node l ts → items ≡ ts
+    → over_at k v (shape (tree_of h)) (shape (tree_of g)) ≡ node l (over_at_row (suc k) v (shape_row (rows items)) (shape (tree_of g)))
+over_inside k v h g l ts items other e s =
+    let b = shape (tree_of g) in
+    ap (λ x. over_at k v x b) (shape_node h l ts items e s) ∙ not_chosen (ℕ_discrete k v) (union (node l (shape_row (rows items))) b) (node l (over_at_row (suc k) v (shape_row (rows items)) b)) other
+
+pub overs_more : (k n v : ℕ) (b : Tree (Unit {0})) (items : List program.Tree) (i : ℕ) (t : program.Tree) → i < length items → t ≡ get_or items i t → n ≡ k + vertices (tree_of t)
+    → over_at_row k v (shapes_from i items) b ≡ more (over_at k v (shape (tree_of t)) b) (over_at_row n v (shapes_from (i + 1) items) b)
+overs_more k n v b items i t lt e next =
+    ap (λ r. over_at_row k v r b) (shapes_more items i t lt e)
+    ∙ ap (λ m. more (over_at k v (shape (tree_of t)) b) (over_at_row m v (shapes_from (i + 1) items) b)) (ap (λ m. k + m) (vertices-shape (tree_of t)) ∙ sym next)
+
+pub overs_none : (k v : ℕ) (b : Tree (Unit {0})) (items : List program.Tree) (i : ℕ) → length items ≤ i → over_at_row k v (shapes_from i items) b ≡ none
+overs_none k v b items i le = ap (λ r. over_at_row k v r b) (shapes_none items i le)
+
+-- the numbers of the vertices that are left
+abbrev pub EndsAt : ℕ → ℕ → ℕ → List program.Tree → Type 0
+EndsAt total next i items = next + vertices_row (rows (drop i items)) ≡ total
+
+pub ends_next : (total next n i : ℕ) (items : List program.Tree) (t : program.Tree) → i < length items → t ≡ get_or items i t → EndsAt total next i items → n ≡ next + vertices (tree_of t) → EndsAt total n (i + 1) items
+ends_next total next n i items t lt e h is = let s = subst (λ us. next + vertices_row (rows us) ≡ total) (left_from items i t lt e) h in omega (arith, s, is)
+
+pub ends_all : (total next i : ℕ) (items : List program.Tree) → length items ≤ i → EndsAt total next i items → next ≡ total
+ends_all total next i items le h = let s = subst (λ us. next + vertices_row (rows us) ≡ total) (none_left items i le) h in omega (arith, s)
