@@ -4,6 +4,7 @@ pub mod Inverses
 pub mod LaidParts
 pub mod Merged
 pub mod NumberedTrees
+pub mod Numbering
 pub mod OverlaidPlaces
 pub mod OverlayParts
 pub mod OverlayPatterns
