@@ -2,6 +2,7 @@ pub mod Assigned
 pub mod FromOverlaps
 pub mod Inverses
 pub mod LaidParts
+pub mod MergeSteps
 pub mod Merged
 pub mod NumberedTrees
 pub mod Numbering

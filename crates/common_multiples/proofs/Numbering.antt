@@ -73,8 +73,7 @@ row_fits f first all made placed left t r e h = let o = (subst (RowLeft f first 
 pub row_end : (f : ℕ → ℕ) (first : ℕ) (all : Row (Unit {0})) (made : List program.Tree) (placed g : ℕ) (left : Row (Unit {0})) (t : Tree (Unit {0})) → left ≡ none → t ≡ node g all
     → RowLeft f first all made placed left → (tree_of (Node g made) ≡ numbered f first t) × (placed ≡ first + leaf_count t)
 row_end f first all made placed g left t e is h =
-    let s = subst (RowLeft f first all made placed) e h in
-    (
+    let s = subst (RowLeft f first all made placed) e h in (
       tree_of-node g made ∙ ap (λ us. node g (row us)) (sym (append-nil (map tree_of made)) ∙ s.rest) ∙ ap (node g) (row-inputs (numbered_row f first all)) ∙ ap (numbered f first) (sym is),
       (let o = s.ends in let c = ap leaf_count is in omega (arith, o, c)),
     )

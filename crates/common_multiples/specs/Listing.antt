@@ -1,5 +1,5 @@
 -- What the steps answer that list small common multiples.
-use Rattle.std.specs.Prelude.{ℕ, ◌+◌, ◌≡◌, ◌<◌, ◌≤◌, List, slice_index}
+use Rattle.std.specs.Prelude.{ℕ, ◌+◌, ◌≡◌, ◌<◌, ◌≤◌, List, [], ◌∷◌, map, Option, None, Some, slice_index}
 use Rattle.std.proofs.Common.{Bool, true, false, cond}
 use Rattle.modular_sums.specs.Lists.{Mem, Distinct}
 use Rattle.labelled_trees.specs.Trees.{Tree, IsNode, vertices}
@@ -39,6 +39,11 @@ chains_of c = record {
   m = c.first_length;
   k = c.second_length;
 }
+
+-- what comes next in merging: nothing, or a leaf before all that comes behind it
+abbrev pub IsNextStep : ((ℕ → ℕ → List (List ℕ)) → List (List ℕ)) → Option (ℕ × ℕ × ℕ) → Type 0
+IsNextStep next None = (rest : ℕ → ℕ → List (List ℕ)) → next rest ≡ []
+IsNextStep next (Some step) = (rest : ℕ → ℕ → List (List ℕ)) → next rest ≡ map (λ s. step.0 ∷ s) (rest step.1 step.2)
 
 -- the shape where the guest is laid over the host
 abbrev pub shape_at : site.Site → Tree (Unit {0})

@@ -1,5 +1,5 @@
 ghost use Rattle.std.specs.Prelude.{◌≡◌, ◌<◌, ◌≤◌, ℕ, slice_index};
-ghost use Rattle.common_multiples.specs.Listing.{IsInverse, IsOneToOne, chains_of};
+ghost use Rattle.common_multiples.specs.Listing.{IsInverse, IsNextStep, IsOneToOne, chains_of};
 ghost use Rattle.common_multiples.specs.Merging as spec;
 
 // Two chains of leaves: which leaf is at each place of them, from 1 on, and the place of each leaf in them, 0 if it has none.
@@ -47,6 +47,36 @@ impl Chains {
             second,
             second_length,
             on_second: places_in(&second, second_length),
+        }
+    }
+
+    // The leaf that comes next by the first chain, and the places that come next behind it, where the places `i` and `j` of the
+    // chains come next now. None where the first chain is at its end, or its leaf waits for the second.
+    pub(crate) fn by_first(&self, i: usize, j: usize) -> Option<(u8, usize, usize)>
+        ensures step { IsNextStep (spec.by_first (chains_of self.now) i j) result }
+    {
+        if i > self.first_length as usize {
+            return None;
+        }
+        let leaf = self.first[i];
+        match self.on_second[leaf as usize] as usize {
+            0 => Some((leaf, i + 1, j)),
+            other if other == j => Some((leaf, i + 1, j + 1)),
+            _ => None,
+        }
+    }
+
+    // The leaf that comes next by the second chain alone, and the places that come next behind it.
+    pub(crate) fn by_second(&self, i: usize, j: usize) -> Option<(u8, usize, usize)>
+        ensures step { IsNextStep (spec.by_second (chains_of self.now) i j) result }
+    {
+        if j > self.second_length as usize {
+            return None;
+        }
+        let leaf = self.second[j];
+        match self.on_first[leaf as usize] {
+            0 => Some((leaf, i, j + 1)),
+            _ => None,
         }
     }
 }

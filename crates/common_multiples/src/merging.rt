@@ -1,4 +1,4 @@
-ghost use Rattle.std.specs.Prelude.{◌≡◌, ◌<◌, ◌≤◌, ◌+◌, ◌++◌, ℕ, List, map, IfOk, OnOk};
+ghost use Rattle.std.specs.Prelude.{◌≡◌, ◌<◌, ◌≤◌, ◌+◌, ◌++◌, ℕ, List, map, IfOk, OnOk, slice_set};
 ghost use Rattle.labelled_trees.specs.Meaning.{tree_of};
 ghost use Rattle.labelled_trees.specs.Trees.{vertices};
 ghost use Rattle.labelled_trees.specs.Leaves.{leaf_count};
@@ -24,6 +24,14 @@ pub(crate) struct Site<'a> {
     pub(crate) host_place: Place,
     pub(crate) guest_place: Place,
     pub(crate) is_turned: bool,
+}
+
+// The table with another entry for the leaf.
+fn with_number(mut numbers: [u8; 256], leaf: u8, number: u8) -> [u8; 256]
+    ensures table { result ≡ slice_set numbers leaf number }
+{
+    numbers[leaf as usize] = number;
+    numbers
 }
 
 impl Site<'_> {
@@ -73,33 +81,13 @@ impl Site<'_> {
             found.push(self.multiple(alloc, &numbers)?)?;
             return Ok(());
         }
-        let (i, j) = next;
-        if i <= chains.first_length as usize {
-            let leaf = chains.first[i] as usize;
-            let mut now = numbers;
-            now[leaf] = given + 1;
-            let other = chains.on_second[leaf] as usize;
-            if other == 0 {
-                self.push_merged(alloc, chains, given + 1, left - 1, (i + 1, j), now, found)?;
-            } else if other == j {
-                self.push_merged(
-                    alloc,
-                    chains,
-                    given + 1,
-                    left - 1,
-                    (i + 1, j + 1),
-                    now,
-                    found,
-                )?;
-            }
+        if let Some((leaf, i, j)) = chains.by_first(next.0, next.1) {
+            let now = with_number(numbers, leaf, given + 1);
+            self.push_merged(alloc, chains, given + 1, left - 1, (i, j), now, found)?;
         }
-        if j <= chains.second_length as usize {
-            let leaf = chains.second[j] as usize;
-            if chains.on_first[leaf] == 0 {
-                let mut now = numbers;
-                now[leaf] = given + 1;
-                self.push_merged(alloc, chains, given + 1, left - 1, (i, j + 1), now, found)?;
-            }
+        if let Some((leaf, i, j)) = chains.by_second(next.0, next.1) {
+            let now = with_number(numbers, leaf, given + 1);
+            self.push_merged(alloc, chains, given + 1, left - 1, (i, j), now, found)?;
         }
         Ok(())
     }
