@@ -1,5 +1,7 @@
 pub mod Assigned
+pub mod LaidOver
 pub mod LaidParts
 pub mod Merged
+pub mod NumberedTrees
 pub mod Numbering
 pub mod Steps
