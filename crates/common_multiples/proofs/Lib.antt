@@ -1,7 +1,9 @@
 pub mod Assigned
 pub mod FromOverlaps
 pub mod Inverses
+pub mod LaidOver
 pub mod LaidParts
+pub mod LeafCounts
 pub mod MergeSteps
 pub mod Merged
 pub mod NumberedTrees

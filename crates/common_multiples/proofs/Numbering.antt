@@ -4,7 +4,7 @@ use mathlib.Core.List.{◌++◌, append-nil}
 use mathlib.Core.Path.{ap₂}
 use native.Mathlib.Decide.{ℕ_discrete}
 use Rattle.std.proofs.lemmas.List.{map-append}
-use Rattle.modular_sums.specs.Lists.{choose}
+use Rattle.modular_sums.proofs.Choices.{choose-yes, choose-no}
 use Rattle.labelled_trees.specs.Trees.{Tree, Row, leaf, node, none, more, row, inputs, graft, graft_row, vertices, vertices_row}
 use Rattle.labelled_trees.specs.Leaves.{leaf_count, leaf_count_row}
 use Rattle.labelled_trees.specs.Meaning.{tree_of}
@@ -120,14 +120,6 @@ count_second h g i e = sym (ap leaf_count (union_second h g i e) ∙ leaf_count-
 
 -- ---- one tree laid over a vertex of another
 
-chosen : {A X : Type 0} (d : Dec A) (x y : X) → A → choose d x y ≡ x
-chosen (yes _) x y a = refl
-chosen (no f) x y a = absurd (f a)
-
-not_chosen : {A X : Type 0} (d : Dec A) (x y : X) → (A → ⊥) → choose d x y ≡ y
-not_chosen (yes a) x y f = absurd (f a)
-not_chosen (no _) x y f = refl
-
 pub vertices-shape : {A : Type 0} (t : Tree A) → vertices (shape t) ≡ vertices t
 vertices-shape t = vertices-named t (λ a. tt)
 
@@ -138,13 +130,13 @@ pub over_here : (k v : ℕ) (h g : program.Tree) (l : ℕ) (ts : List program.Tr
 over_here k v h g l ts same e =
     let b = shape (tree_of g) in
     let is = shape_node h l ts ts e refl in
-    ap (λ x. over_at k v x b) is ∙ chosen (ℕ_discrete k v) (union (node l (shape_row (rows ts))) b) (node l (over_at_row (suc k) v (shape_row (rows ts)) b)) same ∙ ap (λ x. union x b) (sym is)
+    ap (λ x. over_at k v x b) is ∙ choose-yes (ℕ_discrete k v) (union (node l (shape_row (rows ts))) b) (node l (over_at_row (suc k) v (shape_row (rows ts)) b)) same ∙ ap (λ x. union x b) (sym is)
 
 pub over_inside : (k v : ℕ) (h g : program.Tree) (l : ℕ) (ts items : List program.Tree) → (k ≡ v → ⊥) → h ≡ Node l ts → items ≡ ts
     → over_at k v (shape (tree_of h)) (shape (tree_of g)) ≡ node l (over_at_row (suc k) v (shape_row (rows items)) (shape (tree_of g)))
 over_inside k v h g l ts items other e s =
     let b = shape (tree_of g) in
-    ap (λ x. over_at k v x b) (shape_node h l ts items e s) ∙ not_chosen (ℕ_discrete k v) (union (node l (shape_row (rows items))) b) (node l (over_at_row (suc k) v (shape_row (rows items)) b)) other
+    ap (λ x. over_at k v x b) (shape_node h l ts items e s) ∙ choose-no (ℕ_discrete k v) (union (node l (shape_row (rows items))) b) (node l (over_at_row (suc k) v (shape_row (rows items)) b)) other
 
 pub overs_more : (k n v : ℕ) (b : Tree (Unit {0})) (items : List program.Tree) (i : ℕ) (t : program.Tree) → i < length items → t ≡ get_or items i t → n ≡ k + vertices (tree_of t)
     → over_at_row k v (shapes_from i items) b ≡ more (over_at k v (shape (tree_of t)) b) (over_at_row n v (shapes_from (i + 1) items) b)
