@@ -6,6 +6,7 @@ pub mod LaidParts
 pub mod LeafCounts
 pub mod MergeSteps
 pub mod Merged
+pub mod NumberedShapes
 pub mod NumberedTrees
 pub mod Numbering
 pub mod OverlaidPlaces
