@@ -10,6 +10,8 @@ pub mod NumberedShapes
 pub mod NumberedTrees
 pub mod Numbering
 pub mod OverlaidPlaces
+pub mod OverlapLists
 pub mod OverlayParts
 pub mod OverlayPatterns
+pub mod SiteOverlaps
 pub mod Steps
