@@ -6,3 +6,4 @@ pub mod Merged
 pub mod NumberedTrees
 pub mod Numbering
 pub mod Steps
+pub mod VertexSearch
