@@ -15,3 +15,4 @@ pub mod OverlayParts
 pub mod OverlayPatterns
 pub mod SiteOverlaps
 pub mod Steps
+pub mod VertexSearch
