@@ -6,7 +6,7 @@ use Rattle.labelled_trees.proofs.ProgramTrees.{tree_of-leaf}
 use Rattle.shuffle_insertions.specs.ShuffleTrees.{least}
 use Rattle.shuffle_places.specs.Places.{cut}
 use Rattle.tree_divisors.specs.Cutting.{has_marks}
-use Rattle.tree_divisors.specs.Framing.{put_by_rank, trees_in}
+use Rattle.tree_divisors.specs.Framing.{lent_trees, put_by_rank}
 use Rattle.tree_divisors.proofs.FrameParts.{parts_of_leaf, parts_unmarked, put_alone, put_next}
 use Rattle.tree_divisors.proofs.framing.+put_parts.Goals as goal
 
@@ -24,7 +24,7 @@ returns-then-marks-from-eq0-clause-slots t c =
 
 pub loop-input-preserved : goal.loop-input-preserved
 loop-input-preserved t c =
-    put_next (has_marks c.args.marks.now) c.args.ranks.now (trees_in c.loop-input.slots) (trees_in c.put_parts-next.new.slots)
-    (put_by_rank c.args.ranks.now (trees_in c.args.slots.now) (leaves (cut (has_marks c.args.marks.now) c.args.from (tree_of c.args.tree.now))))
+    put_next (has_marks c.args.marks.now) c.args.ranks.now (lent_trees c.loop-input.slots) (lent_trees c.put_parts-next.new.slots)
+    (put_by_rank c.args.ranks.now (lent_trees c.args.slots.now) (leaves (cut (has_marks c.args.marks.now) c.args.from (tree_of c.args.tree.now))))
     c.loop-input.next c.put_parts-next.result (c.args.from + vertices (tree_of c.args.tree.now)) c.as_slice-input-items.result.now c.loop-input.input-index c.input-item.result
     c.loop-input-test.true c.input-item.is c.loop-input.invariant c.put_parts-next.ensures.next c.put_parts-next.ensures.slots
