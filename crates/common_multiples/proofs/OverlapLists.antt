@@ -9,7 +9,7 @@ use Rattle.std.specs.Cmp.Lexicographic.{slice_cmp}
 use Rattle.modular_sums.specs.Lists.{Mem, Distinct, has}
 use Rattle.modular_sums.proofs.Lists.{Distinct-append, mem_left, mem_right, mem_either, has_mem, mem_has}
 use Rattle.labelled_trees.specs.Trees.{Tree, vertices}
-use Rattle.operad_ideals.specs.TreeOrder.{order}
+use Rattle.operad_ideals.specs.SpellingOrder.{order}
 use Rattle.operad_ideals.proofs.TreeOrder.{order_is_total}
 use Rattle.shuffle_places.specs.Multiples.{IsOverlap, IsMultiple}
 use Rattle.shuffle_places.proofs.Overlays.{turned, root_covered}
