@@ -21,7 +21,7 @@ use Rattle.common_multiples.proofs.FromOverlaps.{root_begins, some_vertex, not_r
 begins_in : (v : ℕ) (l : List ℕ) → Begins v l → Mem v l
 begins_in v l h = subst (Mem v) (sym h.1) (inl refl)
 
-guest_of : Bool → Multiple → List ℕ
+abbrev guest_of : Bool → Multiple → List ℕ
 guest_of true y = y.first
 guest_of false y = y.second
 

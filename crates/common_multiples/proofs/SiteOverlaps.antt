@@ -209,11 +209,10 @@ module _ (n m k v : ℕ) (a b : Tree ℕ) (turned : Bool) (valid_a : IsShuffle m
                 → (s : List ℕ) × Mem s (merges chains n 1 1) × (multiple_with turned t host guest ≡ listed s)
             some_sequence t host guest o root top =
                 let r = numbered_from n m k a b valid_a valid_b stands.context x stands.is stands.is_node tree is_overlay inner inside before first before' second laid_a laid_b t host guest o
-                    (subst (Mem 1) (sym root.1) (inl refl)) (subst (λ w. Begins w guest) (sym stands.number) top) in
+                (subst (Mem 1) (sym root.1) (inl refl)) (subst (λ w. Begins w guest) (sym stands.number) top) in
                 let q = number_merged chains n r.number table are_chains room record { first_rise = r.rise_first; second_rise = r.rise_second; into = r.into; onto = r.onto; apart = r.apart } in
                 let e : t ≡ numbered (slice_index (assigned q.0 1 table)) 0 (over_at 1 v (shape a) (shape b))
-                    = r.host_is ∙ named r.number ∙ numbered_agree r.number (slice_index (assigned q.0 1 table)) n (over_at 1 v (shape a) (shape b)) arity (λ z p le. sym (q.2 z p le)) in
-                (
+                = r.host_is ∙ named r.number ∙ numbered_agree r.number (slice_index (assigned q.0 1 table)) n (over_at 1 v (shape a) (shape b)) arity (λ z p le. sym (q.2 z p le)) in (
                   q.0,
                   q.1,
                   ap (λ u. multiple_with turned u host guest) e
@@ -224,15 +223,18 @@ module _ (n m k v : ℕ) (a b : Tree ℕ) (turned : Bool) (valid_a : IsShuffle m
             all_overlaps = record {
               only = λ y h.
                   let r = mem_of_map listed y (merges chains n 1 1) h in
-                  let e : y.tree ≡ numbered (slice_index (assigned r.0 1 table)) 0 (over_at 1 v (shape a) (shape b)) = ap (λ (z : Multiple). z.tree) r.2 in
-                  (
+                  let e : y.tree ≡ numbered (slice_index (assigned r.0 1 table)) 0 (over_at 1 v (shape a) (shape b)) = ap (λ (z : Multiple). z.tree) r.2 in (
                     numbers_at 1 (lay a tree),
                     numbers_at v (lay b inner),
                     r.2 ∙ ap (λ u. multiple_with turned u (numbers_at 1 (lay a tree)) (numbers_at v (lay b inner))) (sym e),
                     subst (λ u. IsOverlap n a b u (numbers_at 1 (lay a tree)) (numbers_at v (lay b inner))) (sym e) (overlap r.0 r.1),
                     first_begins n m k a b valid_a valid_b node_b stands.context x stands.is stands.is_node agree tree is_overlay inner inside before first before' second laid_a laid_b,
-                    (v, refl, subst (λ w. Begins w (numbers_at w (lay b inner))) stands.number
-                    (second_begins n m k a b valid_a valid_b node_b stands.context x stands.is stands.is_node agree tree is_overlay inner inside before first before' second laid_a laid_b)),
+                    (
+                      v,
+                      refl,
+                      subst (λ w. Begins w (numbers_at w (lay b inner))) stands.number
+                          (second_begins n m k a b valid_a valid_b node_b stands.context x stands.is stands.is_node agree tree is_overlay inner inside before first before' second laid_a laid_b),
+                    ),
                   );
               each = λ t host guest w o root e top.
                   let r = some_sequence t host guest o root (subst (λ u. Begins u guest) e top) in

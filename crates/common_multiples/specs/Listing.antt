@@ -8,7 +8,10 @@ use Rattle.labelled_trees.specs.Meaning.{tree_of}
 use Rattle.shuffle_places.specs.Multiples.{IsOverlap, IsMultiple}
 use Rattle.shuffle_places.specs.Overlays.{shape}
 use Rattle.common_multiples.specs.Merging as spec
-use Rattle.common_multiples.specs.Overlaying.{Begins}
+use Rattle.common_multiples.specs.Overlaying.{Agree, Begins, StandsAt}
+use Rattle.shuffle_places.specs.AllPlaces.{lay}
+use Rattle.tree_divisors.specs.Laying.{IsLaid, numbers_at}
+use Rattle.common_multiples.specs.declared.families.Laid as laid
 use Rattle.common_multiples.specs.Building.{numbered, over_at}
 use Rattle.common_multiples.specs.declared.chains.Chains as program
 use Rattle.common_multiples.specs.declared.merging.Site as site
@@ -19,6 +22,34 @@ use Rattle.shuffle_insertions.specs.ShuffleTrees.{IsShuffle}
 -- the tree has a vertex, and its leaves are 1 to the arity
 abbrev pub IsPattern : pattern.Pattern → Type 0
 IsPattern p = IsShuffle p.arity p.tree.now × IsNode p.tree.now
+
+-- b can be laid over the vertex v of a, and there are n leaves then
+pub record FitsAt (n : ℕ) (a b : Tree ℕ) (v : ℕ) : Type 0 where
+  pub part : Tree ℕ
+  pub stands : StandsAt 1 v a part
+  pub agree : Agree part b
+  pub arity : leaf_count (over_at 1 v (shape a) (shape b)) ≡ n
+
+-- two trees with leaves 1 to their arities, of which the second can be laid over the vertex v of the first with at most 255 leaves
+pub record IsLayable (a b : Tree ℕ) (v : ℕ) : Type 0 where
+  pub n : ℕ
+  pub small : n < 256
+  pub fits : FitsAt n a b v
+  pub host : (m : ℕ) × IsShuffle m a
+  pub guest : (k : ℕ) × IsShuffle k b
+  pub is_node : IsNode b
+
+-- the places of both trees in the one laid over the other, and the first leaves of their parts
+pub record AreLaid (a b : Tree ℕ) (v : ℕ) (laid : laid.Laid) : Type 0 where
+  pub tree : Tree ℕ
+  pub plain : tree ≡ numbered (λ i. i) 0 (over_at 1 v (shape a) (shape b))
+  pub inner : Tree ℕ
+  pub at : StandsAt 1 v tree inner
+  pub before : List ℕ
+  pub first : IsLaid before laid.first a tree
+  pub second : IsLaid before laid.second b inner
+  pub host_place : laid.host_place ≡ numbers_at 1 (lay a tree)
+  pub guest_place : laid.guest_place ≡ numbers_at v (lay b inner)
 
 -- no two of the numbers at the places 1 to m are one
 abbrev pub IsOneToOne : ℕ → (ℕ → ℕ) → Type 0

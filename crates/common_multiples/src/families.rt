@@ -1,7 +1,7 @@
-ghost use Rattle.std.specs.Prelude.{◌≡◌, ◌<◌, ◌≤◌, ◌++◌, ℕ, List, IfOk, OnOk, slice_index};
+ghost use Rattle.std.specs.Prelude.{◌≡◌, ◌<◌, ◌≤◌, ◌++◌, ℕ, List, [], Bool, true, false, IfOk, OnOk, slice_index};
 ghost use Rattle.labelled_trees.specs.Trees.{IsNode, vertices};
 ghost use Rattle.shuffle_insertions.specs.ShuffleTrees.{IsShuffle};
-ghost use Rattle.common_multiples.specs.Listing.{AreAllMultiples, AreOverlapsAt, AreOverlapsFrom, IsPattern};
+ghost use Rattle.common_multiples.specs.Listing.{AreAllMultiples, AreLaid, AreOverlapsAt, AreOverlapsFrom, FitsAt, IsLayable, IsPattern};
 
 use crate::chains::Chains;
 use crate::merging::Site;
@@ -41,6 +41,66 @@ fn same_numbers() -> [u8; 256]
     numbers
 }
 
+// Whether there are `n` leaves once the guest is laid over the host's vertex `at`; false where their labels differ somewhere.
+// It takes no memory.
+fn fits_at(host: &Pattern, guest: &Pattern, at: u8, n: u8) -> bool
+    requires patterns { IsPattern host.now × IsPattern guest.now }
+    requires at { (0 < at) × (at ≤ vertices host.now.tree.now) }
+    ensures fits { result ≡ true → FitsAt n host.now.tree.now guest.now.tree.now at }
+    ensures none { result ≡ false → (is_turned : Bool) → AreOverlapsAt n host.now.tree.now guest.now.tree.now at is_turned [] }
+{
+    match vertex_at(host.tree.shape(), 1, at) {
+        Vertex::At(part) => match leaves_over(part, guest.tree.shape()) {
+            Some(count) => host.arity as u16 + count == n as u16 + count_leaves(part),
+            None => false,
+        },
+        Vertex::Past(_) => unreachable!(),
+    }
+}
+
+// One tree laid over another: the places of both, and for each number of a leaf of them the first leaf, from left to right, of what
+// stands there.
+#[derive(Drop)]
+struct Laid {
+    host_place: Place,
+    guest_place: Place,
+    first: [u8; 256],
+    second: [u8; 256],
+}
+
+// The guest laid over the host's vertex `at`.
+fn lay_at(alloc: Global, host: &STree, guest: &STree, at: u8) -> Result<Laid, AllocError>
+    requires laid { IsLayable host.now guest.now at }
+    ensures laid { IfOk result (AreLaid host.now guest.now at) }
+{
+    let made = overlay(
+        alloc,
+        host.shape(),
+        guest.shape(),
+        1,
+        at,
+        0,
+        &same_numbers(),
+    )?;
+    let mut first = [0; 256];
+    let mut second = [0; 256];
+    match vertex_at(&made.tree, 1, at) {
+        Vertex::At(inner) => {
+            lies(host.shape(), &made.tree, &mut first);
+            lies(guest.shape(), inner, &mut second);
+            let host_place = Place::from_vertices(numbers(alloc, host.shape(), &made.tree, 1)?);
+            let guest_place = Place::from_vertices(numbers(alloc, guest.shape(), inner, at)?);
+            Ok(Laid {
+                host_place,
+                guest_place,
+                first,
+                second,
+            })
+        }
+        Vertex::Past(_) => unreachable!(),
+    }
+}
+
 // Puts the overlaps of arity `n` behind the others in which the host has the root and the guest lies over its vertex `at`.
 fn push_overlaps(
     alloc: Global,
@@ -55,47 +115,20 @@ fn push_overlaps(
     requires at { (0 < at) × (at ≤ vertices host.now.tree.now) }
     ensures overlaps { OnOk result ((more : List _) × (found.new.items ≡ found.old.items ++ more) × AreOverlapsAt n host.now.tree.now guest.now.tree.now at is_turned more) }
 {
-    let Vertex::At(part) = vertex_at(host.tree.shape(), 1, at) else {
-        unreachable!()
-    };
-    let Some(count) = leaves_over(part, guest.tree.shape()) else {
-        return Ok(());
-    };
-    if host.arity as u16 + count != n as u16 + count_leaves(part) {
+    if !fits_at(host, guest, at, n) {
         return Ok(());
     }
-    let plain = same_numbers();
-    let made = overlay(
-        alloc,
-        host.tree.shape(),
-        guest.tree.shape(),
-        1,
-        at,
-        0,
-        &plain,
-    )?;
-    let Vertex::At(inner) = vertex_at(&made.tree, 1, at) else {
-        unreachable!()
-    };
-    let mut first = [0; 256];
-    let mut second = [0; 256];
-    if !lies(host.tree.shape(), &made.tree, &mut first)
-        || !lies(guest.tree.shape(), inner, &mut second)
-    {
-        unreachable!()
-    }
-    let host_place = Place::from_vertices(numbers(alloc, host.tree.shape(), &made.tree, 1)?);
-    let guest_place = Place::from_vertices(numbers(alloc, guest.tree.shape(), inner, at)?);
-    let chains = Chains::of(first, host.arity, second, guest.arity);
+    let laid = lay_at(alloc, host.tree, guest.tree, at)?;
+    let chains = Chains::of(laid.first, host.arity, laid.second, guest.arity);
     let site = Site {
         host: host.tree.shape(),
         guest: guest.tree.shape(),
         at,
-        host_place,
-        guest_place,
+        host_place: laid.host_place,
+        guest_place: laid.guest_place,
         is_turned,
     };
-    site.push_merged(alloc, &chains, 0, n, (1, 1), plain, found)
+    site.push_merged(alloc, &chains, 0, n, (1, 1), [0; 256], found)
 }
 
 // Puts the overlaps of arity `n` behind the others in which the host has the root and the guest's first vertex is the host's
