@@ -4,7 +4,7 @@ use Rattle.std.specs.Prelude.{slice_index}
 use mathlib.Core.Path.{ap₂}
 use mathlib.Core.List.{◌++◌}
 use Rattle.modular_sums.specs.Lists.{Mem}
-use Rattle.labelled_trees.specs.Trees.{Tree, Row, leaf, node, none, more, graft, graft_row, join, vertices}
+use Rattle.labelled_trees.specs.Trees.{Tree, Row, leaf, node, none, more, graft, join, vertices}
 use Rattle.labelled_trees.specs.Leaves.{AllLeaves}
 use Rattle.labelled_trees.proofs.Factors.{factor}
 use Rattle.labelled_trees.proofs.Grafts.{graft_assoc}

@@ -6,7 +6,7 @@ use Rattle.labelled_trees.specs.Meaning.{tree_of}
 use Rattle.labelled_trees.specs.Unions.{union, union_row}
 use Rattle.labelled_trees.specs.declared.Tree as program
 use Rattle.labelled_trees.specs.declared.Tree.TheVariants.{Node, Leaf}
-use Rattle.labelled_trees.proofs.ProgramTrees.{tree_of-leaf, tree_of-node}
+use Rattle.labelled_trees.proofs.ProgramTrees.{tree_of-leaf}
 use Rattle.shuffle_places.specs.Overlays.{shape, shape_row}
 use Rattle.shuffle_trees.proofs.Walking.{left_from, none_left}
 use Rattle.tree_divisors.proofs.LaidPatterns.{rows}

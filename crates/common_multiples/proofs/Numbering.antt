@@ -5,14 +5,14 @@ use mathlib.Core.Path.{ap₂}
 use native.Mathlib.Decide.{ℕ_discrete}
 use Rattle.std.proofs.lemmas.List.{map-append}
 use Rattle.modular_sums.proofs.Choices.{choose-yes, choose-no}
-use Rattle.labelled_trees.specs.Trees.{Tree, Row, leaf, node, none, more, row, inputs, graft, graft_row, vertices, vertices_row}
+use Rattle.labelled_trees.specs.Trees.{Tree, Row, leaf, node, none, more, row, inputs, vertices, vertices_row}
 use Rattle.labelled_trees.specs.Leaves.{leaf_count, leaf_count_row}
 use Rattle.labelled_trees.specs.Meaning.{tree_of}
 use Rattle.labelled_trees.specs.Unions.{union, union_row}
 use Rattle.labelled_trees.specs.declared.Tree as program
 use Rattle.labelled_trees.specs.declared.Tree.TheVariants.{Node, Leaf}
 use Rattle.labelled_trees.proofs.ProgramTrees.{tree_of-leaf, tree_of-node}
-use Rattle.labelled_trees.proofs.GraftLeaves.{sum_leaves-graft, sum_row-graft}
+use Rattle.labelled_trees.proofs.GraftLeaves.{sum_leaves-graft}
 use Rattle.labelled_trees.proofs.Rows.{row-inputs}
 use Rattle.shuffle_places.specs.Overlays.{shape, shape_row}
 use Rattle.shuffle_places.proofs.Overlays.{vertices-named}
@@ -73,8 +73,7 @@ row_fits f first all made placed left t r e h = let o = (subst (RowLeft f first 
 pub row_end : (f : ℕ → ℕ) (first : ℕ) (all : Row (Unit {0})) (made : List program.Tree) (placed g : ℕ) (left : Row (Unit {0})) (t : Tree (Unit {0})) → left ≡ none → t ≡ node g all
     → RowLeft f first all made placed left → (tree_of (Node g made) ≡ numbered f first t) × (placed ≡ first + leaf_count t)
 row_end f first all made placed g left t e is h =
-    let s = subst (RowLeft f first all made placed) e h in
-    (
+    let s = subst (RowLeft f first all made placed) e h in (
       tree_of-node g made ∙ ap (λ us. node g (row us)) (sym (append-nil (map tree_of made)) ∙ s.rest) ∙ ap (node g) (row-inputs (numbered_row f first all)) ∙ ap (numbered f first) (sym is),
       (let o = s.ends in let c = ap leaf_count is in omega (arith, o, c)),
     )

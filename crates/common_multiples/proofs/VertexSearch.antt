@@ -1,7 +1,7 @@
 -- The search for a vertex by its number.
 use Rattle.std.proofs.Common.{◌≡◌, ℕ, suc, ◌+◌, ◌<◌, ◌≤◌, List, length, drop, get_or, refl, sym, ◌∙◌, ap, arith, subst}
 use native.Mathlib.Decide.{ℕ_discrete, dec_lt}
-use Rattle.labelled_trees.specs.Trees.{Tree, Row, leaf, node, none, more, vertices, vertices_row}
+use Rattle.labelled_trees.specs.Trees.{Tree, Row, node, none, more, vertices, vertices_row}
 use Rattle.labelled_trees.specs.Contexts.{RowCtx, hole, inside, here, past, fill_row}
 use Rattle.labelled_trees.specs.Meaning.{tree_of}
 use Rattle.labelled_trees.specs.declared.Tree as program

@@ -15,8 +15,7 @@ loop-input-preserved t c =
     let part = c.in_ok-part-in-Node.part in
     let next = c.loop-input.next in
     let at = c.args.at in
-    let b = shape (tree_of c.args.guest.now) in
-    (
+    let b = shape (tree_of c.args.guest.now) in (
       row_next (slice_index c.args.numbers.now) c.args.placed (over_at_row (suc c.args.from) at (shape_row (rows items)) b) c.loop-input.made c.push.new.self part.tree c.loop-input.now part.placed (over_at_row next at (shapes_from i items) b)
           (over_at next at (shape (tree_of x)) b) (over_at_row part.next at (shapes_from (i + 1) items) b) (overs_more next part.next at b items i x c.loop-input-test.true c.input-item.is c.in_ok-part-in-Node.ensures.next)
           c.loop-input.invariant.0 c.in_ok-part-in-Node.ensures.tree c.in_ok-part-in-Node.ensures.placed c.in_ok-push-in-Node.ensures.ok,

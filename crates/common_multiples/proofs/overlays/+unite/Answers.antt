@@ -1,8 +1,7 @@
-use Rattle.std.proofs.Common.{◌≡◌, ◌+◌, ◌<◌, ◌≤◌, ◌∙◌, length, get_or, arith, rules, sym, ap, subst, refl, IfOk, slice_index}
-use Rattle.labelled_trees.specs.Leaves.{leaf_count, leaf_count_row}
+use Rattle.std.proofs.Common.{◌≡◌, ◌+◌, ◌<◌, ◌≤◌, ◌∙◌, length, get_or, arith, sym, ap, subst, IfOk, slice_index}
+use Rattle.labelled_trees.specs.Leaves.{leaf_count}
 use Rattle.labelled_trees.specs.Meaning.{tree_of}
 use Rattle.labelled_trees.specs.Unions.{union, union_row}
-use Rattle.labelled_trees.specs.declared.Tree.TheViews.{the_lemmas}
 use Rattle.shuffle_places.specs.Overlays.{shape, shape_row}
 use Rattle.tree_divisors.proofs.LaidPatterns.{rows}
 use Rattle.common_multiples.proofs.Numbering.{leaf_count-shape, count_first, count_second, union_nodes, shapes_from, unions_more, unions_alone, unions_none, row_next, row_fits, row_end}
@@ -35,17 +34,17 @@ loop-at-preserved t c =
     let next = row_next (slice_index c.args.numbers.now) c.args.placed (union_row (shape_row (rows items)) (shape_row (rows parts))) c.loop-at.made c.push.new.self c.match-get.part.0 c.loop-at.now c.match-get.part.1 (union_row (shapes_from i items) (shapes_from i parts)) in
     let left = union_row (shapes_from (i + 1) items) (shapes_from (i + 1) parts) in
     elim c.match-get.branch [
-      in-Some+in_ok-unite-in-Some w ↦
-        let other = w.in-Some.other.now in
-        let short : i < length parts = subst (λ us. i < length us) c.as_slice.ensures w.in-Some.ensures.lookup.3.0 in
-        let there : other ≡ get_or parts i other = subst (λ us. other ≡ get_or us i other) c.as_slice.ensures w.in-Some.ensures.lookup.1 in
-        next (union (shape (tree_of x)) (shape (tree_of other))) left (unions_more items parts i x other c.loop-at-test.true c.input-item.is short there) c.loop-at.invariant
-        (ap (λ q. tree_of q.0) w.part-is ∙ w.in_ok-unite-in-Some.ensures.tree) (ap (λ q. q.1) w.part-is ∙ w.in_ok-unite-in-Some.ensures.placed) c.in_ok-push-in-Node-Node.ensures.ok
-    | in-None+in_ok-part-in-None w ↦
-        let past : length parts ≤ i = subst (λ us. length us ≤ i) c.as_slice.ensures w.in-None.ensures.lookup.3 in
-        next (shape (tree_of x)) left (unions_alone items parts i x c.loop-at-test.true c.input-item.is past) c.loop-at.invariant
-        (ap (λ q. tree_of q.0) w.part-is ∙ w.in_ok-part-in-None.ensures.tree)
-        (ap (λ q. q.1) w.part-is ∙ w.in_ok-part-in-None.ensures.placed ∙ ap (λ m. c.loop-at.now + m) (sym (leaf_count-shape (tree_of x)))) c.in_ok-push-in-Node-Node.ensures.ok
+      | in-Some+in_ok-unite-in-Some w ↦
+          let other = w.in-Some.other.now in
+          let short : i < length parts = subst (λ us. i < length us) c.as_slice.ensures w.in-Some.ensures.lookup.3.0 in
+          let there : other ≡ get_or parts i other = subst (λ us. other ≡ get_or us i other) c.as_slice.ensures w.in-Some.ensures.lookup.1 in
+          next (union (shape (tree_of x)) (shape (tree_of other))) left (unions_more items parts i x other c.loop-at-test.true c.input-item.is short there) c.loop-at.invariant
+          (ap (λ q. tree_of q.0) w.part-is ∙ w.in_ok-unite-in-Some.ensures.tree) (ap (λ q. q.1) w.part-is ∙ w.in_ok-unite-in-Some.ensures.placed) c.in_ok-push-in-Node-Node.ensures.ok
+      | in-None+in_ok-part-in-None w ↦
+          let past : length parts ≤ i = subst (λ us. length us ≤ i) c.as_slice.ensures w.in-None.ensures.lookup.3 in
+          next (shape (tree_of x)) left (unions_alone items parts i x c.loop-at-test.true c.input-item.is past) c.loop-at.invariant
+          (ap (λ q. tree_of q.0) w.part-is ∙ w.in_ok-part-in-None.ensures.tree)
+          (ap (λ q. q.1) w.part-is ∙ w.in_ok-part-in-None.ensures.placed ∙ ap (λ m. c.loop-at.now + m) (sym (leaf_count-shape (tree_of x)))) c.in_ok-push-in-Node-Node.ensures.ok
     ]
 
 pub returns-in-Leaf-default-clause-placed : goal.returns-in-Leaf-default-clause-placed
