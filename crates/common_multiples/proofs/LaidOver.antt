@@ -3,7 +3,7 @@ use Rattle.std.proofs.Common.{◌≡◌, ℕ, suc, ◌+◌, ◌<◌, ◌≤◌, 
 use mathlib.Core.Path.{ap₂}
 use native.Mathlib.Decide.{ℕ_discrete}
 use Rattle.modular_sums.proofs.Choices.{choose-yes, choose-no}
-use Rattle.labelled_trees.specs.Trees.{Tree, Row, leaf, node, none, more, graft, vertices, vertices_row, width, IsNode}
+use Rattle.labelled_trees.specs.Trees.{Tree, Row, leaf, node, none, more, vertices, vertices_row, width, IsNode}
 use Rattle.labelled_trees.specs.Leaves.{leaf_count, leaf_count_row}
 use Rattle.labelled_trees.specs.Contexts.{Ctx, RowCtx, hole, inside, here, past, fill, fill_row, graft_ctx, graft_row_ctx}
 use Rattle.labelled_trees.specs.Unions.{union, union_row}

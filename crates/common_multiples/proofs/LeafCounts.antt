@@ -6,7 +6,7 @@ use Rattle.labelled_trees.specs.Meaning.{tree_of}
 use Rattle.labelled_trees.specs.Unions.{union, union_row}
 use Rattle.labelled_trees.specs.declared.Tree as program
 use Rattle.labelled_trees.specs.declared.Tree.TheVariants.{Node, Leaf}
-use Rattle.labelled_trees.proofs.ProgramTrees.{tree_of-leaf, tree_of-node}
+use Rattle.labelled_trees.proofs.ProgramTrees.{tree_of-leaf}
 use Rattle.shuffle_places.specs.Overlays.{shape, shape_row}
 use Rattle.shuffle_trees.proofs.Walking.{left_from, none_left}
 use Rattle.tree_divisors.proofs.LaidPatterns.{rows}
@@ -16,30 +16,12 @@ use Rattle.common_multiples.proofs.Numbering.{leaf_count-shape}
 
 -- ---- one tree
 
-pub leaves_of_leaf : (t : program.Tree) (i : ℕ) → t ≡ Leaf i → 1 ≡ leaf_count (tree_of t)
-leaves_of_leaf t i e = sym (ap leaf_count (ap tree_of e ∙ tree_of-leaf i))
-
 pub leaves_of_node : (t : program.Tree) (g : ℕ) (ts items : List program.Tree) → t ≡ Node g ts → items ≡ ts → leaf_count_row (rows items) ≡ leaf_count (tree_of t)
 leaves_of_node t g ts items e s = sym (ap leaf_count (as_node g t ts items e s))
 
 -- What the inputs from one on still add to the count.
 abbrev pub CountsTo : ℕ → ℕ → ℕ → List program.Tree → Type 0
 CountsTo total count i items = count + leaf_count_row (rows (drop i items)) ≡ total
-
-counts_on : (total count i : ℕ) (items : List program.Tree) (t : program.Tree) → i < length items → t ≡ get_or items i t → CountsTo total count i items → count + (leaf_count (tree_of t) + leaf_count_row (rows (drop (i + 1) items))) ≡ total
-counts_on total count i items t lt e h = subst (λ us. count + leaf_count_row (rows us) ≡ total) (left_from items i t lt e) h
-
-pub counts_start : (t : program.Tree) (g : ℕ) (ts items : List program.Tree) → t ≡ Node g ts → items ≡ ts → CountsTo (leaf_count (tree_of t)) 0 0 items
-counts_start t g ts items e s = let k = leaves_of_node t g ts items e s in omega (arith, k)
-
-pub counts_fit : (total count i : ℕ) (items : List program.Tree) (t : program.Tree) → i < length items → t ≡ get_or items i t → CountsTo total count i items → count + leaf_count (tree_of t) ≤ total
-counts_fit total count i items t lt e h = omega (arith, counts_on total count i items t lt e h)
-
-pub counts_next : (total count n i : ℕ) (items : List program.Tree) (t : program.Tree) → i < length items → t ≡ get_or items i t → CountsTo total count i items → n ≡ count + leaf_count (tree_of t) → CountsTo total n (i + 1) items
-counts_next total count n i items t lt e h is = omega (arith, counts_on total count i items t lt e h, is)
-
-pub counts_all : (total count i : ℕ) (items : List program.Tree) → length items ≤ i → CountsTo total count i items → count ≡ total
-counts_all total count i items le h = let s = subst (λ us. count + leaf_count_row (rows us) ≡ total) (none_left items i le) h in omega (arith, s)
 
 -- ---- two trees laid over each other
 
@@ -89,9 +71,6 @@ agree_length [] (u ∷ us) a = absurd a
 agree_length (t ∷ ts) [] a = absurd a
 agree_length (t ∷ ts) (u ∷ us) a = ap suc (agree_length ts us a.1)
 
-pub other_label : (h g : program.Tree) (l m : ℕ) (ts us : List program.Tree) → h ≡ Node l ts → g ≡ Node m us → (l ≡ m → ⊥) → Agree (tree_of h) (tree_of g) → ⊥
-other_label h g l m ts us eh eg f a = f (agree_inputs h g l m ts ts us eh refl eg a).0
-
 pub other_length : (h g : program.Tree) (l m : ℕ) (ts us : List program.Tree) → h ≡ Node l ts → g ≡ Node m us → (length ts ≡ length us → ⊥) → Agree (tree_of h) (tree_of g) → ⊥
 other_length h g l m ts us eh eg f a = f (agree_length ts us (agree_inputs h g l m ts ts us eh refl eg a).1)
 
@@ -101,19 +80,10 @@ pub record OverLeft (items parts : List program.Tree) (count : ℕ) (ts us : Lis
   pub only : AgreeRow (rows items) (rows parts) → AgreeRow (rows ts) (rows us)
   pub counted : count + leaf_count_row (union_row (shape_row (rows ts)) (shape_row (rows us))) ≡ leaf_count_row (union_row (shape_row (rows items)) (shape_row (rows parts)))
 
-pub over_start : (items parts : List program.Tree) → OverLeft items parts 0 items parts
-over_start items parts = record { then = λ a. a; only = λ a. a; counted = omega arith }
-
 over_split : (items parts : List program.Tree) (count i : ℕ) (t u : program.Tree) → i < length items → t ≡ get_or items i t → i < length parts → u ≡ get_or parts i u → OverLeft items parts count (drop i items) (drop i parts)
     → OverLeft items parts count (t ∷ drop (i + 1) items) (u ∷ drop (i + 1) parts)
 over_split items parts count i t u lt e lu eu h =
     subst (λ us. OverLeft items parts count (t ∷ drop (i + 1) items) us) (left_from parts i u lu eu) (subst (λ ts. OverLeft items parts count ts (drop i parts)) (left_from items i t lt e) h)
-
-pub over_next : (items parts : List program.Tree) (count n i : ℕ) (t u : program.Tree) → i < length items → t ≡ get_or items i t → i < length parts → u ≡ get_or parts i u → OverLeft items parts count (drop i items) (drop i parts)
-    → Agree (tree_of t) (tree_of u) → n ≡ count + leaf_count (union (shape (tree_of t)) (shape (tree_of u))) → OverLeft items parts n (drop (i + 1) items) (drop (i + 1) parts)
-over_next items parts count n i t u lt e lu eu h a is =
-    let s = over_split items parts count i t u lt e lu eu h in
-    record { then = λ b. s.then (a, b); only = λ b. (s.only b).1; counted = (let k = s.counted in omega (arith, k, is)) }
 
 pub over_apart : (items parts : List program.Tree) (count i : ℕ) (t u : program.Tree) → i < length items → t ≡ get_or items i t → i < length parts → u ≡ get_or parts i u → OverLeft items parts count (drop i items) (drop i parts)
     → (Agree (tree_of t) (tree_of u) → ⊥) → AgreeRow (rows items) (rows parts) → ⊥

@@ -1,5 +1,5 @@
 -- Laws of numbered trees.
-use Rattle.std.proofs.Common.{◌≡◌, ℕ, suc, ◌+◌, [], ◌∷◌, refl, sym, ◌∙◌, ap, arith, append_assoc}
+use Rattle.std.proofs.Common.{◌≡◌, ℕ, suc, ◌+◌, refl, sym, ◌∙◌, ap, arith, append_assoc}
 use mathlib.Core.List.{◌++◌, append-nil}
 use mathlib.Core.Path.{ap₂}
 use Rattle.labelled_trees.specs.Trees.{Tree, Row, leaf, node, none, more, leaves, leaves_row, graft, graft_row}

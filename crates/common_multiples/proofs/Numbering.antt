@@ -4,15 +4,15 @@ use mathlib.Core.List.{◌++◌, append-nil}
 use mathlib.Core.Path.{ap₂}
 use native.Mathlib.Decide.{ℕ_discrete}
 use Rattle.std.proofs.lemmas.List.{map-append}
-use Rattle.modular_sums.proofs.Choices.{choose-yes, choose-no}
-use Rattle.labelled_trees.specs.Trees.{Tree, Row, leaf, node, none, more, row, inputs, graft, graft_row, vertices, vertices_row}
+use Rattle.modular_sums.proofs.Choices.{choose-no}
+use Rattle.labelled_trees.specs.Trees.{Tree, Row, leaf, node, none, more, row, inputs, vertices, vertices_row}
 use Rattle.labelled_trees.specs.Leaves.{leaf_count, leaf_count_row}
 use Rattle.labelled_trees.specs.Meaning.{tree_of}
 use Rattle.labelled_trees.specs.Unions.{union, union_row}
 use Rattle.labelled_trees.specs.declared.Tree as program
 use Rattle.labelled_trees.specs.declared.Tree.TheVariants.{Node, Leaf}
 use Rattle.labelled_trees.proofs.ProgramTrees.{tree_of-leaf, tree_of-node}
-use Rattle.labelled_trees.proofs.GraftLeaves.{sum_leaves-graft, sum_row-graft}
+use Rattle.labelled_trees.proofs.GraftLeaves.{sum_leaves-graft}
 use Rattle.labelled_trees.proofs.Rows.{row-inputs}
 use Rattle.shuffle_places.specs.Overlays.{shape, shape_row}
 use Rattle.shuffle_places.proofs.Overlays.{vertices-named}
@@ -51,9 +51,6 @@ shapes_none items i le = ap (λ us. shape_row (rows us)) (none_left items i le)
 pub record RowLeft (f : ℕ → ℕ) (first : ℕ) (all : Row (Unit {0})) (made : List program.Tree) (placed : ℕ) (left : Row (Unit {0})) : Type 0 where
   pub rest : map tree_of made ++ inputs (numbered_row f placed left) ≡ inputs (numbered_row f first all)
   pub ends : placed + leaf_count_row left ≡ first + leaf_count_row all
-
-pub row_start : (f : ℕ → ℕ) (first : ℕ) (all : Row (Unit {0})) → RowLeft f first all [] first all
-row_start f first all = record { rest = refl; ends = refl }
 
 pub row_next : (f : ℕ → ℕ) (first : ℕ) (all : Row (Unit {0})) (made after : List program.Tree) (x : program.Tree) (placed n : ℕ) (left : Row (Unit {0})) (t : Tree (Unit {0})) (r : Row (Unit {0})) → left ≡ more t r
     → RowLeft f first all made placed left → tree_of x ≡ numbered f placed t → n ≡ placed + leaf_count t → after ≡ made ++ x ∷ [] → RowLeft f first all after n r
@@ -122,15 +119,6 @@ count_second h g i e = sym (ap leaf_count (union_second h g i e) ∙ leaf_count-
 
 pub vertices-shape : {A : Type 0} (t : Tree A) → vertices (shape t) ≡ vertices t
 vertices-shape t = vertices-named t (λ a. tt)
-
-pub over_leaf : (k v : ℕ) (h g : program.Tree) (i : ℕ) → h ≡ Leaf i → over_at k v (shape (tree_of h)) (shape (tree_of g)) ≡ leaf tt
-over_leaf k v h g i e = ap (λ x. over_at k v x (shape (tree_of g))) (shape_leaf h i e)
-
-pub over_here : (k v : ℕ) (h g : program.Tree) (l : ℕ) (ts : List program.Tree) → k ≡ v → h ≡ Node l ts → over_at k v (shape (tree_of h)) (shape (tree_of g)) ≡ union (shape (tree_of h)) (shape (tree_of g))
-over_here k v h g l ts same e =
-    let b = shape (tree_of g) in
-    let is = shape_node h l ts ts e refl in
-    ap (λ x. over_at k v x b) is ∙ choose-yes (ℕ_discrete k v) (union (node l (shape_row (rows ts))) b) (node l (over_at_row (suc k) v (shape_row (rows ts)) b)) same ∙ ap (λ x. union x b) (sym is)
 
 pub over_inside : (k v : ℕ) (h g : program.Tree) (l : ℕ) (ts items : List program.Tree) → (k ≡ v → ⊥) → h ≡ Node l ts → items ≡ ts
     → over_at k v (shape (tree_of h)) (shape (tree_of g)) ≡ node l (over_at_row (suc k) v (shape_row (rows items)) (shape (tree_of g)))

@@ -1,14 +1,13 @@
 -- The search for a vertex by its number.
 use Rattle.std.proofs.Common.{◌≡◌, ℕ, suc, ◌+◌, ◌<◌, ◌≤◌, List, length, drop, get_or, refl, sym, ◌∙◌, ap, arith, subst}
-use native.Mathlib.Decide.{ℕ_discrete, dec_lt}
-use Rattle.labelled_trees.specs.Trees.{Tree, Row, leaf, node, none, more, vertices, vertices_row}
+use native.Mathlib.Decide.{dec_lt}
+use Rattle.labelled_trees.specs.Trees.{Tree, Row, node, more, vertices, vertices_row}
 use Rattle.labelled_trees.specs.Contexts.{RowCtx, hole, inside, here, past, fill_row}
 use Rattle.labelled_trees.specs.Meaning.{tree_of}
 use Rattle.labelled_trees.specs.declared.Tree as program
-use Rattle.labelled_trees.specs.declared.Tree.TheVariants.{Node, Leaf}
-use Rattle.labelled_trees.proofs.ProgramTrees.{tree_of-leaf}
+use Rattle.labelled_trees.specs.declared.Tree.TheVariants.{Node}
 use Rattle.shuffle_places.specs.Cuts.{start_row}
-use Rattle.shuffle_trees.proofs.Walking.{left_from, none_left}
+use Rattle.shuffle_trees.proofs.Walking.{left_from}
 use Rattle.tree_divisors.proofs.LaidPatterns.{rows}
 use Rattle.tree_divisors.proofs.MarkedCuts.{as_node}
 use Rattle.common_multiples.specs.Overlaying.{StandsAt}
@@ -39,31 +38,12 @@ search_found v k l whole n t r total x h f =
     let w = h.wrap (here f.context r) x (ap (λ u. more u r) f.is) in
     record { context = inside l w.0; is_node = f.is_node; is = ap (node l) w.1; number = w.2 ∙ f.number }
 
-search_nowhere : (v k l : ℕ) (whole : Row ℕ) (n total : ℕ) → (k ≡ v → ⊥) → SearchLeft v (suc k) whole n none total → total ≡ k + vertices (node l whole) → (n ≡ k + vertices (node l whole)) × IsOutside k v (vertices (node l whole))
-search_nowhere v k l whole n total f h e = (
-  (let o = h.ends in omega (arith, o, e)),
-  λ a b. go a b (ℕ_discrete k v),
-)
-  where
-    go : k ≤ v → v < k + vertices (node l whole) → Dec (k ≡ v) → ⊥
-    go a b (yes s) = f s
-    go a b (no o) = h.seen (omega (arith, a, o)) (let q = h.ends in omega (arith, q, e, b))
-
 -- ---- the loop over the inputs
-
-pub start_search : (v k g : ℕ) (tree : program.Tree) (ts items : List program.Tree) → tree ≡ Node g ts → items ≡ ts → SearchLeft v (suc k) (rows items) (k + 1) (rows items) (k + vertices (tree_of tree))
-start_search v k g tree ts items et ei =
-    let size = ap vertices (as_node g tree ts items et ei) in
-    let one : k + 1 ≡ suc k = omega arith in
-    subst (λ n. SearchLeft v (suc k) (rows items) n (rows items) (k + vertices (tree_of tree))) (sym one) record { wrap = λ c x is. (c, is, refl); seen = λ a b. omega (arith, a, b); ends = omega (arith, size) }
 
 pub next_search : (v first : ℕ) (whole : Row ℕ) (k n total : ℕ) (items : List program.Tree) (i : ℕ) (t : program.Tree) → i < length items → t ≡ get_or items i t → SearchLeft v first whole k (rows (drop i items)) total
     → IsOutside k v (vertices (tree_of t)) → n ≡ k + vertices (tree_of t) → SearchLeft v first whole n (rows (drop (i + 1) items)) total
 next_search v first whole k n total items i t lt e h u is =
     search_next v first whole k n (tree_of t) (rows (drop (i + 1) items)) total (subst (λ us. SearchLeft v first whole k (rows us) total) (left_from items i t lt e) h) u is
-
-pub fits_search : (v first : ℕ) (whole : Row ℕ) (k total : ℕ) (items : List program.Tree) (i : ℕ) (t : program.Tree) → i < length items → t ≡ get_or items i t → SearchLeft v first whole k (rows (drop i items)) total → k + vertices (tree_of t) ≤ total
-fits_search v first whole k total items i t lt e h = let s = (subst (λ us. SearchLeft v first whole k (rows us) total) (left_from items i t lt e) h).ends in omega (arith, s)
 
 pub found_here : (v k g : ℕ) (tree : program.Tree) (ts : List program.Tree) → tree ≡ Node g ts → k ≡ v → StandsAt k v (tree_of tree) (tree_of tree)
 found_here v k g tree ts et e =
@@ -75,13 +55,3 @@ pub found_inside : (v k g next : ℕ) (tree : program.Tree) (ts items : List pro
 found_inside v k g next tree ts items i t x et ei lt e h f =
     let split = subst (λ us. SearchLeft v (suc k) (rows items) next (rows us) (k + vertices (tree_of tree))) (left_from items i t lt e) h in
     subst (λ u. StandsAt k v u x) (sym (as_node g tree ts items et ei)) (search_found v k g (rows items) next (tree_of t) (rows (drop (i + 1) items)) (k + vertices (tree_of tree)) x split f)
-
-pub found_nowhere : (v k g next : ℕ) (tree : program.Tree) (ts items : List program.Tree) (i : ℕ) → tree ≡ Node g ts → items ≡ ts → (k ≡ v → ⊥) → length items ≤ i
-    → SearchLeft v (suc k) (rows items) next (rows (drop i items)) (k + vertices (tree_of tree)) → (next ≡ k + vertices (tree_of tree)) × IsOutside k v (vertices (tree_of tree))
-found_nowhere v k g next tree ts items i et ei f le h =
-    let is = as_node g tree ts items et ei in
-    let split = subst (λ us. SearchLeft v (suc k) (rows items) next (rows us) (k + vertices (tree_of tree))) (none_left items i le) h in
-    subst (λ u. (next ≡ k + vertices u) × IsOutside k v (vertices u)) (sym is) (search_nowhere v k g (rows items) next (k + vertices (tree_of tree)) f split (ap (λ u. k + vertices u) is))
-
-pub none_at_leaf : (v k i : ℕ) (tree : program.Tree) → tree ≡ Leaf i → (k ≡ k + vertices (tree_of tree)) × IsOutside k v (vertices (tree_of tree))
-none_at_leaf v k i tree e = let z = ap vertices (ap tree_of e ∙ tree_of-leaf i) in (omega (arith, z), λ a b. omega (arith, a, b, z))

@@ -1,6 +1,5 @@
 use Rattle.std.specs.Prelude.{slice_index}
 use Rattle.common_multiples.proofs.Numbering.{RowLeft, shapes_from}
-use Rattle.labelled_trees.specs.Meaning.{tree_of}
 use Rattle.shuffle_places.specs.Overlays.{shape_row}
 use Rattle.tree_divisors.proofs.LaidPatterns.{rows}
 use Rattle.common_multiples.proofs.overlays.+copy_numbered.Given as goal

@@ -1,6 +1,6 @@
 use Rattle.std.specs.Prelude.{Option, None, MatchOption}
-use Rattle.std.proofs.Common.{◌≡◌, ℕ, ◌+◌, ◌<◌, ◌≤◌, ◌∙◌, length, get_or, arith, rules, sym, ap, subst, refl}
-use Rattle.labelled_trees.specs.Leaves.{leaf_count, leaf_count_row}
+use Rattle.std.proofs.Common.{◌≡◌, ℕ, ◌+◌, ◌<◌, ◌∙◌, length, get_or, arith, rules, sym, ap, subst, refl}
+use Rattle.labelled_trees.specs.Leaves.{leaf_count}
 use Rattle.labelled_trees.specs.Meaning.{tree_of}
 use Rattle.labelled_trees.specs.Unions.{union}
 use Rattle.labelled_trees.specs.declared.Tree.TheViews.{the_lemmas}

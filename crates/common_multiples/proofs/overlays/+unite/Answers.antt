@@ -1,8 +1,7 @@
-use Rattle.std.proofs.Common.{◌≡◌, ◌+◌, ◌<◌, ◌≤◌, ◌∙◌, length, get_or, arith, rules, sym, ap, subst, refl, IfOk, slice_index}
-use Rattle.labelled_trees.specs.Leaves.{leaf_count, leaf_count_row}
+use Rattle.std.proofs.Common.{◌≡◌, ◌+◌, ◌<◌, ◌≤◌, ◌∙◌, length, get_or, arith, sym, ap, subst, IfOk, slice_index}
+use Rattle.labelled_trees.specs.Leaves.{leaf_count}
 use Rattle.labelled_trees.specs.Meaning.{tree_of}
 use Rattle.labelled_trees.specs.Unions.{union, union_row}
-use Rattle.labelled_trees.specs.declared.Tree.TheViews.{the_lemmas}
 use Rattle.shuffle_places.specs.Overlays.{shape, shape_row}
 use Rattle.tree_divisors.proofs.LaidPatterns.{rows}
 use Rattle.common_multiples.proofs.Numbering.{leaf_count-shape, count_first, count_second, union_nodes, shapes_from, unions_more, unions_alone, unions_none, row_next, row_fits, row_end}
