@@ -1,4 +1,6 @@
 pub mod Assigned
+pub mod FamilySites
+pub mod FamilySteps
 pub mod FromOverlaps
 pub mod Inverses
 pub mod LaidOver

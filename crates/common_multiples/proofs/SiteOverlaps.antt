@@ -81,7 +81,7 @@ module _ (n m k v : ℕ) (a b : Tree ℕ) (turned : Bool) (valid_a : IsShuffle m
 
 -- ---- numbered trees of one shape
 
-numbered_agree : (f g : ℕ → ℕ) (n : ℕ) (s : Tree (Unit {0})) → leaf_count s ≡ n → ((z : ℕ) → 0 < z → z ≤ n → f z ≡ g z) → numbered f 0 s ≡ numbered g 0 s
+pub numbered_agree : (f g : ℕ → ℕ) (n : ℕ) (s : Tree (Unit {0})) → leaf_count s ≡ n → ((z : ℕ) → 0 < z → z ≤ n → f z ≡ g z) → numbered f 0 s ≡ numbered g 0 s
 numbered_agree f g n s e h =
     sym (numbered_named f 0 s)
     ∙ graft_ext (numbered (λ i. i) 0 s) (λ i. leaf (f i)) (λ i. leaf (g i))

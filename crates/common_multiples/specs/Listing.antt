@@ -18,6 +18,7 @@ use Rattle.common_multiples.specs.declared.merging.Site as site
 use Rattle.common_multiples.specs.declared.families.Multiple as found
 use Rattle.common_multiples.specs.declared.families.Pattern as pattern
 use Rattle.shuffle_insertions.specs.ShuffleTrees.{IsShuffle}
+use Rattle.shuffle_trees.specs.ValidTrees.{IsValid}
 
 -- the tree has a vertex, and its leaves are 1 to the arity
 abbrev pub IsPattern : pattern.Pattern → Type 0
@@ -41,6 +42,8 @@ pub record IsLayable (a b : Tree ℕ) (v : ℕ) : Type 0 where
 
 -- the places of both trees in the one laid over the other, and the first leaves of their parts
 pub record AreLaid (a b : Tree ℕ) (v : ℕ) (laid : laid.Laid) : Type 0 where
+  pub host_valid : IsValid a
+  pub guest_valid : IsValid b
   pub tree : Tree ℕ
   pub plain : tree ≡ numbered (λ i. i) 0 (over_at 1 v (shape a) (shape b))
   pub inner : Tree ℕ

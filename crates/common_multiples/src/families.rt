@@ -128,7 +128,8 @@ fn push_overlaps(
         guest_place: laid.guest_place,
         is_turned,
     };
-    site.push_merged(alloc, &chains, 0, n, (1, 1), [0; 256], found)
+    site.push_merged(alloc, &chains, 0, n, (1, 1), [0; 256], found)?;
+    Ok(())
 }
 
 // Puts the overlaps of arity `n` behind the others in which the host has the root and the guest's first vertex is the host's
@@ -177,11 +178,15 @@ pub fn multiples(
         tree: other,
         arity: arity_of(other),
     };
-    if spelling_order(one.shape(), other.shape()) == Ordering::Equal {
-        push_family(alloc, &first, &second, 2, n, false, &mut found)?;
-        return Ok(found);
+    match spelling_order(one.shape(), other.shape()) {
+        Ordering::Equal => {
+            push_family(alloc, &first, &second, 2, n, false, &mut found)?;
+            Ok(found)
+        }
+        _ => {
+            push_family(alloc, &first, &second, 1, n, false, &mut found)?;
+            push_family(alloc, &second, &first, 2, n, true, &mut found)?;
+            Ok(found)
+        }
     }
-    push_family(alloc, &first, &second, 1, n, false, &mut found)?;
-    push_family(alloc, &second, &first, 2, n, true, &mut found)?;
-    Ok(found)
 }
