@@ -1,7 +1,11 @@
 //! Lists all shuffle trees of an arity over one binary label and compares keys of them, to be timed. The words are the arity
 //! and a number of trees: each of so many trees, from the front of the list on, is compared by path with each tree of the list.
-//! Where that number is 0, no key is made.
+//! Where that number is 0, no key is made. Behind the word `multiples` or `frames` small common multiples are counted, or
+//! frames are made.
 #![tactic(auto)]
+
+mod frames;
+mod overlaps;
 
 use path_orders::{Path, TreeOrder};
 use shuffle_trees::{Key, Labels, STree, all_trees};
@@ -51,6 +55,17 @@ fn count_pairs(labels: &Labels, keys: &[Key], firsts: u8) -> u64 {
 fn main(rt: HostRuntime) -> io::Result<()> {
     let alloc = rt.alloc();
     let words = env::args(&rt)?.collect::<Vec<String>>(alloc)?;
+    match words.as_slice() {
+        [_, name, numbers @ ..] if name.as_str() == "multiples" => {
+            let (count, most) = overlaps::counted(alloc, numbers)?;
+            return println!(rt; "{count} multiples, {most} at most");
+        }
+        [_, name, numbers @ ..] if name.as_str() == "frames" => {
+            let count = frames::counted(alloc, numbers)?;
+            return println!(rt; "{count} inputs of frames");
+        }
+        _ => {}
+    }
     let arity = number(words.as_slice().get(1));
     let firsts = number(words.as_slice().get(2));
     let labels = Labels::of(alloc, &[(2, 1)])?;
