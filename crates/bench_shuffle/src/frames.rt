@@ -30,15 +30,21 @@ fn count_inputs(alloc: Global, host: &STree, place: &Place, times: u32) -> Resul
     Ok(count)
 }
 
-/// The words are a number of leaves, and how many hundred times the frame is made of the place with the vertices 3, 4 and 5 in the
-/// tree that leans to the left: how many inputs these frames have together.
-pub fn counted(alloc: Global, words: &[String]) -> Result<usize, AllocError> {
-    let times = u32::from(number(words.get(1))) * 100;
-    let Some(host) = STree::of(comb(alloc, number(words.get(0)))?) else {
+// How many inputs the frames have; 0 where there is no such place.
+fn count_at(alloc: Global, leaves: u8, times: u32) -> Result<usize, AllocError> {
+    let Some(host) = STree::of(comb(alloc, leaves)?) else {
         return Ok(0);
     };
     match Place::of(alloc, &host, &[3, 4, 5])? {
         Some(place) => count_inputs(alloc, &host, &place, times),
         None => Ok(0),
     }
+}
+
+/// The words are a number of leaves, and how many hundred times the frame is made of the place with the vertices 3, 4 and 5 in the
+/// tree that leans to the left: how many inputs these frames have together.
+pub fn counted(alloc: Global, words: &[String]) -> Result<String, AllocError> {
+    let times = u32::from(number(words.get(1))) * 100;
+    let count = count_at(alloc, number(words.get(0)), times)?;
+    format!(in alloc; "{count} inputs of frames")
 }

@@ -41,20 +41,15 @@ fn count_with(
 /// The words are two arities over one binary label, a third one, and a number of trees: how many small common multiples of the
 /// third arity each of so many trees of the first arity, from the front of the list on, has with each tree of the second,
 /// together and at most.
-pub fn counted(alloc: Global, words: &[String]) -> Result<(usize, usize), AllocError> {
+pub fn counted(alloc: Global, words: &[String]) -> Result<String, AllocError> {
     let labels = Labels::of(alloc, &[(2, 1)])?;
     let ones = all_trees(alloc, &labels, number(words.get(0)))?;
     let others = all_trees(alloc, &labels, number(words.get(1)))?;
+    let n = number(words.get(2));
+    let firsts = number(words.get(3)) as usize;
     let mut counts = (0, 0);
-    for one in ones.as_slice().iter().take(number(words.get(3)) as usize) {
-        count_with(
-            alloc,
-            &labels,
-            one,
-            others.as_slice(),
-            number(words.get(2)),
-            &mut counts,
-        )?;
+    for one in ones.as_slice().iter().take(firsts) {
+        count_with(alloc, &labels, one, others.as_slice(), n, &mut counts)?;
     }
-    Ok(counts)
+    format!(in alloc; "{} multiples, {} at most", counts.0, counts.1)
 }
