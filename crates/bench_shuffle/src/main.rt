@@ -1,13 +1,12 @@
-//! Lists all shuffle trees of an arity over one binary label and compares keys of them, to be timed. The words are the arity
-//! and a number of trees: each of so many trees, from the front of the list on, is compared by path with each tree of the list.
-//! Where that number is 0, no key is made.
+//! Lists all shuffle trees of an arity over one binary label and compares keys of them; behind the word `multiples` counts small
+//! common multiples, and behind `frames` makes frames: to be timed.
 #![tactic(auto)]
 
-use path_orders::{Path, TreeOrder};
-use shuffle_trees::{Key, Labels, STree, all_trees};
-use sqlite_items::Items;
+mod frames;
+mod keys;
+mod overlaps;
+
 use std::alloc::{AllocError, Global};
-use std::cmp::Ordering;
 use std::{env, io};
 
 // The number that a word says; 0 where it says none.
@@ -18,48 +17,18 @@ fn number(word: Option<&String>) -> u8 {
     }
 }
 
-// The keys of the trees.
-fn keys_of(alloc: Global, trees: &[STree]) -> Result<Items<Key>, AllocError> {
-    let mut keys = Items::new(alloc);
-    for tree in trees {
-        keys.push(Key::of(alloc, tree)?)?;
+// What the words behind the program's name ask for.
+fn answer(alloc: Global, words: &[String]) -> Result<String, AllocError> {
+    match words {
+        [name, numbers @ ..] if name.as_str() == "multiples" => overlaps::counted(alloc, numbers),
+        [name, numbers @ ..] if name.as_str() == "frames" => frames::counted(alloc, numbers),
+        _ => keys::counted(alloc, words),
     }
-    Ok(keys)
-}
-
-// How many of the keys are less than this one.
-fn count_less(labels: &Labels, key: &Key, keys: &[Key]) -> u64 {
-    let order = Path {};
-    let mut count: u64 = 0;
-    for other in keys {
-        if order.compare_keys(labels, key, other) == Ordering::Greater {
-            count = count.saturating_add(1);
-        }
-    }
-    count
-}
-
-// For how many pairs of one of the first keys and any key the first is greater.
-fn count_pairs(labels: &Labels, keys: &[Key], firsts: u8) -> u64 {
-    let mut count: u64 = 0;
-    for key in keys.iter().take(firsts as usize) {
-        count = count.saturating_add(count_less(labels, key, keys));
-    }
-    count
 }
 
 fn main(rt: HostRuntime) -> io::Result<()> {
     let alloc = rt.alloc();
-    let words = env::args(&rt)?.collect::<Vec<String>>(alloc)?;
-    let arity = number(words.as_slice().get(1));
-    let firsts = number(words.as_slice().get(2));
-    let labels = Labels::of(alloc, &[(2, 1)])?;
-    let trees = all_trees(alloc, &labels, arity)?;
-    println!(rt; "{} trees", trees.len())?;
-    if firsts == 0 {
-        return Ok(());
-    }
-    let keys = keys_of(alloc, trees.as_slice())?;
-    let greater = count_pairs(&labels, keys.as_slice(), firsts);
-    println!(rt; "{greater} pairs fall")
+    let words = env::args(&rt)?.skip(1).collect::<Vec<String>>(alloc)?;
+    let answer = answer(alloc, words.as_slice())?;
+    println!(rt; "{answer}")
 }

@@ -1,6 +1,6 @@
 use crate::{
-    checking, comparing, elements, passing, places, reading, shuffle, sorting, stores, symmetric,
-    texts,
+    checking, comparing, elements, overlaps, passing, places, reading, shuffle, sorting, stores,
+    symmetric, texts,
 };
 use presentation_text::Document;
 use rows::{RowFail, document_of, numbers_of};
@@ -51,6 +51,9 @@ fn word_answer(
         return Ok(true);
     }
     if passing::answer(alloc, name, words, document, out)? {
+        return Ok(true);
+    }
+    if overlaps::answer(alloc, name, words, document, out)? {
         return Ok(true);
     }
     comparing::answer(alloc, name, words, document, out)

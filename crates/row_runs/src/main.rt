@@ -17,6 +17,7 @@ mod checking;
 mod checks;
 mod comparing;
 mod elements;
+mod overlaps;
 mod passing;
 mod places;
 mod reading;
