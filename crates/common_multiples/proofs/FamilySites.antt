@@ -1,9 +1,9 @@
 -- What is listed where two trees are laid, in the terms of the program.
-use Rattle.std.proofs.Common.{◌≡◌, ℕ, ◌+◌, ◌<◌, ◌≤◌, List, [], map, replicate, refl, sym, ◌∙◌, ap, arith, subst, Bool}
+use Rattle.std.proofs.Common.{◌≡◌, ℕ, ◌<◌, List, map, replicate, refl, sym, ◌∙◌, arith, subst, Bool}
 use Rattle.std.specs.Prelude.{slice_index}
 use mathlib.Core.Path.{ap₂}
 use Rattle.modular_sums.specs.Lists.{Mem}
-use Rattle.labelled_trees.specs.Trees.{Tree, IsNode, vertices}
+use Rattle.labelled_trees.specs.Trees.{Tree, IsNode}
 use Rattle.labelled_trees.specs.Leaves.{leaf_count}
 use Rattle.shuffle_insertions.specs.ShuffleTrees.{IsShuffle}
 use Rattle.shuffle_places.specs.AllPlaces.{lay}

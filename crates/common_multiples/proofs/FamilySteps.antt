@@ -1,7 +1,7 @@
 -- What the functions of families need of the trees that are laid.
 use Rattle.std.proofs.Common.{◌≡◌, ℕ, ◌+◌, ◌<◌, ◌≤◌, List, [], ◌∷◌, refl, sym, ◌∙◌, ap, arith, subst, Bool, true, false}
 use mathlib.Core.Path.{ap₂}
-use Rattle.labelled_trees.specs.Trees.{Tree, IsNode, vertices}
+use Rattle.labelled_trees.specs.Trees.{Tree, vertices}
 use Rattle.labelled_trees.specs.Leaves.{leaf_count}
 use Rattle.labelled_trees.specs.Contexts.{fill}
 use Rattle.labelled_trees.specs.Unions.{union}

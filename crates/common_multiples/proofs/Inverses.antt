@@ -1,8 +1,8 @@
 -- The table that gives each number's place in a chain.
-use Rattle.std.proofs.Common.{◌≡◌, ℕ, ◌+◌, ◌<◌, ◌≤◌, List, length, replicate, refl, sym, ◌∙◌, ap, arith, subst, get_or-set_same, get_or-set_other}
+use Rattle.std.proofs.Common.{◌≡◌, ℕ, ◌+◌, ◌<◌, ◌≤◌, List, length, replicate, sym, ◌∙◌, ap, arith, subst, get_or-set_same, get_or-set_other}
 use Rattle.std.specs.Prelude.{slice_index, slice_set}
 use native.Mathlib.Decide.{ℕ_discrete}
-use Rattle.common_multiples.specs.Listing.{IsInverse, IsOneToOne}
+use Rattle.common_multiples.specs.Listing.{IsOneToOne}
 use Rattle.shuffle_trees.proofs.Counts.{no_times}
 
 -- the places of those at 1 to `at` stand in the table, and 0 elsewhere

@@ -1,18 +1,15 @@
 -- Lists of overlaps put together: vertex by vertex, and the two families of all small common multiples.
-use Rattle.std.proofs.Common.{◌≡◌, ℕ, ◌+◌, ◌<◌, ◌≤◌, List, [], ◌∷◌, refl, sym, ◌∙◌, ap, arith, subst, inl, inr, ◌⊎◌, Bool, true, false}
-use mathlib.Core.List.{◌++◌, append-nil}
-use native.Mathlib.Decide.{dec_lt, ℕ_discrete}
-use Rattle.std.specs.declared.cmp.Ordering.{Ordering}
-use Rattle.std.specs.declared.cmp.Ordering.TheVariants.{Less, Equal}
-use Rattle.std.specs.Ordering.{nat_cmp}
-use Rattle.std.specs.Cmp.Lexicographic.{slice_cmp}
-use Rattle.modular_sums.specs.Lists.{Mem, Distinct, has}
+use Rattle.std.proofs.Common.{◌≡◌, ℕ, ◌+◌, ◌<◌, ◌≤◌, List, [], refl, sym, ◌∙◌, ap, arith, subst, inl, inr, ◌⊎◌, Bool, true, false}
+use mathlib.Core.List.{◌++◌}
+use native.Mathlib.Decide.{dec_lt}
+use Rattle.std.specs.declared.cmp.Ordering.TheVariants.{Equal}
+use Rattle.modular_sums.specs.Lists.{Mem, has}
 use Rattle.modular_sums.proofs.Lists.{Distinct-append, mem_left, mem_right, mem_either, has_mem, mem_has}
 use Rattle.labelled_trees.specs.Trees.{Tree, vertices}
 use Rattle.operad_ideals.specs.SpellingOrder.{order}
 use Rattle.operad_ideals.proofs.TreeOrder.{order_is_total}
 use Rattle.shuffle_places.specs.Multiples.{IsOverlap, IsMultiple}
-use Rattle.shuffle_places.proofs.Overlays.{turned, root_covered}
+use Rattle.shuffle_places.proofs.Overlays.{turned}
 use Rattle.common_multiples.specs.Listing.{AreOverlapsWhere, AreOverlapsAt, AreOverlapsFrom, AreAllMultiples, multiple_with}
 use Rattle.common_multiples.specs.Overlaying.{Begins}
 use Rattle.common_multiples.specs.declared.families.Multiple.{Multiple}

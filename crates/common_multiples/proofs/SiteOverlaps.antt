@@ -1,5 +1,5 @@
 -- What is listed where one tree is laid over another at a vertex: exactly the overlaps there, each once.
-use Rattle.std.proofs.Common.{◌≡◌, ℕ, zero, suc, ◌+◌, ◌<◌, ◌≤◌, List, [], ◌∷◌, map, length, refl, sym, ◌∙◌, ap, arith, subst, inl, inr, ◌⊎◌, Bool, true, false}
+use Rattle.std.proofs.Common.{◌≡◌, ℕ, ◌+◌, ◌<◌, ◌≤◌, List, [], ◌∷◌, map, length, refl, sym, ◌∙◌, ap, arith, subst, inl, inr, ◌⊎◌, Bool}
 use Rattle.std.specs.Prelude.{slice_index}
 use mathlib.Core.Path.{ap₂}
 use Rattle.modular_sums.specs.Lists.{Mem, Distinct}
@@ -7,7 +7,7 @@ use Rattle.modular_sums.proofs.Lists.{mem_map, mem_of_map}
 use Rattle.labelled_trees.specs.Trees.{Tree, leaf, graft, leaves, IsNode, vertices}
 use Rattle.labelled_trees.specs.Leaves.{leaf_count, occurs, times}
 use native.Mathlib.Decide.{ℕ_discrete}
-use Rattle.labelled_trees.specs.Contexts.{Ctx, fill}
+use Rattle.labelled_trees.specs.Contexts.{fill}
 use Rattle.labelled_trees.specs.Unions.{union}
 use Rattle.labelled_trees.proofs.GraftLeaves.{agree as leaves_agree, graft_ext}
 use Rattle.labelled_trees.proofs.Leaves.{at_leaf, by_leaf}
@@ -28,10 +28,10 @@ use Rattle.shuffle_trees.proofs.Counts.{fewer_vertices}
 use Rattle.tree_divisors.specs.Laying.{Covers, IsLaid, numbers_at}
 use Rattle.common_multiples.specs.Building.{numbered, over_at}
 use Rattle.common_multiples.specs.Listing.{AreOverlapsAt, IsInverse, IsOneToOne, multiple_with}
-use Rattle.common_multiples.specs.Merging.{Chains, AreChains, IsMerged, merges, assigned}
+use Rattle.common_multiples.specs.Merging.{Chains, AreChains, merges, assigned}
 use Rattle.common_multiples.specs.Overlaying.{Agree, Begins, IsOverlay, StandsAt, laid_over}
 use Rattle.common_multiples.specs.declared.families.Multiple.{Multiple}
-use Rattle.common_multiples.proofs.FromOverlaps.{agrees, numbered_from, IsRenumbered, one_start}
+use Rattle.common_multiples.proofs.FromOverlaps.{agrees, numbered_from}
 use Rattle.common_multiples.proofs.LaidOver.{over_at_laid, laid_leaves, laid_wide}
 use Rattle.common_multiples.proofs.Merged.{merged_number, number_merged, merges_once, merged_apart}
 use Rattle.common_multiples.proofs.NumberedShapes.{numbered_shape, numbered_leaves, numbered_named}

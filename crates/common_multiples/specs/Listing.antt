@@ -1,6 +1,6 @@
 -- What the steps answer that list small common multiples.
 use Rattle.std.specs.Prelude.{ℕ, ◌+◌, ◌≡◌, ◌<◌, ◌≤◌, List, [], ◌∷◌, map, Option, None, Some, slice_index}
-use Rattle.std.proofs.Common.{Bool, true, false, cond}
+use Rattle.std.proofs.Common.{Bool, cond}
 use Rattle.modular_sums.specs.Lists.{Mem, Distinct}
 use Rattle.labelled_trees.specs.Trees.{Tree, IsNode, vertices}
 use Rattle.labelled_trees.specs.Leaves.{leaf_count}

@@ -1,9 +1,8 @@
-use Rattle.std.proofs.Common.{◌≡◌, ◌∙◌, ap, arith, subst, sym, true, false, replicate}
-use mathlib.Core.Path.{ap₂}
+use Rattle.std.proofs.Common.{◌∙◌, ap, subst, sym, replicate}
 use Rattle.std.specs.Prelude.{slice_index}
 use Rattle.labelled_trees.specs.Meaning.{tree_of}
 use Rattle.shuffle_places.specs.AllPlaces.{lay}
-use Rattle.tree_divisors.specs.Laying.{Covers, IsLaid, numbers_at}
+use Rattle.tree_divisors.specs.Laying.{Covers, numbers_at}
 use Rattle.common_multiples.proofs.FamilySteps.{room_for, plain_made, room_laid, host_covers, vertex_there, guest_covers, room_inside, starts_at_root, laid_down}
 use Rattle.common_multiples.proofs.families.lay_at.Goals as goal
 

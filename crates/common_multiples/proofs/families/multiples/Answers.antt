@@ -1,7 +1,6 @@
 use Rattle.std.proofs.Common.{◌≡◌, ◌++◌, ◌∙◌, ap, sym, subst}
 use mathlib.Core.Path.{ap₂}
 use Rattle.std.specs.declared.cmp.Ordering.TheVariants.{Equal}
-use Rattle.labelled_trees.specs.Meaning.{tree_of}
 use Rattle.operad_ideals.specs.SpellingOrder.{order}
 use Rattle.common_multiples.specs.Listing.{AreAllMultiples}
 use Rattle.common_multiples.proofs.OverlapLists.{of_one_tree, of_two_trees, same_tree, other_tree}

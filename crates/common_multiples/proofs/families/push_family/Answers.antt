@@ -1,4 +1,4 @@
-use Rattle.std.proofs.Common.{◌≡◌, ◌++◌, ◌∙◌, ap, arith, append_assoc}
+use Rattle.std.proofs.Common.{◌++◌, ◌∙◌, ap, arith, append_assoc}
 use Rattle.common_multiples.proofs.OverlapLists.{one_more, all_from}
 use Rattle.common_multiples.proofs.families.push_family.Goals as goal
 

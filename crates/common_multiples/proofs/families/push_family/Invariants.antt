@@ -1,4 +1,4 @@
-use Rattle.std.proofs.Common.{◌≡◌, ◌≤◌, ◌++◌, List}
+use Rattle.std.proofs.Common.{◌≡◌, ◌++◌, List}
 use Rattle.common_multiples.specs.declared.families.Multiple.{Multiple}
 use Rattle.common_multiples.proofs.OverlapLists.{Between}
 use Rattle.common_multiples.proofs.families.push_family.Given as goal

@@ -1,8 +1,6 @@
-use Rattle.std.proofs.Common.{◌≡◌, ◌<◌, ◌++◌, map, replicate, refl, sym, arith, rules, [], append-nil}
+use Rattle.std.proofs.Common.{◌<◌, refl, sym, rules, [], append-nil}
 use Rattle.labelled_trees.specs.Meaning.{tree_of}
-use Rattle.common_multiples.specs.Listing.{chains_of, multiple_at}
-use Rattle.common_multiples.specs.Merging.{merges, assigned}
-use Rattle.common_multiples.proofs.FamilySites.{layable, host_once, guest_once, room_at, valid_there, overlaps_there}
+use Rattle.common_multiples.proofs.FamilySites.{host_once, guest_once, room_at, valid_there, overlaps_there}
 use Rattle.common_multiples.proofs.FamilySteps.{room_for}
 use Rattle.common_multiples.proofs.families.push_overlaps.Goals as goal
 

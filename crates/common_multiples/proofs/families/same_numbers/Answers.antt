@@ -1,4 +1,4 @@
-use Rattle.std.proofs.Common.{◌≡◌, ◌≢◌, ℕ, ◌+◌, ◌<◌, length, refl, arith, get_or-set_other, get_or-set_same, below_more, ◌∙◌}
+use Rattle.std.proofs.Common.{◌≢◌, ◌<◌, length, refl, arith, get_or-set_other, get_or-set_same, below_more, ◌∙◌}
 use Rattle.std.proofs.Math.ListN.{length-set}
 use Rattle.common_multiples.proofs.families.same_numbers.Goals as goal
 

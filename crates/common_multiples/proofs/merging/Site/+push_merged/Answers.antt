@@ -1,4 +1,4 @@
-use Rattle.std.proofs.Common.{◌≡◌, ◌<◌, ◌+◌, ◌-◌, ◌∷◌, ◌∙◌, ℕ, List, [], ap, subst, sym, arith, rules, refl}
+use Rattle.std.proofs.Common.{◌+◌, ◌-◌, ◌∷◌, ◌∙◌, ℕ, List, [], ap, subst, sym, rules, refl}
 use Rattle.modular_sums.specs.Lists.{Mem}
 use Rattle.shuffle_trees.specs.ValidTrees.{IsValid}
 use Rattle.common_multiples.specs.Merging.{merges, assigned, by_first, by_second}
