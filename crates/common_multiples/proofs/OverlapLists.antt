@@ -5,11 +5,13 @@ use native.Mathlib.Decide.{dec_lt}
 use Rattle.std.specs.declared.cmp.Ordering.TheVariants.{Equal}
 use Rattle.modular_sums.specs.Lists.{Mem, has}
 use Rattle.modular_sums.proofs.Lists.{Distinct-append, mem_left, mem_right, mem_either, has_mem, mem_has}
-use Rattle.labelled_trees.specs.Trees.{Tree, vertices}
+use Rattle.labelled_trees.specs.Trees.{Tree, leaf, node, IsNode, vertices}
 use Rattle.operad_ideals.specs.SpellingOrder.{order}
 use Rattle.operad_ideals.proofs.TreeOrder.{order_is_total}
 use Rattle.shuffle_places.specs.Multiples.{IsOverlap, IsMultiple}
 use Rattle.shuffle_places.proofs.Overlays.{turned}
+use Rattle.shuffle_places.proofs.Frames.{slot_at}
+use Rattle.shuffle_places.proofs.Places.{cut_of_place}
 use Rattle.common_multiples.specs.Listing.{AreOverlapsWhere, AreOverlapsAt, AreOverlapsFrom, AreAllMultiples, multiple_with}
 use Rattle.common_multiples.specs.Overlaying.{Begins}
 use Rattle.common_multiples.specs.declared.families.Multiple.{Multiple}
@@ -150,3 +152,28 @@ same_tree a b e = (order_is_total.equal a b).0 e
 
 pub other_tree : (a b : Tree ℕ) → (order a b ≡ Equal → ⊥) → a ≡ b → ⊥
 other_tree a b f e = f ((order_is_total.equal a b).1 e)
+
+-- ---- a leaf alone
+
+pub node_of_vertex : (t : Tree ℕ) → (vertices t ≡ 0 → ⊥) → IsNode t
+node_of_vertex (leaf i) h = h refl
+node_of_vertex (node l r) h = tt
+
+no_vertex : (t : Tree ℕ) → vertices t ≡ 0 → IsNode t → ⊥
+no_vertex (leaf i) e h = h
+no_vertex (node l r) e h = absurd (omega (arith, e))
+
+-- it is the divisor at no place, so it has no multiples
+pub none_of_first : (n : ℕ) (a b : Tree ℕ) → vertices a ≡ 0 → AreAllMultiples n a b []
+none_of_first n a b e = record {
+  only = λ y m. absurd m;
+  each = λ tree first second o. absurd (no_vertex a e (slot_at n tree o.overlap.valid first a (cut_of_place tree first a o.overlap.first_at)).is_node);
+  once = tt;
+}
+
+pub none_of_second : (n : ℕ) (a b : Tree ℕ) → vertices b ≡ 0 → AreAllMultiples n a b []
+none_of_second n a b e = record {
+  only = λ y m. absurd m;
+  each = λ tree first second o. absurd (no_vertex b e (slot_at n tree o.overlap.valid second b (cut_of_place tree second b o.overlap.second_at)).is_node);
+  once = tt;
+}

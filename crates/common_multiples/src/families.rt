@@ -156,8 +156,8 @@ fn push_family(
 
 /// The small common multiples of two trees of arity `n`, each once: the trees with leaves 1 to `n` and two places in them, the first
 /// with the divisor `one` and the second with the divisor `other`, that share a vertex and together hold all vertices; where
-/// the two trees are one, the first place comes before the second. Both trees belong to the labels, have a vertex, and have
-/// the leaves 1 to m, each for its own m. `AllocError` comes for want of memory alone.
+/// the two trees are one, the first place comes before the second. Both trees belong to the labels and have the leaves 1 to m,
+/// each for its own m; a leaf alone has no multiples. `AllocError` comes for want of memory alone.
 pub fn multiples(
     alloc: Global,
     _labels: &Labels,
@@ -165,11 +165,17 @@ pub fn multiples(
     other: &STree,
     n: u8,
 ) -> Result<Vec<Multiple>, AllocError>
-    requires one { ((m : ℕ) × IsShuffle m one.now) × IsNode one.now }
-    requires other { ((m : ℕ) × IsShuffle m other.now) × IsNode other.now }
+    requires one { (m : ℕ) × IsShuffle m one.now }
+    requires other { (m : ℕ) × IsShuffle m other.now }
     ensures multiples { IfOk result (λ found. AreAllMultiples n one.now other.now found.items) }
 {
     let mut found = Vec::new(alloc);
+    if vertex_count(one) == 0 {
+        return Ok(found);
+    }
+    if vertex_count(other) == 0 {
+        return Ok(found);
+    }
     let first = Pattern {
         tree: one,
         arity: arity_of(one),

@@ -1,10 +1,8 @@
 ghost use Rattle.std.specs.Prelude.{ℕ, IfOk};
-ghost use Rattle.labelled_trees.specs.Trees.{IsNode};
 ghost use Rattle.shuffle_insertions.specs.ShuffleTrees.{IsShuffleTree};
 ghost use Rattle.shuffle_trees.specs.LabelLists.{arity_in};
 
 use common_multiples::{Multiple, multiples};
-use labelled_trees::Tree;
 use presentation_text::Document;
 use rows::{
     RowFail, belongs, end_line, shuffle_of, small_number_of, write_next, write_plain, write_text,
@@ -14,15 +12,11 @@ use shuffle_trees::{Labels, STree};
 use std::alloc::{AllocError, Global};
 use tree_divisors::Place;
 
-// The tree that a word spells, which is one over the labels with a vertex and the leaves 1 to its arity.
+// The tree that a word spells, which is one over the labels with the leaves 1 to its arity.
 fn pattern(alloc: Global, labels: &Labels, word: &String) -> Result<STree, RowFail>
     ensures tree { IfOk result (λ made. (m : ℕ) × IsShuffleTree (arity_in labels.now) m made) }
-    ensures vertex { IfOk result (λ made. IsNode made) }
 {
     let tree = shuffle_of(alloc, word)?;
-    if let Tree::Leaf(_) = tree.shape() {
-        return Err(RowFail::Refused);
-    }
     if !belongs(tree.shape(), labels) {
         return Err(RowFail::Refused);
     }

@@ -3,8 +3,20 @@ use mathlib.Core.Path.{ap₂}
 use Rattle.std.specs.declared.cmp.Ordering.TheVariants.{Equal}
 use Rattle.operad_ideals.specs.SpellingOrder.{order}
 use Rattle.common_multiples.specs.Listing.{AreAllMultiples}
-use Rattle.common_multiples.proofs.OverlapLists.{of_one_tree, of_two_trees, same_tree, other_tree}
+use Rattle.common_multiples.proofs.OverlapLists.{none_of_first, none_of_second, of_one_tree, of_two_trees, same_tree, other_tree}
 use Rattle.common_multiples.proofs.families.multiples.Goals as goal
+
+pub returns-then-vertex_count-eq0 : goal.returns-then-vertex_count-eq0
+returns-then-vertex_count-eq0 c = record {
+  multiples = subst (AreAllMultiples c.args.n c.args.one.now c.args.other.now) (sym c.new-found.ensures.items)
+      (none_of_first c.args.n c.args.one.now c.args.other.now (sym c.vertex_count.ensures.count ∙ c.if-vertex_count-eq0.true));
+}
+
+pub returns-then-vertex_count-eq0-2 : goal.returns-then-vertex_count-eq0-2
+returns-then-vertex_count-eq0-2 c = record {
+  multiples = subst (AreAllMultiples c.args.n c.args.one.now c.args.other.now) (sym c.new-found.ensures.items)
+      (none_of_second c.args.n c.args.one.now c.args.other.now (sym c.vertex_count-2.ensures.count ∙ c.if-vertex_count-eq0-2.true));
+}
 
 pub returns-in_ok-push_family-in-Equal : goal.returns-in_ok-push_family-in-Equal
 returns-in_ok-push_family-in-Equal c =
