@@ -5,9 +5,9 @@ use Rattle.labelled_trees.specs.Trees.{Tree}
 use Rattle.shuffle_insertions.specs.Frames.{insert}
 use Rattle.shuffle_places.specs.Places.{frame_at, IsPlace}
 use Rattle.tree_store.specs.Stores.{tree_at}
-use Rattle.division.specs.Laws.{trees_in, FreeToldByDividers, TailsAreInsertions}
+use Rattle.division.specs.Laws.{trees_in, DividersDecideFreeness, TailsAreInsertions}
 
-pub free_told : FreeToldByDividers
+pub free_told : DividersDecideFreeness
 free_told trees reducers s t h = (
   λ f g m set p. let k = h.each g m in f k.0 (k.1, k.2, (set, subst (IsPlace t set) k.3.lead_is p)),
   λ e f free. let d = f.0 in let k = h.only e d.0 d.1 in free k.0 k.1 d.2.0 (subst (IsPlace t d.2.0) (sym k.2.lead_is) d.2.1),

@@ -28,8 +28,8 @@ pub record AreElementsOf (trees : List (Tree ℕ)) (reducers : List Reducer) (s 
   pub only : (e : ℕ) (r : Reducer) → slice_get reducers e ≡ Some r → (g : Element) × Mem g s.elements × IsReducerOf trees r g
 
 -- A tree is free exactly where it has no first divider.
-abbrev pub FreeToldByDividers : Type 0
-FreeToldByDividers = (trees : List (Tree ℕ)) (reducers : List Reducer) (s : Setting) (t : Tree ℕ) → AreElementsOf trees reducers s
+abbrev pub DividersDecideFreeness : Type 0
+DividersDecideFreeness = (trees : List (Tree ℕ)) (reducers : List Reducer) (s : Setting) (t : Tree ℕ) → AreElementsOf trees reducers s
     → (IsFirstDivider trees reducers t None → IsFree s t) × ((e : ℕ) → IsFirstDivider trees reducers t (Some e) → IsFree s t → ⊥)
 
 -- A tail has the trees of the terms of an insertion in the tree, but for the first, in their order.

@@ -1,8 +1,8 @@
-ghost use Rattle.division.specs.Laws.{FreeToldByDividers, TailsAreInsertions};
+ghost use Rattle.division.specs.Laws.{DividersDecideFreeness, TailsAreInsertions};
 
 /// Law: a tree is free exactly where it has no first divider.
-pub fn free_told_by_dividers()
-    ensures law { FreeToldByDividers }
+pub fn dividers_decide_freeness()
+    ensures law { DividersDecideFreeness }
 {}
 
 /// Law: a tail has the trees of the terms of an insertion, but for the first.

@@ -32,7 +32,7 @@ pub use extending::extend_dividers;
 pub use gathering::{gather, meet, meet_all, step};
 pub use growing::add_element;
 pub use kept::make_tail;
-pub use laws::{free_told_by_dividers, tails_are_insertions};
+pub use laws::{dividers_decide_freeness, tails_are_insertions};
 pub use laying::{divides_inputs, divides_root};
 pub use reducer::Reducer;
 pub use rows::{RowFail, reduce_row, sweep_row};

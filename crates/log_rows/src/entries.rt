@@ -10,10 +10,10 @@ use crate::logs::log_of;
 use arity_completion::{Start, entry_for};
 use cofactor_log::{Entry, Log};
 use division::Cofactor;
-use presentation_text::{Document, GREATEST_ARITY, write_number};
+use presentation_text::{Document, write_number};
 use rows::{
-    RowFail, end_line, end_terms, shuffle_terms, shuffle_tree, vertices_of, write_next,
-    write_plain, write_text,
+    RowFail, end_line, end_terms, most_leaves, shuffle_terms, shuffle_tree, vertices_of,
+    write_next, write_plain, write_text,
 };
 use shuffle_passage::labels_of;
 use shuffle_sums::Shelf;
@@ -72,13 +72,12 @@ fn cofactor(
     vertices: &[u32],
 ) -> Result<Cofactor, RowFail>
     requires labels { (l : ℕ) → arity_in shelf.old.labels l ≡ inputs_of (generators_of document.now.gens) l }
-    requires most { shelf.old.most ≡ 9 }
     ensures placed { IfOk result (IsPlaced shelf.new 1) }
     ensures labels { shelf.new.labels ≡ shelf.old.labels }
 {
     let host = shuffle_tree(alloc, document, 1)?;
     match host.arity() {
-        Some(leaves) if leaves <= GREATEST_ARITY => {}
+        Some(leaves) if leaves <= shelf.most() => {}
         _ => return Err(RowFail::Refused),
     }
     let Some(place) = Place::of(alloc, &host, &vertices_of(alloc, vertices)?)? else {
@@ -128,10 +127,9 @@ fn entry_of(
 // A shelf for the labels of the document.
 fn shelf_of(alloc: Global, document: &Document) -> Result<Shelf, RowFail>
     ensures labels { IfOk result (λ shelf. (l : ℕ) → arity_in shelf.labels l ≡ inputs_of (generators_of document.now.gens) l) }
-    ensures most { IfOk result (λ shelf. shelf.most ≡ 9) }
 {
     let labels = labels_of(alloc, &document.gens)?;
-    Ok(Shelf::new(alloc, &labels, GREATEST_ARITY)?)
+    Ok(Shelf::new(alloc, &labels, most_leaves(&labels))?)
 }
 
 // The same entry, where so many times the first entry is subtracted at a place of the tree of the second question.
@@ -147,7 +145,6 @@ fn made(
     requires table { log.now.gens ≡ document.now.gens }
     requires factor { factors.0 < log.now.field }
     requires labels { (l : ℕ) → arity_in shelf.old.labels l ≡ inputs_of (generators_of document.now.gens) l }
-    requires most { shelf.old.most ≡ 9 }
 {
     let (factor, coef) = factors;
     let step = cofactor(alloc, document, shelf, coef, vertices)?;

@@ -28,7 +28,8 @@ use Rattle.operad_answers.specs.OrderedPresentations.{OrderedPresentation, prese
 use Rattle.operad_answers.specs.Parts.{part_text, AreParts}
 use Rattle.operad_answers.specs.Texts.{IsNormalText, IsBasisOfQuotient, IsForm, IsAnswer, Sum, IsNarrow}
 use Rattle.operad_answers.specs.Verdicts.{difference, WantingBlock}
-use Rattle.operad_answers.specs.Limits.{tree_number, most_trees, IsAskWithin, IsWithinLimits}
+use Rattle.shuffle_insertions.specs.Counting.{most_trees}
+use Rattle.operad_answers.specs.Limits.{tree_number, IsAskWithin, IsWithinLimits}
 use Rattle.operad_answers.specs.Budgets.{counted_of, counted, IsSpent}
 use Rattle.operad_answers.specs.Commands.{budget_fault, basis, forms, IsTextOf, IsDone, HasTooManyTrees, AsksGreaterArity, IsOverBudget}
 use Rattle.operad_answers.proofs.Bounds.{limits_exclude}

@@ -8,7 +8,7 @@ use Rattle.operad_run.specs.declared.status.Status.{Status}
 use Rattle.operad_run.specs.declared.status.Status.TheVariants.{Done, Refused, Usage, Document, Limit, Budget, ReadFault, WriteFault, NoMemory}
 use Rattle.operad_answers.proofs.Bounds.{in_the_middle}
 use Rattle.operad_run.proofs.OneVerdict.{never_faulty, all_hold_over}
-use Rattle.operad_run.proofs.Runs.{told_ends, ends_more, same_bytes, not_too_many}
+use Rattle.operad_run.proofs.Runs.{written_ends, ends_more, same_bytes, not_too_many}
 
 -- a text whose blocks hold is accepted, and one whose blocks don't is refused
 complete_from_ends : (status : Status) (words : List (List ℕ)) (o : Outside) → Ends (IsMemberWord words) (CheckSays words o) status o → CheckRunIsComplete status words o
@@ -42,10 +42,10 @@ complete_from_ends Document words o ends bytes document blocks w e few c r s =
     absurd (never_faulty bytes document blocks fault.0 fault.1 c (subst (λ b. IsFirstRefusedLine b fault.0 fault.1) same fault.2))
 complete_from_ends Budget words o ends bytes document blocks w e few c r s = absurd ends.1
 
-pub told_is_run : (meant status : Status) (words : List (List ℕ)) (o : Outside) (text : List ℕ) → CheckSays words o meant text
+pub written_is_run : (meant status : Status) (words : List (List ℕ)) (o : Outside) (text : List ℕ) → CheckSays words o meant text
     → IsWrittenOut meant text status o.taken o.taken_now o.write_faults o.write_faults_now → IsCheckRun status words o
-told_is_run meant status words o text says contents =
-    let ends = told_ends (IsMemberWord words) (CheckSays words o) meant status o text (record { write = λ t s. s; memory = λ t s. s }) says contents in
+written_is_run meant status words o text says contents =
+    let ends = written_ends (IsMemberWord words) (CheckSays words o) meant status o text (record { write = λ t s. s; memory = λ t s. s }) says contents in
     record { ends = ends; complete = complete_from_ends status words o ends }
 
 -- what a text tells is said by the run

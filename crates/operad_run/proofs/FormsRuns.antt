@@ -7,7 +7,7 @@ use Rattle.operad_run.specs.FormsRuns.{FormsSays, FormsRunIsComplete, IsFormsRun
 use Rattle.operad_run.specs.declared.status.Status.{Status}
 use Rattle.operad_run.specs.declared.status.Status.TheVariants.{Done, Refused, Usage, Document, Limit, Budget, ReadFault, WriteFault, NoMemory}
 use Rattle.operad_run.proofs.OneTelling.{free_or_refused, free_or_wide}
-use Rattle.operad_run.proofs.Runs.{told_ends, ends_more, same_bytes, not_too_many}
+use Rattle.operad_run.proofs.Runs.{written_ends, ends_more, same_bytes, not_too_many}
 
 one_arity : (words : List (List ℕ)) (n m : ℕ) → IsForms words n → IsForms words m → n ≡ m
 one_arity words n m h g =
@@ -48,10 +48,10 @@ says_of words o n bytes ReadFault text w came t = absurd t
 says_of words o n bytes WriteFault text w came t = absurd t
 says_of words o n bytes NoMemory text w came t = absurd t
 
-pub told_is_run : (meant status : Status) (words : List (List ℕ)) (o : Outside) (text : List ℕ) → FormsSays words o meant text
+pub written_is_run : (meant status : Status) (words : List (List ℕ)) (o : Outside) (text : List ℕ) → FormsSays words o meant text
     → IsWrittenOut meant text status o.taken o.taken_now o.write_faults o.write_faults_now → IsFormsRun status words o
-told_is_run meant status words o text says contents =
-    let ends = told_ends (IsCommand words) (FormsSays words o) meant status o text (record { write = λ t s. s; memory = λ t s. s }) says contents in
+written_is_run meant status words o text says contents =
+    let ends = written_ends (IsCommand words) (FormsSays words o) meant status o text (record { write = λ t s. s; memory = λ t s. s }) says contents in
     record { ends = ends; complete = complete_from_ends status words o ends }
 
 -- a run that ends without bytes

@@ -24,9 +24,9 @@ module _ (IsCommand : Type 0) (Says : Status → List ℕ → Type 0) where
   written NoMemory o text silent says wrote = absurd (silent.memory text says)
 
   -- what is meant is told, or the sink failed
-  pub told_ends : (meant status : Status) (o : Outside) (text : List ℕ) → IsSilent → Says meant text
+  pub written_ends : (meant status : Status) (o : Outside) (text : List ℕ) → IsSilent → Says meant text
       → IsWrittenOut meant text status o.taken o.taken_now o.write_faults o.write_faults_now → Ends IsCommand Says status o
-  told_ends meant status o text silent says contents = ⊎_elim
+  written_ends meant status o text silent says contents = ⊎_elim
       (λ whole. subst (λ s. Ends IsCommand Says s o) (sym whole.0) (written meant o text silent says (record { written = whole.1; sound = whole.2 })))
       (λ part. subst (λ s. Ends IsCommand Says s o) (sym part.0) (record { rose = part.1; status = meant; text = text; says = says; part = part.2; less = part.3; written = part.4 }))
       contents

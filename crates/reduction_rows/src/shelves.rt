@@ -3,21 +3,21 @@ ghost use Rattle.shuffle_insertions.specs.ShuffleTrees.{IsShuffleTree};
 ghost use Rattle.shuffle_trees.specs.LabelLists.{arity_in};
 
 use crate::sums::is_over;
-use presentation_text::{Document, GREATEST_ARITY, write_number};
-use rows::{RowFail, end_line, shuffle_of, write_line, write_next, write_text};
+use presentation_text::{Document, write_number};
+use rows::{RowFail, end_line, most_leaves, shuffle_of, write_line, write_next, write_text};
 use shuffle_passage::labels_of;
 use shuffle_sums::Shelf;
 use shuffle_trees::{Key, Labels, STree};
 use std::alloc::Global;
 
-// Whether the tree is one over the labels, with at most nine leaves.
-fn is_welcome(labels: &Labels, tree: &STree) -> bool
-    ensures { IsTrue result → (n : ℕ) × (n ≤ 9) × IsShuffleTree (arity_in labels.now) n tree.now }
+// Whether the tree is one over the labels, with at most so many leaves.
+fn is_welcome(labels: &Labels, most: u8, tree: &STree) -> bool
+    ensures { IsTrue result → (n : ℕ) × (n ≤ most) × IsShuffleTree (arity_in labels.now) n tree.now }
 {
     let Some(arity) = tree.arity() else {
         return false;
     };
-    if arity > GREATEST_ARITY {
+    if arity > most {
         return false;
     }
     is_over(labels, arity, tree)
@@ -43,10 +43,11 @@ fn write_shelved(
     tree: &STree,
     out: &mut Vec<u8>,
 ) -> Result<(), RowFail> {
-    if !is_welcome(labels, tree) {
+    let most = most_leaves(labels);
+    if !is_welcome(labels, most, tree) {
         return Err(RowFail::Refused);
     }
-    let mut shelf = Shelf::new(alloc, labels, GREATEST_ARITY)?;
+    let mut shelf = Shelf::new(alloc, labels, most)?;
     let first = shelf.shelve(alloc, tree)?;
     let again = shelf.shelve(alloc, tree)?;
     write_number(first.index() as u64, out)?;

@@ -8,8 +8,8 @@ ghost use Rattle.shuffle_sums.specs.Shelves.{IsShelf, KeepsShelf};
 ghost use Rattle.shuffle_sums.specs.Sums.{FallsBy, HaveKeys};
 
 use path_orders::{LeafPath, Path, PathShort, TreeOrder};
-use presentation_text::{Document, GREATEST_ARITY, OrderName, write_number};
-use rows::{RowFail, belongs, end_line, end_tree, number_of, shuffle_of};
+use presentation_text::{Document, OrderName, write_number};
+use rows::{RowFail, belongs, end_line, end_tree, most_leaves, number_of, shuffle_of};
 use shuffle_passage::labels_of;
 use shuffle_sums::{SSum, SSumFail, Setting, Shelf};
 use shuffle_trees::{Labels, STree};
@@ -52,13 +52,13 @@ fn first_arity(terms: &[(u32, STree)]) -> u8 {
     }
 }
 
-// Whether the numbers are residues, and the trees have one arity, at most nine.
-fn are_terms(labels: &Labels, prime: u32, terms: &[(u32, STree)]) -> bool
+// Whether the numbers are residues, and the trees have one arity, at most so many leaves.
+fn are_terms(labels: &Labels, prime: u32, most: u8, terms: &[(u32, STree)]) -> bool
     ensures residues { IsTrue result → AllByRecursion (λ x. x.0 < prime) terms.now }
-    ensures trees { IsTrue result → (n : ℕ) × (n ≤ 9) × AllTerms terms.now (IsShuffleTree (arity_in labels.now) n) }
+    ensures trees { IsTrue result → (n : ℕ) × (n ≤ most) × AllTerms terms.now (IsShuffleTree (arity_in labels.now) n) }
 {
     let arity = first_arity(terms);
-    if arity > GREATEST_ARITY {
+    if arity > most {
         return false;
     }
     are_over(labels, prime, arity, terms)
@@ -90,13 +90,13 @@ fn sum_of<O: TreeOrder>(
     words: &[String],
 ) -> Result<SSum<O>, RowFail>
     requires own { shelf.old.labels ≡ labels_in setting.now }
-    requires most { 9 ≤ shelf.old.most }
     ensures falls { IfOk result (FallsBy (compares O.weights O.by_keys setting.now) (field_of setting.now) shelf.new) }
     ensures keeps { OnOk result (KeepsShelf shelf.old shelf.new) }
     ensures shelf { OnOk result (IsShelf shelf.new) }
 {
     let terms = spelled(alloc, words)?;
-    if !are_terms(setting.labels(), setting.field().prime(), terms.as_slice()) {
+    let prime = setting.field().prime();
+    if !are_terms(setting.labels(), prime, shelf.most(), terms.as_slice()) {
         return Err(RowFail::Refused);
     }
     Ok(SSum::from_sum(alloc, setting, shelf, terms.as_slice())?)
@@ -152,7 +152,8 @@ fn write_both<O: TreeOrder>(
     others: &[String],
     out: &mut Vec<u8>,
 ) -> Result<(), RowFail> {
-    let mut shelf = Shelf::new(alloc, setting.labels(), GREATEST_ARITY)?;
+    let most = most_leaves(setting.labels());
+    let mut shelf = Shelf::new(alloc, setting.labels(), most)?;
     let mut sum = sum_of(alloc, setting, &mut shelf, ones)?;
     let other = sum_of(alloc, setting, &mut shelf, others)?;
     let coef = setting.field().of_number(u64::from(factor));

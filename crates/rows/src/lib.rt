@@ -10,6 +10,7 @@ mod arguments;
 mod belonging;
 mod elements;
 mod fail;
+mod limits;
 mod lines;
 mod printing;
 mod running;
@@ -20,6 +21,7 @@ pub use arguments::{document_of, element, form, numbers_of, shuffle_tree, tree, 
 pub use belonging::belongs;
 pub use elements::shuffle_terms;
 pub use fail::RowFail;
+pub use limits::most_leaves;
 pub use lines::{end_found, end_line, end_number, end_terms, end_tree, write_before, write_text};
 pub use printing::{write_line, write_next, write_plain};
 pub use running::{Program, run_all};

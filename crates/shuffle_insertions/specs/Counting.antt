@@ -1,5 +1,5 @@
 -- The numbers of shuffle trees.
-use Rattle.std.specs.Prelude.{ℕ, ◌+◌, ◌-◌, ◌*◌}
+use Rattle.std.specs.Prelude.{ℕ, ◌≤◌, ◌+◌, ◌-◌, ◌*◌}
 use Rattle.std.proofs.Common.{zero, suc}
 use Rattle.labelled_trees.specs.RangeSums.{range_sum}
 
@@ -37,3 +37,11 @@ tree_count labels arity (suc levels) n = lone_count n + range_sum labels (λ g. 
 -- The number of shuffle trees of arity n over labels with these arities.
 abbrev pub trees : ℕ → (ℕ → ℕ) → ℕ → ℕ
 trees labels arity n = tree_count labels arity n n
+
+-- the limit on the shuffle trees of one arity: where there are more, nothing is computed
+abbrev pub most_trees : ℕ
+most_trees = 2100000
+
+-- no arity up to N has more trees
+abbrev pub HaveFewTrees : ℕ → (ℕ → ℕ) → ℕ → Type 0
+HaveFewTrees labels arity N = (n : ℕ) → 1 ≤ n → n ≤ N → trees labels arity n ≤ most_trees

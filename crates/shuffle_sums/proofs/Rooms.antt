@@ -56,7 +56,8 @@ lesser_input none t m h = absurd m
 lesser_input (more u r) t (inl e) h = let rest = wide_count r h.1 in let same = ap leaf_count e in omega (arith, rest, same)
 lesser_input (more u r) t (inr m) h = let rest = lesser_input r t m h.1 in let one = fewer_vertices u h.0 in omega (arith, rest, one)
 
-fewer_in_input : (r : Row ℕ) (t : Tree ℕ) (i : ℕ) → Mem t (inputs r) → occurs i t ≤ occurs_row i r
+-- a number stands in an input no more often than in the row
+pub fewer_in_input : (r : Row ℕ) (t : Tree ℕ) (i : ℕ) → Mem t (inputs r) → occurs i t ≤ occurs_row i r
 fewer_in_input none t i m = absurd m
 fewer_in_input (more u r) t i (inl e) = let same = ap (occurs i) e in omega (arith, same)
 fewer_in_input (more u r) t i (inr m) = let rest = fewer_in_input r t i m in omega (arith, rest)

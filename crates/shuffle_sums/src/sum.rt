@@ -87,8 +87,7 @@ impl<O: TreeOrder> SSum<O> {
 
     /// The sum of the terms: equal trees are put together, and zeros are dropped. It stands in the shelf and falls for the setting.
     /// The numbers are residues, and the trees belong to the labels of the setting, for which the shelf was made, and have the
-    /// leaves 1 to `n` for one `n`, at most that of the shelf. `AllocError` comes for want of memory, or of room for more than
-    /// 2^31 trees.
+    /// leaves 1 to `n` for one `n`, at most that of the shelf. `AllocError` comes for want of memory alone.
     pub fn from_sum(
         alloc: Global,
         context: &Setting<O>,

@@ -10,6 +10,7 @@ pub mod InsertionsToInstances
 pub mod InstancesToInsertions
 pub mod Jacobi
 pub mod LabelCounts
+pub mod LabelLists
 pub mod Labels
 pub mod NormalForms
 pub mod NormalTrees
