@@ -1,2 +1,3 @@
+pub mod FitPlaces
 pub mod LoneElement
 pub mod TermLists
