@@ -9,18 +9,20 @@ use Rattle.modular_sums.proofs.Sums.{AllTerms-moved}
 use Rattle.labelled_trees.specs.Trees.{Tree}
 use Rattle.labelled_trees.specs.Equality.{tree_discrete}
 use Rattle.labelled_trees.specs.Leaves.{leaf_count}
-use Rattle.shuffle_insertions.specs.ShuffleTrees.{IsShuffle, IsShuffleTree}
-use Rattle.shuffle_bases.specs.Elements.{Element, terms}
-use Rattle.shuffle_places.specs.Connected.{IsConnected}
+use Rattle.shuffle_insertions.specs.ShuffleTrees.{IsShuffleTree}
 use Rattle.shuffle_trees.specs.LabelLists.{arity_in}
 use Rattle.shuffle_trees.proofs.Counts.{count_of_shuffle}
 use Rattle.tree_store.specs.Stores.{tree_at}
-use Rattle.shuffle_sums.specs.Shelves.{Shelf, HasKey, IsShelf, KeepsShelf}
-use Rattle.shuffle_sums.specs.Sums.{over, HaveKeys, AreTrees, FallsBy, OneArity}
+use Rattle.shuffle_sums.specs.Shelves.{Shelf, IsShelf, IsShelved, KeepsShelf}
+use Rattle.shuffle_sums.specs.Sums.{over, HaveKeys, FallsBy}
 use Rattle.shuffle_sums.specs.Inserting.{FitPlace, inserted_at}
-use Rattle.shuffle_sums.proofs.Kept.{over_kept, trees_kept}
+use Rattle.shuffle_sums.proofs.Kept.{over_kept, tree_kept}
 use Rattle.common_multiples.specs.SElements.{HasLeadAt, IsSElementOf}
 use Rattle.common_multiples.specs.declared.families.Multiple as found
+
+-- a tree that was put into the shelf stays at its id
+pub shelved_later : (old now : Shelf) (id : ℕ) (t : Tree ℕ) → IsShelf old → KeepsShelf old now → IsShelved old id t → tree_at now.trees id ≡ t
+shelved_later old now id t shelf keeps found = tree_kept old now keeps shelf id found.0 ∙ found.1
 
 -- each tree of an element has as many leaves as the divisor that its leading tree is
 fits_place : (compare : Tree ℕ → Tree ℕ → Ordering) (p : ℕ) (shelf : Shelf) (t : Tree ℕ) (place : List ℕ) (sum : List (ℕ × ℕ))
@@ -32,7 +34,7 @@ fits_place compare p shelf t place sum falls lead =
     let count = ap leaf_count lead.at.divisor_is ∙ count_of_shuffle n lead.element.lead of_element.0.shuffle in
     AllTerms-imp (IsShuffleTree (arity_in shelf.labels) n) _ (over shelf sum) (λ u h. count_of_shuffle n u h.shuffle ∙ sym count) trees
 
--- the same in a later shelf, at an id of the tree
+-- and in a later shelf, at an id of the tree
 pub fits_place_later : (compare : Tree ℕ → Tree ℕ → Ordering) (p : ℕ) (old now : Shelf) (t : Tree ℕ) (place : List ℕ) (sum : List (ℕ × ℕ)) (host : ℕ)
     → IsShelf old → KeepsShelf old now → tree_at now.trees host ≡ t → FallsBy compare p old sum → HasLeadAt old t place sum → FitPlace place (tree_at now.trees host) (over now sum)
 fits_place_later compare p old now t place sum host shelf keeps host_is falls lead =
