@@ -74,11 +74,11 @@ returns-clause-element g c =
     let host_is = shelved_later c.shelve.new.self c.insert_at.new.shelf c.in_ok-host.host c.args.multiple.now.tree c.shelve.ensures.shelf c.insert_at.ensures.keeps found in
     let keeps = keeps_both old c.shelve.new.self c.insert_at.new.shelf c.shelve.ensures.keeps c.insert_at.ensures.keeps in
     let first_is = inserted_later old c.shelve.new.self c.insert_at.new.shelf last multiple.tree multiple.first c.args.a.now c.in_ok-first.first c.in_ok-host.host
-          c.store.ensures.shelf c.shelve.ensures.keeps c.insert_at.ensures.shelf c.insert_at-2.ensures.keeps found.1 c.requires.first.stands c.in_ok-first.ensures.falls.stands c.in_ok-first.ensures.inserted in
+    c.store.ensures.shelf c.shelve.ensures.keeps c.insert_at.ensures.shelf c.insert_at-2.ensures.keeps found.1 c.requires.first.stands c.in_ok-first.ensures.falls.stands c.in_ok-first.ensures.inserted in
     let second_is = inserted_later old c.insert_at.new.shelf last last multiple.tree multiple.second c.args.b.now c.in_ok-second.second c.in_ok-host.host
-          c.store.ensures.shelf keeps c.insert_at-2.ensures.shelf (keeps_itself last) host_is c.requires.second.stands c.in_ok-second.ensures.falls.stands c.in_ok-second.ensures.inserted in
+    c.store.ensures.shelf keeps c.insert_at-2.ensures.shelf (keeps_itself last) host_is c.requires.second.stands c.in_ok-second.ensures.falls.stands c.in_ok-second.ensures.inserted in
     IfOk-weaker c.difference.result _ (IsSElementOf p multiple old c.args.a.now c.args.b.now last)
-        (λ made. is_s_element p multiple old last c.args.a.now c.args.b.now c.in_ok-first.first c.in_ok-second.second made first_is second_is) c.difference.ensures.difference
+    (λ made. is_s_element p multiple old last c.args.a.now c.args.b.now c.in_ok-first.first c.in_ok-second.second made first_is second_is) c.difference.ensures.difference
 
 pub returns-clause-trees : goal.returns-clause-trees
 returns-clause-trees g c =
@@ -86,9 +86,9 @@ returns-clause-trees g c =
     let found = c.in_ok-host.ensures.found in
     let host_is = shelved_later c.shelve.new.self c.insert_at.new.shelf c.in_ok-host.host c.args.multiple.now.tree c.shelve.ensures.shelf c.insert_at.ensures.keeps found in
     IfOk-weaker c.difference.result _ _ (λ made trees n valid.
-          let first = c.in_ok-first.ensures.trees n (subst (IsShuffle n) (sym found.1) valid) in
-          trees n (trees_kept c.insert_at.new.shelf last c.insert_at-2.ensures.keeps c.insert_at.ensures.shelf n c.in_ok-first.first c.in_ok-first.ensures.falls.stands first)
-              (c.in_ok-second.ensures.trees n (subst (IsShuffle n) (sym host_is) valid))) c.difference.ensures.trees
+    let first = c.in_ok-first.ensures.trees n (subst (IsShuffle n) (sym found.1) valid) in
+    trees n (trees_kept c.insert_at.new.shelf last c.insert_at-2.ensures.keeps c.insert_at.ensures.shelf n c.in_ok-first.first c.in_ok-first.ensures.falls.stands first)
+    (c.in_ok-second.ensures.trees n (subst (IsShuffle n) (sym host_is) valid))) c.difference.ensures.trees
 
 pub returns-clause-keeps : goal.returns-clause-keeps
 returns-clause-keeps g c =
