@@ -1,5 +1,6 @@
 -- Elements at places, over a shelf that grows.
-use Rattle.std.proofs.Common.{◌≡◌, ℕ, ◌-◌, List, ap, sym, ◌∙◌, subst}
+use Rattle.std.proofs.Common.{◌≡◌, ℕ, ◌-◌, List, [], ◌∷◌, Some, slice_get, ap, sym, ◌∙◌, subst}
+use Rattle.std.proofs.lemmas.Option.{same_Some}
 use mathlib.Core.List.{◌++◌}
 use mathlib.Core.Path.{ap₂}
 use Rattle.std.specs.declared.cmp.Ordering.{Ordering}
@@ -10,6 +11,7 @@ use Rattle.labelled_trees.specs.Trees.{Tree}
 use Rattle.labelled_trees.specs.Equality.{tree_discrete}
 use Rattle.labelled_trees.specs.Leaves.{leaf_count}
 use Rattle.shuffle_insertions.specs.ShuffleTrees.{IsShuffleTree}
+use Rattle.shuffle_places.specs.Places.{IsPlace}
 use Rattle.shuffle_trees.specs.LabelLists.{arity_in}
 use Rattle.shuffle_trees.proofs.Counts.{count_of_shuffle}
 use Rattle.tree_store.specs.Stores.{tree_at}
@@ -55,3 +57,12 @@ is_s_element p multiple old last one other first second made first_is second_is 
     let inserted = first_is ∙ ap (inserted_at multiple.first multiple.tree) g_is in
     let inserted_too = second_is ∙ ap (inserted_at multiple.second multiple.tree) h_is in
     subst (Same tree_discrete (p - 1) (over last made)) (ap₂ (λ k l. k ++ scale (p - 1) l) inserted inserted_too) same
+
+-- a sum that begins with coefficient 1 has its first tree as leading tree
+pub has_lead_at : (shelf : Shelf) (t : Tree ℕ) (place : List ℕ) (sum : List (ℕ × ℕ)) (id : ℕ) → slice_get sum 0 ≡ Some (1, id) → IsPlace t place (tree_at shelf.trees id) → HasLeadAt shelf t place sum
+has_lead_at shelf t place [] id is at = absurd (cc is)
+has_lead_at shelf t place (x ∷ sum) id is at = record {
+  element = record { arity = leaf_count (tree_at shelf.trees id); lead = tree_at shelf.trees id; tail = over shelf sum };
+  terms_are = ap (λ (y : ℕ × ℕ). (y.0, tree_at shelf.trees y.1) ∷ over shelf sum) (same_Some x (1, id) is);
+  at = at;
+}
