@@ -22,6 +22,7 @@ fn document_answer(
         "SSum::from_sum" => settings::called(alloc, document, SumCall::FromSum, words, out),
         "SSum::add_scaled" => settings::called(alloc, document, SumCall::AddScaled, words, out),
         "SSum::insert_at" => settings::called(alloc, document, SumCall::InsertAt, words, out),
+        "s_element" => settings::called(alloc, document, SumCall::SElement, words, out),
         "Shelf::shelve" => shelves::shelve(alloc, document, words, out),
         "reduce_row" => cones::reduced(alloc, document, words, out),
         _ => Err(RowFail::Refused),

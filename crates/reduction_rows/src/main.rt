@@ -10,6 +10,7 @@ mod cones;
 mod elements;
 mod gatherings;
 mod inserting;
+mod s_elements;
 mod settings;
 mod shelves;
 mod stores;

@@ -1,5 +1,6 @@
 use crate::adding::added;
 use crate::inserting::inserted;
+use crate::s_elements::s_element_of;
 use crate::sums::{spelled_sum, write_sum};
 use path_orders::{LeafPath, Path, PathShort, TreeOrder, WeightPath};
 use presentation_text::{Document, OrderName, write_number};
@@ -17,6 +18,8 @@ pub enum SumCall {
     AddScaled,
     /// `SSum::insert_at`
     InsertAt,
+    /// `s_element`
+    SElement,
 }
 
 // The order by the weights of the document's generators.
@@ -44,6 +47,7 @@ fn call_over<O: TreeOrder>(
         }
         SumCall::AddScaled => added(alloc, setting, &mut shelf, words, out),
         SumCall::InsertAt => inserted(alloc, setting, &mut shelf, words, out),
+        SumCall::SElement => s_element_of(alloc, setting, &mut shelf, words, out),
     }
 }
 
