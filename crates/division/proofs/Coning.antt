@@ -8,7 +8,7 @@ use Rattle.labelled_trees.specs.Trees.{Tree}
 use Rattle.shuffle_insertions.specs.ShuffleTrees.{IsShuffleTree}
 use Rattle.shuffle_bases.specs.Elements.{Element, Setting, Insertion}
 use Rattle.division.specs.declared.reducer.Reducer.{Reducer}
-use Rattle.division.specs.Insertions.{Grows}
+use Rattle.shuffle_sums.specs.Putting.{Keeps}
 use Rattle.division.specs.Dividers.{AreReducers, AreDividers}
 use Rattle.division.specs.Gathered.{AreGathered, AllOver, ArePlaces}
 use Rattle.division.specs.Laws.{IsReducerOf}
@@ -42,7 +42,7 @@ distinct_places places ids h = once ids (λ p q x e f. let a = h.to x p e in let
 
 -- what is known once trees were gathered
 pub record HasGathered (old new : List (Tree ℕ)) (reducers : List Reducer) (found : List (Option ℕ)) (given ids : List ℕ) (tails : List (List ℕ)) : Type 0 where
-  pub grows : Grows old new
+  pub grows : Keeps old new
   pub before : AreReducers old reducers
   pub given_held : All (λ i. i < length old) given
   pub dividers : AreDividers new reducers found

@@ -15,7 +15,7 @@ use Rattle.shuffle_places.proofs.Laws.{place_frames}
 use Rattle.shuffle_places.proofs.Sizes.{one_size}
 use Rattle.tree_store.specs.Stores.{tree_at, IsStore}
 use Rattle.division.specs.declared.reducer.Reducer.{Reducer}
-use Rattle.division.specs.Insertions.{Grows}
+use Rattle.shuffle_sums.specs.Putting.{Keeps}
 use Rattle.division.specs.Dividers.{IsFirstDivider, AreReducers, AreGroups, AreDividers, FoundGrows}
 use Rattle.division.specs.KeptTails.{AreKept}
 use Rattle.division.specs.Gathered.{IsStepOf, IsGatheredAt, AllOver, AreGathered, AreOver, ArePlaces, CameFrom, Longer, StandAt, SamePlaces, IsWorking}
@@ -164,7 +164,7 @@ meeting_more old before places ids later found tail k x p h lt is hp hl e hh hc 
 
 -- ---- a step
 
-groups_later : (a b : List (Tree ℕ)) (reducers : List Reducer) (groups : List (List ℕ)) → Grows a b → AreReducers a reducers → AreGroups a reducers groups → AreGroups b reducers groups
+groups_later : (a b : List (Tree ℕ)) (reducers : List Reducer) (groups : List (List ℕ)) → Keeps a b → AreReducers a reducers → AreGroups a reducers groups → AreGroups b reducers groups
 groups_later a b reducers groups g hr h = record {
   within = h.within;
   rising = h.rising;
@@ -185,7 +185,7 @@ working_found trees reducers groups old new kept w d few g = record {
 
 -- the store grew
 pub working_later : (a b : List (Tree ℕ)) (reducers : List Reducer) (groups : List (List ℕ)) (found : List (Option ℕ)) (kept now : List (Option (List ℕ))) → IsWorking a reducers groups found kept
-    → Grows a b → IsStore b → AreKept b reducers found now → IsWorking b reducers groups found now
+    → Keeps a b → IsStore b → AreKept b reducers found now → IsWorking b reducers groups found now
 working_later a b reducers groups found kept now w g s k = record {
   is_store = s;
   are_reducers = reducers_later a b reducers g w.are_reducers;
@@ -201,11 +201,11 @@ read_place xs ys i id o e f lt g = slice_get-get_or ys id None lt ∙ ap Some (a
 
 -- ---- gathering
 
-first_later : (a b : List (Tree ℕ)) (reducers : List Reducer) → Grows a b → AreReducers a reducers → (id : ℕ) → id < length a → IsFirstDivider a reducers (tree_at a id) None → IsFirstDivider b reducers (tree_at b id) None
+first_later : (a b : List (Tree ℕ)) (reducers : List Reducer) → Keeps a b → AreReducers a reducers → (id : ℕ) → id < length a → IsFirstDivider a reducers (tree_at a id) None → IsFirstDivider b reducers (tree_at b id) None
 first_later a b reducers g hr id low f = λ e d. f e
     (d.0, d.1, (d.2.0, subst (IsPlace (tree_at a id) d.2.0) (grown_tree a b g d.0.lead (hr e d.0 d.1).lead_low) (subst (λ t. IsPlace t d.2.0 (tree_at b d.0.lead)) (grown_tree a b g id low) d.2.1)))
 
-gathered_later : (a b : List (Tree ℕ)) (reducers : List Reducer) (found found' : List (Option ℕ)) (ids later : List ℕ) → Grows a b → AreReducers a reducers → FoundGrows found found' → Longer ids later → (id : ℕ) (places : List ℕ) → id < length a
+gathered_later : (a b : List (Tree ℕ)) (reducers : List Reducer) (found found' : List (Option ℕ)) (ids later : List ℕ) → Keeps a b → AreReducers a reducers → FoundGrows found found' → Longer ids later → (id : ℕ) (places : List ℕ) → id < length a
     → IsGatheredAt a reducers found ids id places → IsGatheredAt b reducers found' later id places
 gathered_later a b reducers found found' ids later g hr fg l id places low (inl h) = inl (record { found_is = fg id None h.0.found_is; none = first_later a b reducers g hr id low h.0.none }, h.1)
 gathered_later a b reducers found found' ids later g hr fg l id places low (inr h) = inr (
@@ -254,7 +254,7 @@ held_entry : (n : ℕ) (ids : List ℕ) → All (λ i. i < n) ids → (p i : ℕ
 held_entry n ids h p i e = subst (λ j. j < n) (get_or_from_slice_get ids p i i e) (h p i (slice_get_within ids p i e))
 
 -- the trees that came belong to the labels where the others do
-module _ (trees later : List (Tree ℕ)) (reducers : List Reducer) (ids ids' given : List ℕ) (grows : Grows trees later) (hr : AreReducers trees reducers) (held : All (λ i. i < length trees) ids)
+module _ (trees later : List (Tree ℕ)) (reducers : List Reducer) (ids ids' given : List ℕ) (grows : Keeps trees later) (hr : AreReducers trees reducers) (held : All (λ i. i < length trees) ids)
     (longer : Longer given ids) where
   over_before : (arity : ℕ → ℕ) → AreOver arity later reducers → AreOver arity trees reducers
   over_before arity a = λ e r q. (
@@ -279,7 +279,7 @@ module _ (trees later : List (Tree ℕ)) (reducers : List Reducer) (ids ids' giv
 
 -- What holds on the way: the steps of these ids were gathered.
 pub record IsGathering (first trees : List (Tree ℕ)) (reducers : List Reducer) (groups : List (List ℕ)) (start found : List (Option ℕ)) (kept : List (Option (List ℕ))) (places : List (Option ℕ)) (given ids : List ℕ) (tails : List (List ℕ)) : Type 0 where
-  pub grows : Grows first trees
+  pub grows : Keeps first trees
   pub found_grows : FoundGrows start found
   pub works : IsWorking trees reducers groups found kept
   pub are_places : ArePlaces places ids
@@ -305,7 +305,7 @@ gathering_none trees reducers groups found kept places ids w h k = record {
 
 module _ (first trees later : List (Tree ℕ)) (reducers : List Reducer) (groups : List (List ℕ)) (start found found' : List (Option ℕ)) (kept kept' : List (Option (List ℕ))) (places places' : List (Option ℕ))
     (given ids ids' : List ℕ) (tails : List (List ℕ)) (h : IsGathering first trees reducers groups start found kept places given ids tails) (fg : FoundGrows found found')
-    (works : IsWorking later reducers groups found' kept') (grows : Grows trees later) (hp : ArePlaces places' ids') (longer : Longer ids ids') where
+    (works : IsWorking later reducers groups found' kept') (grows : Keeps trees later) (hp : ArePlaces places' ids') (longer : Longer ids ids') where
   old_steps : (p id : ℕ) (t : List ℕ) → slice_get ids p ≡ Some id → slice_get tails p ≡ Some t → IsGatheredAt later reducers found' ids' id t
   old_steps p id t e f =
       let q = slice_get_within ids p id e in
