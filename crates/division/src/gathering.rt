@@ -1,4 +1,4 @@
-ghost use Rattle.std.specs.Prelude.{◌≡◌, ◌<◌, ◌≤◌, ◌++◌, ◌∷◌, ◌↔◌, ℕ, [], List, Some, None, length, map, slice_get, IfOk, OnOk};
+ghost use Rattle.std.specs.Prelude.{◌≡◌, ◌<◌, ◌≤◌, ◌^◌, ◌++◌, ◌∷◌, ◌↔◌, ℕ, [], List, Some, None, length, map, slice_get, IfOk, OnOk};
 ghost use Rattle.std.specs.List.{All};
 ghost use Rattle.shuffle_sums.specs.Shelves.{IsShelf, KeepsShelf};
 ghost use Rattle.division.specs.Dividers.{FoundGrows, HaveRoom};
@@ -30,6 +30,7 @@ fn enter(
     id: TreeId,
 ) -> Result<u32, AllocError>
     requires places { ArePlaces places.old ids.old }
+    requires low { All (λ i. i < 2 ^ 31) ids.old }
     requires room { id < length places.old }
     requires new { slice_get places.old id ≡ Some None }
     ensures there { IfOk result (λ p. slice_get ids.new p ≡ Some id) }
@@ -44,14 +45,15 @@ fn enter(
     Ok(place)
 }
 
-/// The place of the id in the list, where it stands from now on. `places` has the places of the ids.
-/// `AllocError` comes for want of memory alone; the list is as before then.
+/// The place of the id in the list, where it stands from now on. `places` has the places of the ids, which are below 2^31, as
+/// those that a shelf gives. `AllocError` comes for want of memory alone; the list is as before then.
 pub fn meet(
     places: &mut Items<Option<u32>>,
     ids: &mut Items<TreeId>,
     id: TreeId,
 ) -> Result<u32, AllocError>
     requires places { ArePlaces places.old ids.old }
+    requires low { All (λ i. i < 2 ^ 31) ids.old }
     ensures there { IfOk result (λ p. slice_get ids.new p ≡ Some id) }
     ensures places { ArePlaces places.new ids.new }
     ensures longer { Longer ids.old ids.new }
@@ -65,8 +67,8 @@ pub fn meet(
     }
 }
 
-/// The places of the ids of a tail in the list, where they stand from now on. The errors are those of `meet`; the list may have
-/// grown then.
+/// The places of the ids of a tail in the list, where they stand from now on. All ids are below 2^31, as those that a shelf
+/// gives. `AllocError` comes for want of memory alone; the list may have grown then.
 pub fn meet_all(
     alloc: Global,
     places: &mut Items<Option<u32>>,
@@ -74,6 +76,8 @@ pub fn meet_all(
     tail: &[TreeId],
 ) -> Result<Items<u32>, AllocError>
     requires places { ArePlaces places.old ids.old }
+    requires low { All (λ i. i < 2 ^ 31) ids.old }
+    requires tail { All (λ i. i < 2 ^ 31) tail.now }
     ensures there { IfOk result (λ found. StandAt ids.new found tail.now) }
     ensures places { ArePlaces places.new ids.new }
     ensures longer { Longer ids.old ids.new }
