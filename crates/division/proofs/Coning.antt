@@ -8,7 +8,7 @@ use Rattle.labelled_trees.specs.Trees.{Tree}
 use Rattle.shuffle_insertions.specs.ShuffleTrees.{IsShuffleTree}
 use Rattle.shuffle_bases.specs.Elements.{Element, Setting, Insertion}
 use Rattle.division.specs.declared.reducer.Reducer.{Reducer}
-use Rattle.division.specs.Insertions.{Grows}
+use Rattle.shuffle_sums.specs.Putting.{Keeps}
 use Rattle.division.specs.Dividers.{AreReducers, AreDividers}
 use Rattle.division.specs.Gathered.{AreGathered, AllOver, ArePlaces}
 use Rattle.division.specs.Laws.{IsReducerOf}
@@ -21,28 +21,9 @@ use Rattle.division.specs.Ranks.{AreRanks, AreRules, CanRule}
 use Rattle.division.specs.Cones.{CanGather}
 use Rattle.division.proofs.OverTrees.{elements_over, can_rule, table_over}
 
--- ids with places stand once each
-pub distinct_places : (places : List (Option ℕ)) (ids : List ℕ) → ArePlaces places ids → Distinct ids
-distinct_places places ids h = once ids (λ p q x e f. let a = h.to x p e in let b = h.to x q f in cc (a, b))
-  where
-    placed : (x : ℕ) (l : List ℕ) → Mem x l → (k : ℕ) × (slice_get l k ≡ Some x)
-    placed x [] m = absurd m
-    placed x (y ∷ l) (inl e) = (0, ap Some (sym e))
-    placed x (y ∷ l) (inr m) = let p = placed x l m in (suc p.0, p.1)
-
-    zero_suc : (k : ℕ) → zero ≡ suc k → ⊥
-    zero_suc k e = cc e
-
-    less : (j k : ℕ) → suc j ≡ suc k → j ≡ k
-    less j k e = cc e
-
-    once : (l : List ℕ) → ((p q x : ℕ) → slice_get l p ≡ Some x → slice_get l q ≡ Some x → p ≡ q) → Distinct l
-    once [] h = tt
-    once (y ∷ l) h = (λ m. let p = placed y l m in zero_suc p.0 (h 0 (suc p.0) y refl p.1), once l (λ p q x e f. less p q (h (suc p) (suc q) x e f)))
-
 -- what is known once trees were gathered
 pub record HasGathered (old new : List (Tree ℕ)) (reducers : List Reducer) (found : List (Option ℕ)) (given ids : List ℕ) (tails : List (List ℕ)) : Type 0 where
-  pub grows : Grows old new
+  pub grows : Keeps old new
   pub before : AreReducers old reducers
   pub given_held : All (λ i. i < length old) given
   pub dividers : AreDividers new reducers found

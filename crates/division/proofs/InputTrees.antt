@@ -8,22 +8,25 @@ use Rattle.std.proofs.lemmas.List.{length-map, get_or-map}
 use Rattle.labelled_trees.specs.Trees.{Tree, leaf, node, more, row}
 use Rattle.labelled_trees.specs.Contexts.{Ctx, hole, inside, fill}
 use Rattle.labelled_trees.specs.Leaves.{occurs, one_if}
+use Rattle.labelled_trees.specs.Labelled.{Fits}
 use Rattle.labelled_trees.proofs.ContextLeaves.{sum-fill}
+use Rattle.labelled_trees.proofs.Fitting.{fits-fill}
 use Rattle.labelled_trees.proofs.Rows.{width-replace}
 use Rattle.shuffle_insertions.specs.ShuffleTrees.{IsRising}
 use Rattle.shuffle_insertions.specs.Frames.{insert}
 use Rattle.shuffle_insertions.proofs.Rising.{rising-fill, least_same}
 use Rattle.shuffle_places.specs.Places.{frame_at}
 use Rattle.shuffle_trees.specs.ValidTrees.{IsValid, IsWide, AreWide}
-use Rattle.tree_store.specs.Stores.{tree_at, IsStore}
-use Rattle.tree_store.proofs.Counts.{held_valid}
+use Rattle.shuffle_trees.specs.LabelLists.{arity_in}
+use Rattle.tree_store.specs.Stores.{tree_at}
 use Rattle.tree_store.proofs.Subtrees.{valid_input}
 use Rattle.shuffle_places.specs.RootPlaces.{count_before, shifted}
 use Rattle.shuffle_places.proofs.InputPlaces.{place_in_input, insert_in_input, stands_there}
 use Rattle.shuffle_places.proofs.Shifts.{among, fill_row-among}
+use Rattle.shuffle_sums.specs.Shelves.{Shelf, HasLeavesAmong, IsShelf}
 use Rattle.division.specs.Parts.{replaced, replaced_row}
 use Rattle.division.specs.Insertions.{CanReplace, with_other, AreMade, AreInserted, AddsInsertion}
-use Rattle.division.proofs.MadeTrees.{same_lists, map_map, on_ids}
+use Rattle.division.proofs.MadeTrees.{same_lists, map_map, on_ids, held_belongs}
 use Rattle.division.proofs.WholeTrees.{valid_zero}
 
 -- a list around one of its entries
@@ -58,7 +61,7 @@ module _ (l : ℕ) (front : List (Tree ℕ)) (t x : Tree ℕ) (back : List (Tree
   pub other_leaves : (n : ℕ) → occurs n (node l (row (front ++ (x ∷ back)))) ≡ occurs n (node l (row (front ++ (t ∷ back))))
   other_leaves n = ap (occurs n) (sym (filled x)) ∙ sum-fill ctx x t (λ m. one_if (ℕ_discrete m n)) (same n) ∙ ap (occurs n) (filled t)
 
-  pub other_valid : IsValid (node l (row (front ++ (x ∷ back))))
+  other_valid : IsValid (node l (row (front ++ (x ∷ back))))
   other_valid = record {
     wide = (subst (λ n. 2 ≤ n) (width-replace front t x back) valid.wide.0, wide_other front t x back hx.wide valid.wide.1);
     rising = subst IsRising (filled x) (rising-fill ctx t x (least_same t x (valid_input l (row (front ++ (t ∷ back))) t valid (stands_there front t back)).rising hx.rising (λ n. sym (same n))) hx.rising
@@ -67,8 +70,18 @@ module _ (l : ℕ) (front : List (Tree ℕ)) (t x : Tree ℕ) (back : List (Tree
     only = λ i o. let e = other_leaves i in valid.only i (omega (arith, e, o));
   }
 
-module _ (old new : List (Tree ℕ)) (host l : ℕ) (ids : List ℕ) (at child : ℕ) (store : IsStore old) (low : host < length old) (is : tree_at old host ≡ node l (row (map (tree_at old) ids)))
-    (less : at < length ids) (child_is : child ≡ get_or ids at child) (lead : Tree ℕ) (tail : List (Tree ℕ)) (kept : List ℕ) (h : AreInserted old (tree_at old child) lead tail kept) where
+  pub other_belongs : (labels : List ℕ) (most : ℕ) → HasLeavesAmong labels most (node l (row (front ++ (t ∷ back)))) → Fits (arity_in labels) x → HasLeavesAmong labels most (node l (row (front ++ (x ∷ back))))
+  other_belongs labels most h own = record {
+    fits = subst (Fits (arity_in labels)) (filled x) (fits-fill (arity_in labels) ctx t x (subst (Fits (arity_in labels)) (sym (filled t)) h.fits) own);
+    valid = other_valid;
+    among = λ i o. h.among i (let e = other_leaves i in omega (arith, e, o));
+  }
+
+module _ (shelf : Shelf) (host l : ℕ) (ids : List ℕ) (at child : ℕ) (is_shelf : IsShelf shelf) (low : host < length shelf.trees) (is : tree_at shelf.trees host ≡ node l (row (map (tree_at shelf.trees) ids)))
+    (less : at < length ids) (child_is : child ≡ get_or ids at child) (lead : Tree ℕ) (tail : List (Tree ℕ)) (kept : List ℕ) (h : AreInserted shelf.trees (tree_at shelf.trees child) lead tail kept) where
+  abbrev old : List (Tree ℕ)
+  old = shelf.trees
+
   entry : get_or (map (tree_at old) ids) at (leaf 0) ≡ tree_at old child
   entry = get_or-map (tree_at old) ids at child (leaf 0) less ∙ ap (tree_at old) (sym child_is)
 
@@ -89,34 +102,35 @@ module _ (old new : List (Tree ℕ)) (host l : ℕ) (ids : List ℕ) (at child :
       ∙ ap (λ k. node l (replaced_row (row (parts.front ++ (tree_at old child ∷ parts.back))) k (tree_at old x))) (sym parts.size)
       ∙ ap (node l) (replaced_row-append parts.front (tree_at old child) parts.back (tree_at old x))
 
-  host_valid : IsValid (with_this (tree_at old child))
-  host_valid = subst IsValid host_is (held_valid old host store low)
+  host_belongs : HasLeavesAmong shelf.labels shelf.most (with_this (tree_at old child))
+  host_belongs = subst (HasLeavesAmong shelf.labels shelf.most) host_is (held_belongs shelf host is_shelf low)
 
-  kept_valid : (n d : ℕ) → n < length kept → IsValid (tree_at old (get_or kept n d))
-  kept_valid n d lt = held_valid old (get_or kept n d) store (h.held n d lt)
+  kept_belongs : (n d : ℕ) → n < length kept → HasLeavesAmong shelf.labels shelf.most (tree_at old (get_or kept n d))
+  kept_belongs n d lt = held_belongs shelf (get_or kept n d) is_shelf (h.held n d lt)
 
-  pub kept_can : All (CanReplace old host at) kept
+  pub kept_can : All (CanReplace shelf host at) kept
   unfolding with_this
   kept_can = λ n d lt. record {
     low = h.held n d lt;
-    valid = subst IsValid (sym (other_is (get_or kept n d)))
-        (other_valid l parts.front (tree_at old child) (tree_at old (get_or kept n d)) parts.back host_valid (kept_valid n d lt) (h.leaves n d lt));
+    belongs = subst (HasLeavesAmong shelf.labels shelf.most) (sym (other_is (get_or kept n d)))
+        (other_belongs l parts.front (tree_at old child) (tree_at old (get_or kept n d)) parts.back host_belongs.valid (kept_belongs n d lt).valid (h.leaves n d lt) shelf.labels shelf.most host_belongs
+            (kept_belongs n d lt).fits);
   }
 
   child_zero : occurs 0 (tree_at old child) ≡ 0
   unfolding with_this
-  child_zero = valid_zero (tree_at old child) (valid_input l (row (parts.front ++ (tree_at old child ∷ parts.back))) (tree_at old child) host_valid (stands_there parts.front (tree_at old child) parts.back))
+  child_zero = valid_zero (tree_at old child) (valid_input l (row (parts.front ++ (tree_at old child ∷ parts.back))) (tree_at old child) host_belongs.valid (stands_there parts.front (tree_at old child) parts.back))
 
   moved_in : (ys : List (Tree ℕ)) → map with_this (map (insert (frame_at h.set (tree_at old child))) ys) ≡ map (insert (frame_at (shifted (count_before parts.front) h.set) (with_this (tree_at old child)))) ys
   unfolding with_this
   moved_in [] = refl
   moved_in (y ∷ ys) = ap₂ (λ t ts. t ∷ ts)
-      (sym (insert_in_input l parts.front (tree_at old child) parts.back h.set lead h.place (valid_zero (with_this (tree_at old child)) host_valid) child_zero y))
+      (sym (insert_in_input l parts.front (tree_at old child) parts.back h.set lead h.place (valid_zero (with_this (tree_at old child)) host_belongs.valid) child_zero y))
       (moved_in ys)
 
-  pub kept_inserted : (before after : List ℕ) → AreMade new (with_other old host at) kept before after → AddsInsertion new (tree_at old host) lead tail before after
+  pub kept_inserted : (new : List (Tree ℕ)) (before after : List ℕ) → AreMade new (with_other old host at) kept before after → AddsInsertion new (tree_at old host) lead tail before after
   unfolding with_this
-  kept_inserted before after m = record {
+  kept_inserted new before after m = record {
     made = m.made;
     after_is = m.after_is;
     inserted = subst (λ t. AreInserted new t lead tail m.made) (sym host_is) record {
@@ -128,6 +142,6 @@ module _ (old new : List (Tree ℕ)) (host l : ℕ) (ids : List ℕ) (at child :
           ∙ sym (map_map with_this (tree_at old) kept) ∙ ap (map with_this) h.are
           ∙ moved_in tail;
       leaves = on_ids new (λ t. (n : ℕ) → occurs n t ≡ occurs n (with_this (tree_at old child))) (with_other old host at) m.made kept m.are
-          (λ n d lt. λ i. ap (occurs i) (other_is (get_or kept n d)) ∙ other_leaves l parts.front (tree_at old child) (tree_at old (get_or kept n d)) parts.back host_valid (kept_valid n d lt) (h.leaves n d lt) i);
+          (λ n d lt. λ i. ap (occurs i) (other_is (get_or kept n d)) ∙ other_leaves l parts.front (tree_at old child) (tree_at old (get_or kept n d)) parts.back host_belongs.valid (kept_belongs n d lt).valid (h.leaves n d lt) i);
     };
   }

@@ -1,11 +1,13 @@
 -- Ids that are met stand in a list once each.
-use Rattle.std.proofs.Common.{◌≡◌, ℕ, ◌+◌, ◌<◌, ◌≤◌, zero, suc, List, [], ◌∷◌, length, map, take, set, get_or, refl, sym, ◌∙◌, ap, arith, subst, Option, Some, None, slice_get, inl, inr, ◌⊎◌}
+use Rattle.std.proofs.Common.{◌≡◌, ℕ, ◌+◌, ◌^◌, ◌<◌, ◌≤◌, zero, suc, List, [], ◌∷◌, length, map, take, set, get_or, refl, sym, ◌∙◌, ap, arith, subst, Option, Some, None, slice_get, inl, inr, ◌⊎◌}
 use mathlib.Core.List.{◌++◌}
 use mathlib.Core.Path.{ap₂}
 use Rattle.std.proofs.lemmas.Option.{slice_get-get_or, slice_get_within, get_or_from_slice_get}
 use Rattle.std.specs.List.{All}
 use Rattle.std.proofs.Math.Seq.{get_or-append_seam}
 use Rattle.std.proofs.lemmas.List.{take_more, map-append, append_assoc, append-nil, length-append, get_or_append_left}
+use native.Mathlib.Decide.{ℕ_discrete}
+use Rattle.modular_sums.specs.Lists.{Mem, Distinct}
 use Rattle.labelled_trees.specs.Trees.{Tree}
 use Rattle.shuffle_insertions.specs.ShuffleTrees.{IsShuffle, IsShuffleTree}
 use Rattle.shuffle_insertions.specs.Frames.{insert, IsFrame}
@@ -14,8 +16,10 @@ use Rattle.shuffle_places.specs.Places.{frame_at, IsPlace}
 use Rattle.shuffle_places.proofs.Laws.{place_frames}
 use Rattle.shuffle_places.proofs.Sizes.{one_size}
 use Rattle.tree_store.specs.Stores.{tree_at, IsStore}
+use Rattle.tree_store.proofs.Trees.{place_of}
+use Rattle.shuffle_sums.proofs.FewTrees.{no_longer}
 use Rattle.division.specs.declared.reducer.Reducer.{Reducer}
-use Rattle.division.specs.Insertions.{Grows}
+use Rattle.shuffle_sums.specs.Putting.{Keeps}
 use Rattle.division.specs.Dividers.{IsFirstDivider, AreReducers, AreGroups, AreDividers, FoundGrows}
 use Rattle.division.specs.KeptTails.{AreKept}
 use Rattle.division.specs.Gathered.{IsStepOf, IsGatheredAt, AllOver, AreGathered, AreOver, ArePlaces, CameFrom, Longer, StandAt, SamePlaces, IsWorking}
@@ -62,6 +66,48 @@ enter_places places ids id h low none = record {
 
 pub entered : (ids : List ℕ) (id : ℕ) → slice_get (ids ++ (id ∷ [])) (length ids) ≡ Some id
 entered ids id = last_entry ids id
+
+-- ids with places stand once each
+pub distinct_places : (places : List (Option ℕ)) (ids : List ℕ) → ArePlaces places ids → Distinct ids
+distinct_places places ids h = once ids (λ p q x e f. let a = h.to x p e in let b = h.to x q f in cc (a, b))
+  where
+    placed : (x : ℕ) (l : List ℕ) → Mem x l → (k : ℕ) × (slice_get l k ≡ Some x)
+    placed x [] m = absurd m
+    placed x (y ∷ l) (inl e) = (0, ap Some (sym e))
+    placed x (y ∷ l) (inr m) = let p = placed x l m in (suc p.0, p.1)
+
+    zero_suc : (k : ℕ) → zero ≡ suc k → ⊥
+    zero_suc k e = cc e
+
+    less : (j k : ℕ) → suc j ≡ suc k → j ≡ k
+    less j k e = cc e
+
+    once : (l : List ℕ) → ((p q x : ℕ) → slice_get l p ≡ Some x → slice_get l q ≡ Some x → p ≡ q) → Distinct l
+    once [] h = tt
+    once (y ∷ l) h = (λ m. let p = placed y l m in zero_suc p.0 (h 0 (suc p.0) y refl p.1), once l (λ p q x e f. less p q (h (suc p) (suc q) x e f)))
+
+-- the numbers below n
+abbrev below : ℕ → List ℕ
+below zero = []
+below (suc n) = n ∷ below n
+
+length-below : (n : ℕ) → length (below n) ≡ n
+length-below zero = refl
+length-below (suc n) = ap suc (length-below n)
+
+mem_below : (n x : ℕ) → x < n → Mem x (below n)
+mem_below zero x h = absurd (omega arith)
+mem_below (suc n) x h = by (ℕ_discrete x n) (mem_below n x)
+  where
+    by : Dec (x ≡ n) → (x < n → Mem x (below n)) → (x ≡ n) ⊎ Mem x (below n)
+    by (yes e) rest = inl e
+    by (no f) rest = inr (rest (omega (arith, h, f)))
+
+-- ids below n with places are at most n
+pub few_places : (places : List (Option ℕ)) (ids : List ℕ) (n : ℕ) → ArePlaces places ids → All (λ i. i < n) ids → length ids ≤ n
+few_places places ids n h low =
+    subst (λ k. length ids ≤ k) (length-below n)
+    (no_longer ids (below n) (distinct_places places ids h) (λ x m. mem_below n x (let p = place_of ids x 0 m in subst (λ i. i < n) p.2 (low p.0 0 p.1))))
 
 -- ---- the ids of a tail
 
@@ -164,7 +210,7 @@ meeting_more old before places ids later found tail k x p h lt is hp hl e hh hc 
 
 -- ---- a step
 
-groups_later : (a b : List (Tree ℕ)) (reducers : List Reducer) (groups : List (List ℕ)) → Grows a b → AreReducers a reducers → AreGroups a reducers groups → AreGroups b reducers groups
+groups_later : (a b : List (Tree ℕ)) (reducers : List Reducer) (groups : List (List ℕ)) → Keeps a b → AreReducers a reducers → AreGroups a reducers groups → AreGroups b reducers groups
 groups_later a b reducers groups g hr h = record {
   within = h.within;
   rising = h.rising;
@@ -185,7 +231,7 @@ working_found trees reducers groups old new kept w d few g = record {
 
 -- the store grew
 pub working_later : (a b : List (Tree ℕ)) (reducers : List Reducer) (groups : List (List ℕ)) (found : List (Option ℕ)) (kept now : List (Option (List ℕ))) → IsWorking a reducers groups found kept
-    → Grows a b → IsStore b → AreKept b reducers found now → IsWorking b reducers groups found now
+    → Keeps a b → IsStore b → AreKept b reducers found now → IsWorking b reducers groups found now
 working_later a b reducers groups found kept now w g s k = record {
   is_store = s;
   are_reducers = reducers_later a b reducers g w.are_reducers;
@@ -195,17 +241,22 @@ working_later a b reducers groups found kept now w g s k = record {
   are_kept = k;
 }
 
+-- ids that are held are below 2^31
+pub held_low : (trees : List (Tree ℕ)) (reducers : List Reducer) (groups : List (List ℕ)) (found : List (Option ℕ)) (kept : List (Option (List ℕ))) (ids : List ℕ) → IsWorking trees reducers groups found kept
+    → All (λ i. i < length trees) ids → All (λ i. i < 2 ^ 31) ids
+held_low trees reducers groups found kept ids w h = λ n d lt. let x = h n d lt in let f = w.is_store.few in omega (arith, x, f)
+
 -- a place that was read
 pub read_place : (xs ys : List (Option ℕ)) (i id : ℕ) (o : Option ℕ) → xs ≡ ys → i ≡ id → id < length ys → get_or xs i None ≡ o → slice_get ys id ≡ Some o
 read_place xs ys i id o e f lt g = slice_get-get_or ys id None lt ∙ ap Some (ap₂ (λ l k. get_or l k None) (sym e) (sym f) ∙ g)
 
 -- ---- gathering
 
-first_later : (a b : List (Tree ℕ)) (reducers : List Reducer) → Grows a b → AreReducers a reducers → (id : ℕ) → id < length a → IsFirstDivider a reducers (tree_at a id) None → IsFirstDivider b reducers (tree_at b id) None
+first_later : (a b : List (Tree ℕ)) (reducers : List Reducer) → Keeps a b → AreReducers a reducers → (id : ℕ) → id < length a → IsFirstDivider a reducers (tree_at a id) None → IsFirstDivider b reducers (tree_at b id) None
 first_later a b reducers g hr id low f = λ e d. f e
     (d.0, d.1, (d.2.0, subst (IsPlace (tree_at a id) d.2.0) (grown_tree a b g d.0.lead (hr e d.0 d.1).lead_low) (subst (λ t. IsPlace t d.2.0 (tree_at b d.0.lead)) (grown_tree a b g id low) d.2.1)))
 
-gathered_later : (a b : List (Tree ℕ)) (reducers : List Reducer) (found found' : List (Option ℕ)) (ids later : List ℕ) → Grows a b → AreReducers a reducers → FoundGrows found found' → Longer ids later → (id : ℕ) (places : List ℕ) → id < length a
+gathered_later : (a b : List (Tree ℕ)) (reducers : List Reducer) (found found' : List (Option ℕ)) (ids later : List ℕ) → Keeps a b → AreReducers a reducers → FoundGrows found found' → Longer ids later → (id : ℕ) (places : List ℕ) → id < length a
     → IsGatheredAt a reducers found ids id places → IsGatheredAt b reducers found' later id places
 gathered_later a b reducers found found' ids later g hr fg l id places low (inl h) = inl (record { found_is = fg id None h.0.found_is; none = first_later a b reducers g hr id low h.0.none }, h.1)
 gathered_later a b reducers found found' ids later g hr fg l id places low (inr h) = inr (
@@ -254,7 +305,7 @@ held_entry : (n : ℕ) (ids : List ℕ) → All (λ i. i < n) ids → (p i : ℕ
 held_entry n ids h p i e = subst (λ j. j < n) (get_or_from_slice_get ids p i i e) (h p i (slice_get_within ids p i e))
 
 -- the trees that came belong to the labels where the others do
-module _ (trees later : List (Tree ℕ)) (reducers : List Reducer) (ids ids' given : List ℕ) (grows : Grows trees later) (hr : AreReducers trees reducers) (held : All (λ i. i < length trees) ids)
+module _ (trees later : List (Tree ℕ)) (reducers : List Reducer) (ids ids' given : List ℕ) (grows : Keeps trees later) (hr : AreReducers trees reducers) (held : All (λ i. i < length trees) ids)
     (longer : Longer given ids) where
   over_before : (arity : ℕ → ℕ) → AreOver arity later reducers → AreOver arity trees reducers
   over_before arity a = λ e r q. (
@@ -279,7 +330,7 @@ module _ (trees later : List (Tree ℕ)) (reducers : List Reducer) (ids ids' giv
 
 -- What holds on the way: the steps of these ids were gathered.
 pub record IsGathering (first trees : List (Tree ℕ)) (reducers : List Reducer) (groups : List (List ℕ)) (start found : List (Option ℕ)) (kept : List (Option (List ℕ))) (places : List (Option ℕ)) (given ids : List ℕ) (tails : List (List ℕ)) : Type 0 where
-  pub grows : Grows first trees
+  pub grows : Keeps first trees
   pub found_grows : FoundGrows start found
   pub works : IsWorking trees reducers groups found kept
   pub are_places : ArePlaces places ids
@@ -305,7 +356,7 @@ gathering_none trees reducers groups found kept places ids w h k = record {
 
 module _ (first trees later : List (Tree ℕ)) (reducers : List Reducer) (groups : List (List ℕ)) (start found found' : List (Option ℕ)) (kept kept' : List (Option (List ℕ))) (places places' : List (Option ℕ))
     (given ids ids' : List ℕ) (tails : List (List ℕ)) (h : IsGathering first trees reducers groups start found kept places given ids tails) (fg : FoundGrows found found')
-    (works : IsWorking later reducers groups found' kept') (grows : Grows trees later) (hp : ArePlaces places' ids') (longer : Longer ids ids') where
+    (works : IsWorking later reducers groups found' kept') (grows : Keeps trees later) (hp : ArePlaces places' ids') (longer : Longer ids ids') where
   old_steps : (p id : ℕ) (t : List ℕ) → slice_get ids p ≡ Some id → slice_get tails p ≡ Some t → IsGatheredAt later reducers found' ids' id t
   old_steps p id t e f =
       let q = slice_get_within ids p id e in

@@ -8,8 +8,10 @@ use Rattle.shuffle_insertions.specs.ShuffleTrees.{IsShuffle}
 use Rattle.shuffle_places.specs.Places.{IsPlace}
 use Rattle.tree_store.specs.Stores.{tree_at, IsStore}
 use Rattle.shuffle_places.specs.RootPlaces.{DividesRoot}
+use Rattle.shuffle_sums.specs.Putting.{Keeps}
+use Rattle.shuffle_sums.specs.Shelves.{Shelf, IsShelf}
 use Rattle.division.specs.declared.reducer.Reducer.{Reducer}
-use Rattle.division.specs.Insertions.{Grows, CanReplace, with_other, AreMade, AreInserted, AddsInsertion, IsReducer}
+use Rattle.division.specs.Insertions.{CanReplace, with_other, AreMade, AreInserted, AddsInsertion, IsReducer}
 use Rattle.division.specs.Dividers.{Divides, IsFirstDivider, AreReducers, AreDividers}
 use Rattle.division.specs.KeptTails.{IsInsertionTail, AddsTail, AreKept, IsDividedInput, NoDividedInput}
 use Rattle.shuffle_places.proofs.InputPlaces.{leaf_no_place}
@@ -20,7 +22,7 @@ use Rattle.division.proofs.MadeTrees.{grown_tree, grown_ids, grown_held, grows_l
 
 -- ---- growing stores
 
-pub reducer_later : (a b : List (Tree ℕ)) (r : Reducer) → Grows a b → IsReducer a r → IsReducer b r
+pub reducer_later : (a b : List (Tree ℕ)) (r : Reducer) → Keeps a b → IsReducer a r → IsReducer b r
 reducer_later a b r g h = record {
   lead_low = let l = grows_length a b g in let x = h.lead_low in omega (arith, l, x);
   lead_valid = subst (IsShuffle r.arity) (sym (grown_tree a b g r.lead h.lead_low)) h.lead_valid;
@@ -29,10 +31,10 @@ reducer_later a b r g h = record {
   tail_valid = λ n d lt. subst (IsShuffle r.arity) (sym (grown_tree a b g (get_or r.tail n d) (h.tail_low n d lt))) (h.tail_valid n d lt);
 }
 
-pub reducers_later : (a b : List (Tree ℕ)) (reducers : List Reducer) → Grows a b → AreReducers a reducers → AreReducers b reducers
+pub reducers_later : (a b : List (Tree ℕ)) (reducers : List Reducer) → Keeps a b → AreReducers a reducers → AreReducers b reducers
 reducers_later a b reducers g h = λ e r s. reducer_later a b r g (h e r s)
 
-module _ (a b : List (Tree ℕ)) (reducers : List Reducer) (g : Grows a b) (hr : AreReducers a reducers) where
+module _ (a b : List (Tree ℕ)) (reducers : List Reducer) (g : Keeps a b) (hr : AreReducers a reducers) where
   divides_back : (t : Tree ℕ) (e : ℕ) → Divides b reducers t e → Divides a reducers t e
   divides_back t e d = (d.0, d.1, (d.2.0, subst (λ l. IsPlace t d.2.0 l) (grown_tree a b g d.0.lead (hr e d.0 d.1).lead_low) d.2.1))
 
@@ -111,7 +113,7 @@ module _ (trees : List (Tree ℕ)) (reducers : List Reducer) (found : List (Opti
       (d.2.0, subst (λ x. DividesRoot x.arity (tree_at trees x.lead) (tree_at trees host) d.2.0) same d.2.1)
 
   -- the element was inserted at the root
-  pub root_tail : (new : List (Tree ℕ)) → Grows trees new → (r : Reducer) → slice_get reducers element ≡ Some r → (before after : List ℕ)
+  pub root_tail : (new : List (Tree ℕ)) → Keeps trees new → (r : Reducer) → slice_get reducers element ≡ Some r → (before after : List ℕ)
       → AddsInsertion new (tree_at trees host) (tree_at trees r.lead) (map (tree_at trees) r.tail) before after → AddsTail new reducers found host before after
   root_tail new g r stands before after m = (
     m.made,
@@ -126,8 +128,11 @@ module _ (trees : List (Tree ℕ)) (reducers : List Reducer) (found : List (Opti
   )
 
 -- a step in an input, whose tail is kept in a later store
-module _ (old trees : List (Tree ℕ)) (reducers : List Reducer) (found : List (Option ℕ)) (grown : Grows old trees) (store : IsStore trees) (hr : AreReducers trees reducers) (few : length found ≤ length old)
-    (host element at child : ℕ) (is : slice_get found host ≡ Some (Some element)) (h : IsDividedInput old found host element at child) (kept : List ℕ) (t : IsInsertionTail trees reducers found child kept) where
+module _ (old : List (Tree ℕ)) (shelf : Shelf) (reducers : List Reducer) (found : List (Option ℕ)) (grown : Keeps old shelf.trees) (is_shelf : IsShelf shelf) (hr : AreReducers shelf.trees reducers) (few : length found ≤ length old)
+    (host element at child : ℕ) (is : slice_get found host ≡ Some (Some element)) (h : IsDividedInput old found host element at child) (kept : List ℕ) (t : IsInsertionTail shelf.trees reducers found child kept) where
+  abbrev trees : List (Tree ℕ)
+  trees = shelf.trees
+
   host_low : host < length old
   host_low = let l = slice_get_within found host (Some element) is in omega (arith, l, few)
 
@@ -141,12 +146,12 @@ module _ (old trees : List (Tree ℕ)) (reducers : List Reducer) (found : List (
   child_is : child ≡ get_or h.ids at child
   child_is = sym (get_or_from_slice_get h.ids at child child h.child_is)
 
-  pub input_can : All (CanReplace trees host at) kept
-  input_can = kept_can trees trees host h.label h.ids at child store low_now root_now h.within child_is (tree_at trees t.reducer.lead) (map (tree_at trees) t.reducer.tail) kept t.inserted
+  pub input_can : All (CanReplace shelf host at) kept
+  input_can = kept_can shelf host h.label h.ids at child is_shelf low_now root_now h.within child_is (tree_at trees t.reducer.lead) (map (tree_at trees) t.reducer.tail) kept t.inserted
 
-  pub input_tail : (new : List (Tree ℕ)) → Grows trees new → (before after : List ℕ) → AreMade new (with_other trees host at) kept before after → AddsTail new reducers found host before after
+  pub input_tail : (new : List (Tree ℕ)) → Keeps trees new → (before after : List ℕ) → AreMade new (with_other trees host at) kept before after → AddsTail new reducers found host before after
   input_tail new g before after m =
-      let i = kept_inserted trees new host h.label h.ids at child store low_now root_now h.within child_is (tree_at trees t.reducer.lead) (map (tree_at trees) t.reducer.tail) kept t.inserted before after m in
+      let i = kept_inserted shelf host h.label h.ids at child is_shelf low_now root_now h.within child_is (tree_at trees t.reducer.lead) (map (tree_at trees) t.reducer.tail) kept t.inserted new before after m in
       let same : element ≡ t.element = cc (h.found_is, t.found_is) in (
         i.made,
         i.after_is,

@@ -1,7 +1,9 @@
 -- What insertion at the root and in an input makes is valid, and has the leaves of the host.
-use Rattle.std.proofs.Common.{◌≡◌, ℕ, ◌<◌, ◌≤◌, zero, suc, refl, sym, ◌∙◌, ap, arith, subst}
+use Rattle.std.proofs.Common.{◌≡◌, ℕ, ◌<◌, ◌≤◌, zero, suc, List, refl, sym, ◌∙◌, ap, arith, subst}
 use Rattle.labelled_trees.specs.Trees.{Tree, Row, leaf, node, none, more, graft, graft_row, width}
 use Rattle.labelled_trees.specs.Leaves.{AllLeaves, AllRow, occurs}
+use Rattle.labelled_trees.specs.Labelled.{Fits}
+use Rattle.labelled_trees.proofs.Fitting.{fits_parts, fits-graft}
 use Rattle.labelled_trees.proofs.Leaves.{at_leaf, by_leaf}
 use Rattle.shuffle_insertions.specs.ShuffleTrees.{IsRising, IsShuffle}
 use Rattle.shuffle_insertions.specs.Slots.{PartsRise}
@@ -9,6 +11,8 @@ use Rattle.shuffle_insertions.proofs.Insertions.{rising-graft, occurs-graft}
 use Rattle.shuffle_insertions.proofs.Named.{parts_rise}
 use Rattle.shuffle_trees.specs.ValidTrees.{IsValid, IsWide, AreWide}
 use Rattle.shuffle_places.specs.RootPlaces.{IsShuffleAmong, DividesRoot}
+use Rattle.shuffle_sums.specs.Shelves.{HasLeavesAmong}
+use Rattle.shuffle_trees.specs.LabelLists.{arity_in}
 
 mutual
   -- the hanging parts of a wide tree are wide
@@ -57,11 +61,23 @@ module _ (k : ℕ) (lead host : Tree ℕ) (parts : ℕ → Tree ℕ) (valid : Is
   pub root_leaves : (n : ℕ) → occurs n (graft y parts) ≡ occurs n host
   root_leaves n = occurs-graft k parts y lead hy hl n ∙ ap (occurs n) d.whole
 
-  pub root_valid : IsWide y → IsValid (graft y parts)
+  root_valid : IsWide y → IsValid (graft y parts)
   root_valid w = record {
     wide = wide-graft y parts w (by_leaf y (λ i. IsWide (parts i)) (λ i o. let r = hy.only i o in
         at_leaf lead (λ j. IsWide (parts j)) i (wide_parts lead parts (subst IsWide (sym d.whole) valid.wide)) (stands i r.0 r.1)));
     rising = rising-graft k parts rises y hy;
     once = λ i. let e = root_leaves i in let o = valid.once i in omega (arith, e, o);
     only = λ i o. let e = root_leaves i in valid.only i (omega (arith, e, o));
+  }
+
+  -- it belongs to the labels where the host does
+  root_fits : (arity : ℕ → ℕ) → Fits arity host → Fits arity y → Fits arity (graft y parts)
+  root_fits arity fits own = fits-graft arity y parts own (by_leaf y (λ i. Fits arity (parts i)) (λ i o. let r = hy.only i o in
+      at_leaf lead (λ j. Fits arity (parts j)) i (fits_parts arity lead parts (subst (Fits arity) (sym d.whole) fits)) (stands i r.0 r.1)))
+
+  pub root_belongs : (labels : List ℕ) (most : ℕ) → HasLeavesAmong labels most host → HasLeavesAmong labels most y → HasLeavesAmong labels most (graft y parts)
+  root_belongs labels most h own = record {
+    fits = root_fits (arity_in labels) h.fits own.fits;
+    valid = root_valid own.valid.wide;
+    among = λ i o. h.among i (let e = root_leaves i in omega (arith, e, o));
   }

@@ -6,30 +6,26 @@ use Rattle.labelled_trees.specs.Leaves.{occurs}
 use Rattle.shuffle_insertions.specs.ShuffleTrees.{IsShuffle}
 use Rattle.shuffle_insertions.specs.Frames.{insert}
 use Rattle.shuffle_places.specs.Places.{frame_at, IsPlace}
-use Rattle.shuffle_trees.specs.ValidTrees.{IsValid}
 use Rattle.tree_store.specs.Stores.{tree_at}
+use Rattle.shuffle_sums.specs.Shelves.{Shelf, HasLeavesAmong}
 use Rattle.division.specs.Parts.{AreHeld, HasRoom, built, replaced}
 use Rattle.division.specs.declared.reducer.Reducer.{Reducer}
 
--- the trees stay with their ids
-abbrev pub Grows : List (Tree ℕ) → List (Tree ℕ) → Type 0
-Grows old new = (added : List (Tree ℕ)) × (new ≡ old ++ added)
-
--- the tree with this id can be built with these parts
-pub record CanBuild (trees : List (Tree ℕ)) (parts : List ℕ) (tree : ℕ) : Type 0 where
-  pub low : tree < length trees
-  pub room : HasRoom parts (tree_at trees tree)
-  pub held : AreHeld trees parts (tree_at trees tree)
-  pub valid : IsValid (built trees parts tree)
+-- the tree with this id can be built with these parts, and belongs to the shelf then
+pub record CanBuild (shelf : Shelf) (parts : List ℕ) (tree : ℕ) : Type 0 where
+  pub low : tree < length shelf.trees
+  pub room : HasRoom parts (tree_at shelf.trees tree)
+  pub held : AreHeld shelf.trees parts (tree_at shelf.trees tree)
+  pub belongs : HasLeavesAmong shelf.labels shelf.most (built shelf.trees parts tree)
 
 -- the tree with an id in place of an input of the host
 abbrev pub with_other : List (Tree ℕ) → ℕ → ℕ → ℕ → Tree ℕ
 with_other trees host at other = replaced (tree_at trees host) at (tree_at trees other)
 
--- the tree with this id can stand in place of an input of the host
-pub record CanReplace (trees : List (Tree ℕ)) (host at other : ℕ) : Type 0 where
-  pub low : other < length trees
-  pub valid : IsValid (with_other trees host at other)
+-- the tree with this id can stand in place of an input of the host, which belongs to the shelf then
+pub record CanReplace (shelf : Shelf) (host at other : ℕ) : Type 0 where
+  pub low : other < length shelf.trees
+  pub belongs : HasLeavesAmong shelf.labels shelf.most (with_other shelf.trees host at other)
 
 -- Ids were put behind others: those of the trees that f makes of the things of the list.
 pub record AreMade (trees : List (Tree ℕ)) (f : ℕ → Tree ℕ) (things before after : List ℕ) : Type 0 where

@@ -1,55 +1,43 @@
-ghost use Rattle.std.specs.Prelude.{◌≡◌, ◌<◌, ◌≤◌, ℕ, Some, Err, length, map, slice_get, slice_index, slice_set, IfOk};
-ghost use Rattle.tree_store.specs.Stores.{tree_at, IsStore, AddsSubtrees, LacksSubtree};
-ghost use Rattle.shuffle_trees.specs.ValidTrees.{IsValid};
+ghost use Rattle.std.specs.Prelude.{◌≡◌, ◌<◌, ◌≤◌, ℕ, Some, length, map, slice_get, slice_index, slice_set, IfOk};
+ghost use Rattle.tree_store.specs.Stores.{tree_at, AddsSubtrees};
+ghost use Rattle.shuffle_sums.specs.Shelves.{HasLeavesAmong, IsShelf, KeepsShelf};
 ghost use Rattle.division.specs.Parts.{AreHeld, HasRoom, built, replaced};
 
+use shuffle_sums::Shelf;
 use smallvec::SmallVec;
-use std::alloc::Global;
-use tree_store::{NodeView, Store, StoreFail, TreeId};
+use std::alloc::{AllocError, Global};
+use tree_store::{NodeView, TreeId};
 
-/// The id of the tree with entry `i` of `parts` at leaf `i`, which is held from now on with its subtrees. It is valid, and the
-/// ids were given by the store. `StoreFull` comes where the store has no room for all of these, `NoMemory` for want of memory
-/// alone. The trees that were held keep their ids, also after an error.
+/// The id of the tree with entry `i` of `parts` at leaf `i`, which is held from now on with its subtrees. It belongs to the
+/// shelf, which gave the ids. Old ids keep their trees and keys, and no id gets a key, also after an error.
+/// `AllocError` comes for want of memory alone.
 pub fn build(
-    store: &mut Store,
+    shelf: &mut Shelf,
     alloc: Global,
     tree: TreeId,
     parts: &[TreeId],
-) -> Result<TreeId, StoreFail>
-    requires tree { tree < length store.old }
-    requires room { HasRoom parts.now (tree_at store.old tree) }
-    requires held { AreHeld store.old parts.now (tree_at store.old tree) }
-    requires valid { IsValid (built store.old parts.now tree) }
-    ensures found { IfOk result (λ id. slice_get store.new id ≡ Some (built store.old parts.now tree)) }
-    ensures added { AddsSubtrees store.old store.new (built store.old parts.now tree) }
-    ensures full { result ≡ Err StoreFail.StoreFull → LacksSubtree store.new (built store.old parts.now tree) }
-    ensures store { IsStore store.new }
+) -> Result<TreeId, AllocError>
+    requires tree { tree < length shelf.old.trees }
+    requires room { HasRoom parts.now (tree_at shelf.old.trees tree) }
+    requires held { AreHeld shelf.old.trees parts.now (tree_at shelf.old.trees tree) }
+    requires belongs { HasLeavesAmong shelf.old.labels shelf.old.most (built shelf.old.trees parts.now tree) }
+    ensures found { IfOk result (λ id. slice_get shelf.new.trees id ≡ Some (built shelf.old.trees parts.now tree)) }
+    ensures added { AddsSubtrees shelf.old.trees shelf.new.trees (built shelf.old.trees parts.now tree) }
+    ensures keeps { KeepsShelf shelf.old shelf.new }
+    ensures keys { shelf.new.whole ≡ shelf.old.whole }
+    ensures shelf { IsShelf shelf.new }
 {
-    match store.node(tree) {
+    match shelf.store().node(tree) {
         NodeView::Leaf(number) => Ok(parts[number as usize]),
         NodeView::Node(label, inputs) => {
-            let inputs = copied(alloc, inputs)?;
+            let inputs = SmallVec::<TreeId, 6>::from_slice(alloc, inputs)?;
             let mut ids = SmallVec::new(alloc);
             for input in inputs.as_slice() {
-                let id = build(store, alloc, *input, parts)?;
-                match ids.push(id) {
-                    Ok(()) => {}
-                    Err(_) => return Err(StoreFail::NoMemory),
-                }
+                let id = build(shelf, alloc, *input, parts)?;
+                ids.push(id)?;
             }
-            store.vertex(label, ids)
+            shelf.vertex(label, ids)
         }
-    }
-}
-
-// The ids once more.
-fn copied(alloc: Global, ids: &[TreeId]) -> Result<SmallVec<TreeId, 6>, StoreFail>
-    ensures copied { IfOk result (λ copy. copy.items ≡ ids.now) }
-    ensures full { result ≡ Err StoreFail.StoreFull → ⊥ }
-{
-    match SmallVec::from_slice(alloc, ids) {
-        Ok(copy) => Ok(copy),
-        Err(_) => Err(StoreFail::NoMemory),
     }
 }
 
@@ -59,11 +47,10 @@ fn with_input(
     ids: &[TreeId],
     at: usize,
     other: TreeId,
-) -> Result<SmallVec<TreeId, 6>, StoreFail>
+) -> Result<SmallVec<TreeId, 6>, AllocError>
     ensures changed { IfOk result (λ copy. copy.items ≡ slice_set ids.now at other) }
-    ensures full { result ≡ Err StoreFail.StoreFull → ⊥ }
 {
-    let mut copy = copied(alloc, ids)?;
+    let mut copy = SmallVec::from_slice(alloc, ids)?;
     if at < ids.len() {
         copy.as_mut_slice()[at] = other;
     }
@@ -71,28 +58,29 @@ fn with_input(
 }
 
 /// The id of the tree with the tree `other` in place of input `at` of its root, counted from 0; it is held from now on. The
-/// result is valid, and the ids were given by the store. `StoreFull` comes where the store has no room for it, `NoMemory` for
-/// want of memory alone. The trees that were held keep their ids, also after an error.
+/// result belongs to the shelf, which gave the ids. Old ids keep their trees and keys, and no id gets a key, also after an
+/// error. `AllocError` comes for want of memory alone.
 pub fn replace_input(
-    store: &mut Store,
+    shelf: &mut Shelf,
     alloc: Global,
     host: TreeId,
     at: usize,
     other: TreeId,
-) -> Result<TreeId, StoreFail>
-    requires host { host < length store.old }
-    requires other { other < length store.old }
-    requires valid { IsValid (replaced (tree_at store.old host) at (tree_at store.old other)) }
-    ensures found { IfOk result (λ id. slice_get store.new id ≡ Some (replaced (tree_at store.old host) at (tree_at store.old other))) }
-    ensures added { AddsSubtrees store.old store.new (replaced (tree_at store.old host) at (tree_at store.old other)) }
-    ensures full { result ≡ Err StoreFail.StoreFull → LacksSubtree store.new (replaced (tree_at store.old host) at (tree_at store.old other)) }
-    ensures store { IsStore store.new }
+) -> Result<TreeId, AllocError>
+    requires host { host < length shelf.old.trees }
+    requires other { other < length shelf.old.trees }
+    requires belongs { HasLeavesAmong shelf.old.labels shelf.old.most (replaced (tree_at shelf.old.trees host) at (tree_at shelf.old.trees other)) }
+    ensures found { IfOk result (λ id. slice_get shelf.new.trees id ≡ Some (replaced (tree_at shelf.old.trees host) at (tree_at shelf.old.trees other))) }
+    ensures added { AddsSubtrees shelf.old.trees shelf.new.trees (replaced (tree_at shelf.old.trees host) at (tree_at shelf.old.trees other)) }
+    ensures keeps { KeepsShelf shelf.old shelf.new }
+    ensures keys { shelf.new.whole ≡ shelf.old.whole }
+    ensures shelf { IsShelf shelf.new }
 {
-    match store.node(host) {
+    match shelf.store().node(host) {
         NodeView::Leaf(_) => Ok(host),
         NodeView::Node(label, inputs) => {
             let ids = with_input(alloc, inputs, at, other)?;
-            store.vertex(label, ids)
+            shelf.vertex(label, ids)
         }
     }
 }

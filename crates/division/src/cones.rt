@@ -1,7 +1,7 @@
 ghost use Rattle.std.specs.Prelude.{◌≡◌, ◌<◌, ◌≤◌, ◌-◌, ℕ, length, IfOk};
 ghost use Rattle.std.specs.List.{All};
 ghost use Rattle.shuffle_bases.specs.Elements.{Setting};
-ghost use Rattle.division.specs.Insertions.{Grows};
+ghost use Rattle.shuffle_sums.specs.Shelves.{KeepsShelf};
 ghost use Rattle.division.specs.Dividers.{FoundGrows, HaveRoom};
 ghost use Rattle.division.specs.Gathered.{ArePlaces, IsWorking};
 ghost use Rattle.shuffle_sums.specs.Sorting.{compare_by};
@@ -12,10 +12,10 @@ use crate::rules::table_of;
 use crate::{Reducer, gather};
 use path_orders::TreeOrder;
 use row_sweeps::RuleTable;
-use shuffle_sums::sorted;
+use shuffle_sums::{Shelf, sorted};
 use sqlite_items::Items;
 use std::alloc::{AllocError, Global};
-use tree_store::{Store, TreeId};
+use tree_store::TreeId;
 
 const MOST: usize = 1_073_741_824;
 
@@ -35,7 +35,7 @@ pub struct Cone {
 /// has the places of the given ids. `AllocError` comes for want of memory, or of room for more than 2^30 trees.
 pub fn cone_of<O: TreeOrder>(
     alloc: Global,
-    store: &mut Store,
+    shelf: &mut Shelf,
     order: &O,
     prime: u32,
     reducers: &[Reducer],
@@ -47,24 +47,25 @@ pub fn cone_of<O: TreeOrder>(
     places: Items<Option<u32>>,
     given: Items<TreeId>,
 ) -> Result<Cone, AllocError>
-    requires working { IsWorking store.old reducers.now groups.now found.old kept.old }
+    requires working { IsWorking shelf.old.trees reducers.now groups.now found.old kept.old }
     requires room { HaveRoom reducers.now (length parts.old) }
     requires places { ArePlaces places given }
-    requires held { All (λ i. i < length store.old) given }
+    requires held { All (λ i. i < length shelf.old.trees) given }
     requires positive { 0 < prime }
     requires small { prime ≤ 65537 }
-    requires fit { (s : Setting) × (n : ℕ) × CanGather (compare_by O.by_keys (O.weights order.now)) (prime - 1) store.old reducers.now coefs.now given s n }
+    requires fit { (s : Setting) × (n : ℕ) × CanGather (compare_by O.by_keys (O.weights order.now)) (prime - 1) shelf.old.trees reducers.now coefs.now given s n }
     ensures cone { IfOk result (IsCone given) }
     ensures prime { IfOk result (λ cone. cone.table.q ≡ prime - 1) }
-    ensures over { IfOk result (λ cone. (s : Setting) (n : ℕ) → CanGather (compare_by O.by_keys (O.weights order.now)) (prime - 1) store.old reducers.now coefs.now given s n → IsConeOver s n store.new cone) }
-    ensures held { IfOk result (λ cone. All (λ i. i < length store.new) cone.ids) }
-    ensures working { IsWorking store.new reducers.now groups.now found.new kept.new }
-    ensures grows { Grows store.old store.new }
+    ensures over { IfOk result (λ cone. (s : Setting) (n : ℕ) → CanGather (compare_by O.by_keys (O.weights order.now)) (prime - 1) shelf.old.trees reducers.now coefs.now given s n → IsConeOver s n shelf.new.trees cone) }
+    ensures held { IfOk result (λ cone. All (λ i. i < length shelf.new.trees) cone.ids) }
+    ensures working { IsWorking shelf.new.trees reducers.now groups.now found.new kept.new }
+    ensures keeps { KeepsShelf shelf.old shelf.new }
+    ensures keys { shelf.new.whole ≡ shelf.old.whole }
 {
     let mut places = places;
     let mut ids = given;
-    let tails = match gather(
-        store,
+    let tails = gather(
+        shelf,
         alloc,
         reducers,
         groups,
@@ -73,14 +74,11 @@ pub fn cone_of<O: TreeOrder>(
         parts,
         &mut places,
         &mut ids,
-    ) {
-        Ok(tails) => tails,
-        Err(_) => return Err(AllocError),
-    };
+    )?;
     if ids.len() > MOST {
         return Err(AllocError);
     }
-    let sorting = sorted(alloc, store, order, ids.as_slice())?;
+    let sorting = sorted(alloc, shelf.store(), order, ids.as_slice())?;
     let ranks = ranks_of(alloc, sorting.as_slice(), ids.len())?;
     let table = table_of(
         alloc,

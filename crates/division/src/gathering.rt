@@ -1,18 +1,16 @@
-ghost use Rattle.std.specs.Prelude.{◌≡◌, ◌<◌, ◌≤◌, ◌++◌, ◌∷◌, ◌↔◌, ℕ, [], List, Some, None, length, map, slice_get, IfOk, OnOk};
+ghost use Rattle.std.specs.Prelude.{◌≡◌, ◌<◌, ◌≤◌, ◌^◌, ◌++◌, ◌∷◌, ◌↔◌, ℕ, [], List, Some, None, length, map, slice_get, IfOk, OnOk};
 ghost use Rattle.std.specs.List.{All};
-ghost use Rattle.tree_store.specs.Stores.{tree_at, IsStore};
-ghost use Rattle.division.specs.Insertions.{Grows};
+ghost use Rattle.shuffle_sums.specs.Shelves.{IsShelf, KeepsShelf};
 ghost use Rattle.division.specs.Dividers.{FoundGrows, HaveRoom};
 ghost use Rattle.division.specs.Gathered.{AreGathered, ArePlaces, CameFrom, IsStepOf, IsWorking, Longer, SamePlaces, StandAt};
 
 use crate::extending::extend_dividers;
 use crate::kept::make_tail;
 use crate::reducer::Reducer;
+use shuffle_sums::Shelf;
 use sqlite_items::Items;
 use std::alloc::{AllocError, Global};
-use tree_store::{Store, StoreFail, TreeId};
-
-const MOST: usize = 2_147_483_648;
+use tree_store::TreeId;
 
 // Room for the place of this id.
 fn widen(places: &mut Items<Option<u32>>, at: usize) -> Result<(), AllocError>
@@ -30,8 +28,9 @@ fn enter(
     places: &mut Items<Option<u32>>,
     ids: &mut Items<TreeId>,
     id: TreeId,
-) -> Result<u32, StoreFail>
+) -> Result<u32, AllocError>
     requires places { ArePlaces places.old ids.old }
+    requires low { All (λ i. i < 2 ^ 31) ids.old }
     requires room { id < length places.old }
     requires new { slice_get places.old id ≡ Some None }
     ensures there { IfOk result (λ p. slice_get ids.new p ≡ Some id) }
@@ -40,51 +39,45 @@ fn enter(
     ensures held { (n : ℕ) → All (λ i. i < n) ids.old → id < n → All (λ i. i < n) ids.new }
     ensures only { CameFrom ids.old ids.new (id ∷ []) }
 {
-    let place = ids.len();
-    if place >= MOST {
-        return Err(StoreFail::StoreFull);
-    }
-    match ids.push(id) {
-        Ok(()) => {
-            places.set(id.index(), Some(place as u32));
-            Ok(place as u32)
-        }
-        Err(_) => Err(StoreFail::NoMemory),
-    }
+    let place = ids.len() as u32;
+    ids.push(id)?;
+    places.set(id.index(), Some(place));
+    Ok(place)
 }
 
-/// The place of the id in the list, where it stands from now on. `places` has the places of the ids.
-/// An error comes for want of memory, or of room for more than 2^31 ids; the list is as before then.
+/// The place of the id in the list, where it stands from now on. `places` has the places of the ids, which are below 2^31, as
+/// those that a shelf gives. `AllocError` comes for want of memory alone; the list is as before then.
 pub fn meet(
     places: &mut Items<Option<u32>>,
     ids: &mut Items<TreeId>,
     id: TreeId,
-) -> Result<u32, StoreFail>
+) -> Result<u32, AllocError>
     requires places { ArePlaces places.old ids.old }
+    requires low { All (λ i. i < 2 ^ 31) ids.old }
     ensures there { IfOk result (λ p. slice_get ids.new p ≡ Some id) }
     ensures places { ArePlaces places.new ids.new }
     ensures longer { Longer ids.old ids.new }
     ensures held { (n : ℕ) → All (λ i. i < n) ids.old → id < n → All (λ i. i < n) ids.new }
     ensures only { CameFrom ids.old ids.new (id ∷ []) }
 {
-    match widen(places, id.index()) {
-        Ok(()) => match places.as_slice()[id.index()] {
-            Some(place) => Ok(place),
-            None => enter(places, ids, id),
-        },
-        Err(_) => Err(StoreFail::NoMemory),
+    widen(places, id.index())?;
+    match places.as_slice()[id.index()] {
+        Some(place) => Ok(place),
+        None => enter(places, ids, id),
     }
 }
 
-/// The places of the ids of a tail in the list, where they stand from now on. The errors are those of `meet`; the list may have
-/// grown then.
+/// The places of the ids of a tail in the list, where they stand from now on. All ids are below 2^31, as those that a shelf
+/// gives. `AllocError` comes for want of memory alone; the list may have grown then.
 pub fn meet_all(
     alloc: Global,
     places: &mut Items<Option<u32>>,
     ids: &mut Items<TreeId>,
     tail: &[TreeId],
-) -> Result<Items<u32>, StoreFail>
+) -> Result<Items<u32>, AllocError>
     requires places { ArePlaces places.old ids.old }
+    requires low { All (λ i. i < 2 ^ 31) ids.old }
+    requires tail { All (λ i. i < 2 ^ 31) tail.now }
     ensures there { IfOk result (λ found. StandAt ids.new found tail.now) }
     ensures places { ArePlaces places.new ids.new }
     ensures longer { Longer ids.old ids.new }
@@ -94,19 +87,16 @@ pub fn meet_all(
     let mut found = Items::new(alloc);
     for id in tail {
         let place = meet(places, ids, *id)?;
-        match found.push(place) {
-            Ok(()) => {}
-            Err(_) => return Err(StoreFail::NoMemory),
-        }
+        found.push(place)?;
     }
     Ok(found)
 }
 
 /// One step from the tree with this id: the ids of its tail, none where no element divides it. `parts` is room for the parts of
-/// a tree; its contents don't matter. An error comes for want of room in the store, or of memory; what was found and kept is
-/// right, also then.
+/// a tree; its contents don't matter. Old ids keep their trees and keys, no id gets a key, and what was found and kept is right,
+/// also after an error. `AllocError` comes for want of memory alone.
 pub fn step(
-    store: &mut Store,
+    shelf: &mut Shelf,
     alloc: Global,
     reducers: &[Reducer],
     groups: &[Items<u32>],
@@ -114,25 +104,23 @@ pub fn step(
     kept: &mut Items<Option<Items<TreeId>>>,
     parts: &mut [TreeId],
     id: TreeId,
-) -> Result<Items<TreeId>, StoreFail>
-    requires working { IsWorking store.old reducers.now groups.now found.old kept.old }
+) -> Result<Items<TreeId>, AllocError>
+    requires working { IsWorking shelf.old.trees reducers.now groups.now found.old kept.old }
     requires room { HaveRoom reducers.now (length parts.old) }
-    requires id { id < length store.old }
-    ensures step { IfOk result (λ tail. IsStepOf store.new reducers.now found.new id tail) }
-    ensures working { IsWorking store.new reducers.now groups.now found.new kept.new }
-    ensures grows { Grows store.old store.new }
+    requires id { id < length shelf.old.trees }
+    ensures step { IfOk result (λ tail. IsStepOf shelf.new.trees reducers.now found.new id tail) }
+    ensures working { IsWorking shelf.new.trees reducers.now groups.now found.new kept.new }
+    ensures keeps { KeepsShelf shelf.old shelf.new }
+    ensures keys { shelf.new.whole ≡ shelf.old.whole }
     ensures found { FoundGrows found.old found.new }
 {
-    match extend_dividers(store, reducers, groups, found, id, parts) {
-        Ok(()) => {}
-        Err(_) => return Err(StoreFail::NoMemory),
-    }
+    extend_dividers(shelf.store(), reducers, groups, found, id, parts)?;
     let mut tail = Items::new(alloc);
     match found.as_slice()[id.index()] {
         None => Ok(tail),
         Some(_) => {
             make_tail(
-                store,
+                shelf,
                 alloc,
                 reducers,
                 found.as_slice(),
@@ -149,9 +137,9 @@ pub fn step(
 /// Gathers all trees that steps can reach from those of the list: each that is reached is put behind the others, once. The
 /// answer has for each id of the list the places of its tail there, and none where no element divides its tree.
 /// `places` has the places of the ids of the list, and `parts` is room for the parts of a tree; its contents don't matter.
-/// An error comes for want of room in the store, of room for more than 2^31 ids, or of memory.
+/// Old ids keep their trees and keys, and no id gets a key, also after an error. `AllocError` comes for want of memory alone.
 pub fn gather(
-    store: &mut Store,
+    shelf: &mut Shelf,
     alloc: Global,
     reducers: &[Reducer],
     groups: &[Items<u32>],
@@ -160,26 +148,24 @@ pub fn gather(
     parts: &mut [TreeId],
     places: &mut Items<Option<u32>>,
     ids: &mut Items<TreeId>,
-) -> Result<Items<Items<u32>>, StoreFail>
-    requires working { IsWorking store.old reducers.now groups.now found.old kept.old }
+) -> Result<Items<Items<u32>>, AllocError>
+    requires working { IsWorking shelf.old.trees reducers.now groups.now found.old kept.old }
     requires room { HaveRoom reducers.now (length parts.old) }
     requires places { ArePlaces places.old ids.old }
-    requires held { All (λ i. i < length store.old) ids.old }
-    ensures gathered { IfOk result (AreGathered store.new reducers.now found.new ids.old ids.new) }
-    ensures working { IsWorking store.new reducers.now groups.now found.new kept.new }
+    requires held { All (λ i. i < length shelf.old.trees) ids.old }
+    ensures gathered { IfOk result (AreGathered shelf.new.trees reducers.now found.new ids.old ids.new) }
+    ensures working { IsWorking shelf.new.trees reducers.now groups.now found.new kept.new }
     ensures places { ArePlaces places.new ids.new }
     ensures found { FoundGrows found.old found.new }
-    ensures grows { Grows store.old store.new }
+    ensures keeps { KeepsShelf shelf.old shelf.new }
+    ensures keys { shelf.new.whole ≡ shelf.old.whole }
 {
     let mut tails = Items::new(alloc);
     'each: while tails.len() < ids.len() {
         let id = ids.as_slice()[tails.len()];
-        let tail = step(store, alloc, reducers, groups, found, kept, parts, id)?;
+        let tail = step(shelf, alloc, reducers, groups, found, kept, parts, id)?;
         let at = meet_all(alloc, places, ids, tail.as_slice())?;
-        match tails.push(at) {
-            Ok(()) => {}
-            Err(_) => return Err(StoreFail::NoMemory),
-        }
+        tails.push(at)?;
     }
     Ok(tails)
 }

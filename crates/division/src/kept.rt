@@ -1,15 +1,16 @@
 ghost use Rattle.std.specs.Prelude.{◌≡◌, ◌<◌, ◌≤◌, ◌++◌, ℕ, [], true, List, Some, None, length, map, slice_get, IsTrue, OnOk, MatchOption, ◌↔◌};
 ghost use Rattle.std.specs.List.{All};
-ghost use Rattle.tree_store.specs.Stores.{tree_at, IsStore};
-ghost use Rattle.division.specs.Insertions.{Grows};
+ghost use Rattle.tree_store.specs.Stores.{tree_at};
+ghost use Rattle.shuffle_sums.specs.Shelves.{IsShelf, KeepsShelf};
 ghost use Rattle.division.specs.Dividers.{AreDividers, AreReducers, DividesAtRoot, HaveRoom};
 ghost use Rattle.division.specs.KeptTails.{AddsTail, AreKept, IsDividedInput, IsInsertionTail, NoDividedInput, OnlyKept, OnlyPut};
 
 use crate::reducer::Reducer;
 use crate::tails::{insert_at_root, replace_all};
+use shuffle_sums::Shelf;
 use sqlite_items::Items;
 use std::alloc::{AllocError, Global};
-use tree_store::{NodeView, Store, StoreFail, TreeId};
+use tree_store::{NodeView, Store, TreeId};
 
 // Room for a list at this place.
 fn grow(kept: &mut Items<Option<Items<TreeId>>>, at: usize) -> Result<(), AllocError>
@@ -27,17 +28,13 @@ fn put(
     kept: &mut Items<Option<Items<TreeId>>>,
     at: usize,
     ids: Items<TreeId>,
-) -> Result<(), StoreFail>
+) -> Result<(), AllocError>
     ensures here { OnOk result (slice_get kept.new at ≡ Some (Some ids)) }
     ensures only { OnlyPut kept.old kept.new at ids }
 {
-    match grow(kept, at) {
-        Ok(()) => {
-            kept.set(at, Some(ids));
-            Ok(())
-        }
-        Err(_) => Err(StoreFail::NoMemory),
-    }
+    grow(kept, at)?;
+    kept.set(at, Some(ids));
+    Ok(())
 }
 
 // Whether a list is kept at this place.
@@ -77,11 +74,11 @@ fn divided_input(
 
 /// Puts behind `out` the ids of the tail of the host, which some element divides. Where an input has the same first divider, the
 /// tail of the input is made first and kept in `kept`, and else the element is inserted at the root. All trees up to the host
-/// have entries in `found`; `parts` is room for the parts of a tree, and its contents don't matter. An error comes for want of
-/// room in the store, or of memory; the trees that were held keep their ids, and what is kept is right, also then.
+/// have entries in `found`; `parts` is room for the parts of a tree, and its contents don't matter. Old ids keep their trees and
+/// keys, no id gets a key, and what is kept is right, also after an error. `AllocError` comes for want of memory alone.
 #[cycle(tails)]
 pub fn make_tail(
-    store: &mut Store,
+    shelf: &mut Shelf,
     alloc: Global,
     reducers: &[Reducer],
     found: &[Option<u32>],
@@ -89,31 +86,32 @@ pub fn make_tail(
     parts: &mut [TreeId],
     host: TreeId,
     out: &mut Items<TreeId>,
-) -> Result<(), StoreFail>
-    requires store { IsStore store.old }
-    requires reducers { AreReducers store.old reducers.now }
-    requires found { AreDividers store.old reducers.now found.now }
-    requires few { length found.now ≤ length store.old }
-    requires kept { AreKept store.old reducers.now found.now kept.old }
+) -> Result<(), AllocError>
+    requires shelf { IsShelf shelf.old }
+    requires reducers { AreReducers shelf.old.trees reducers.now }
+    requires found { AreDividers shelf.old.trees reducers.now found.now }
+    requires few { length found.now ≤ length shelf.old.trees }
+    requires kept { AreKept shelf.old.trees reducers.now found.now kept.old }
     requires room { HaveRoom reducers.now (length parts.old) }
     requires divided { (e : ℕ) × (slice_get found.now host ≡ Some (Some e)) }
-    ensures made { OnOk result (AddsTail store.new reducers.now found.now host out.old out.new) }
-    ensures kept { AreKept store.new reducers.now found.now kept.new }
-    ensures grows { Grows store.old store.new }
-    ensures store { IsStore store.new }
+    ensures made { OnOk result (AddsTail shelf.new.trees reducers.now found.now host out.old out.new) }
+    ensures kept { AreKept shelf.new.trees reducers.now found.now kept.new }
+    ensures keeps { KeepsShelf shelf.old shelf.new }
+    ensures keys { shelf.new.whole ≡ shelf.old.whole }
+    ensures shelf { IsShelf shelf.new }
 {
     match found[host.index()] {
         None => unreachable!(),
-        Some(element) => match divided_input(store, found, host, element) {
+        Some(element) => match divided_input(shelf.store(), found, host, element) {
             None => {
                 let reducer = &reducers[element as usize];
-                insert_at_root(store, alloc, reducer, host, parts, out)
+                insert_at_root(shelf, alloc, reducer, host, parts, out)
             }
             Some(input) => {
-                keep_tail(store, alloc, reducers, found, kept, parts, input.1)?;
+                keep_tail(shelf, alloc, reducers, found, kept, parts, input.1)?;
                 match kept.get(input.1.index()) {
                     Some(Some(ids)) => replace_all(
-                        store,
+                        shelf,
                         alloc,
                         host,
                         input.0,
@@ -131,30 +129,31 @@ pub fn make_tail(
 // Keeps the tail of a tree, unless it is kept.
 #[cycle(tails)]
 fn keep_tail(
-    store: &mut Store,
+    shelf: &mut Shelf,
     alloc: Global,
     reducers: &[Reducer],
     found: &[Option<u32>],
     kept: &mut Items<Option<Items<TreeId>>>,
     parts: &mut [TreeId],
     tree: TreeId,
-) -> Result<(), StoreFail>
-    requires store { IsStore store.old }
-    requires reducers { AreReducers store.old reducers.now }
-    requires found { AreDividers store.old reducers.now found.now }
-    requires few { length found.now ≤ length store.old }
-    requires kept { AreKept store.old reducers.now found.now kept.old }
+) -> Result<(), AllocError>
+    requires shelf { IsShelf shelf.old }
+    requires reducers { AreReducers shelf.old.trees reducers.now }
+    requires found { AreDividers shelf.old.trees reducers.now found.now }
+    requires few { length found.now ≤ length shelf.old.trees }
+    requires kept { AreKept shelf.old.trees reducers.now found.now kept.old }
     requires room { HaveRoom reducers.now (length parts.old) }
     requires divided { (e : ℕ) × (slice_get found.now tree ≡ Some (Some e)) }
     ensures there { OnOk result ((ids : List ℕ) × (slice_get kept.new tree ≡ Some (Some ids))) }
-    ensures kept { AreKept store.new reducers.now found.now kept.new }
-    ensures grows { Grows store.old store.new }
-    ensures store { IsStore store.new }
+    ensures kept { AreKept shelf.new.trees reducers.now found.now kept.new }
+    ensures keeps { KeepsShelf shelf.old shelf.new }
+    ensures keys { shelf.new.whole ≡ shelf.old.whole }
+    ensures shelf { IsShelf shelf.new }
 {
     if is_kept(kept.as_slice(), tree.index()) {
         return Ok(());
     }
     let mut ids = Items::new(alloc);
-    make_tail(store, alloc, reducers, found, kept, parts, tree, &mut ids)?;
+    make_tail(shelf, alloc, reducers, found, kept, parts, tree, &mut ids)?;
     put(kept, tree.index(), ids)
 }
