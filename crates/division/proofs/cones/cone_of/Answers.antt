@@ -4,7 +4,7 @@ use Rattle.labelled_trees.specs.Trees.{Tree}
 use Rattle.modular_sums.specs.Lists.{Distinct}
 use Rattle.shuffle_sums.specs.Sorting.{compare_by, trees_at, AreOfOneArity, Rise}
 use Rattle.division.specs.Ranks.{AreRanks}
-use Rattle.division.proofs.Meeting.{distinct_places}
+use Rattle.division.proofs.FewIds.{distinct_places}
 use Rattle.division.proofs.Coning.{HasGathered, gathered_arity, gathered_over, gathered_rules, gathered_table}
 use Rattle.division.proofs.cones.cone_of.Goals as goal
 
