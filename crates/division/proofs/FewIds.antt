@@ -17,6 +17,7 @@ use Rattle.shuffle_trees.proofs.Arities.{are_labels}
 use Rattle.shuffle_trees.proofs.Counts.{count_of_shuffle}
 use Rattle.tree_store.specs.Stores.{tree_at}
 use Rattle.tree_store.proofs.Trees.{one_place, place_of}
+use Rattle.shuffle_sums.specs.Sorting.{AreOfOneArity}
 use Rattle.shuffle_sums.specs.Shelves.{Shelf, IsShelf}
 use Rattle.shuffle_sums.proofs.FewTrees.{no_longer}
 use Rattle.division.specs.Gathered.{ArePlaces}
@@ -106,7 +107,7 @@ module _ (shelf : Shelf) (is_shelf : IsShelf shelf) (n : ℕ) where
       let last = h.1.each n (omega (arith, one)) (omega arith) in
       (one, (b.among n (omega (arith, last))).1)
 
-  pub few_of_arity : (ids : List ℕ) → Distinct ids → All IsOfArity ids → length ids ≤ most_trees
+  few_of_arity : (ids : List ℕ) → Distinct ids → All IsOfArity ids → length ids ≤ most_trees
   few_of_arity [] d h = omega arith
   few_of_arity (i ∷ ids) d h =
       let within = arity_within i (All-head IsOfArity i ids h) in
@@ -118,3 +119,7 @@ module _ (shelf : Shelf) (is_shelf : IsShelf shelf) (n : ℕ) where
       let size = length-map (i ∷ ids) (tree_at shelf.trees) in
       let most = is_shelf.few n within.0 within.1 in
       omega (arith, fewer, size, all.1, most)
+
+-- the same where nothing else says the arity
+pub few_of_one_arity : (shelf : Shelf) (ids : List ℕ) → IsShelf shelf → Distinct ids → AreOfOneArity shelf.trees ids → length ids ≤ most_trees
+few_of_one_arity shelf ids h d are = few_of_arity shelf h are.leaves ids d (λ k e lt. (are.held k e lt, (are.are k e lt).shuffle))
