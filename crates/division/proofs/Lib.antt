@@ -2,6 +2,7 @@ pub mod Agreeing
 pub mod Builds
 pub mod Coning
 pub mod Elements
+pub mod FewIds
 pub mod FirstDividers
 pub mod GrownCones
 pub mod InputTrees

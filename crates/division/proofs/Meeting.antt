@@ -6,8 +6,6 @@ use Rattle.std.proofs.lemmas.Option.{slice_get-get_or, slice_get_within, get_or_
 use Rattle.std.specs.List.{All}
 use Rattle.std.proofs.Math.Seq.{get_or-append_seam}
 use Rattle.std.proofs.lemmas.List.{take_more, map-append, append_assoc, append-nil, length-append, get_or_append_left}
-use native.Mathlib.Decide.{ℕ_discrete}
-use Rattle.modular_sums.specs.Lists.{Mem, Distinct}
 use Rattle.labelled_trees.specs.Trees.{Tree}
 use Rattle.shuffle_insertions.specs.ShuffleTrees.{IsShuffle, IsShuffleTree}
 use Rattle.shuffle_insertions.specs.Frames.{insert, IsFrame}
@@ -16,8 +14,6 @@ use Rattle.shuffle_places.specs.Places.{frame_at, IsPlace}
 use Rattle.shuffle_places.proofs.Laws.{place_frames}
 use Rattle.shuffle_places.proofs.Sizes.{one_size}
 use Rattle.tree_store.specs.Stores.{tree_at, IsStore}
-use Rattle.tree_store.proofs.Trees.{place_of}
-use Rattle.shuffle_sums.proofs.FewTrees.{no_longer}
 use Rattle.division.specs.declared.reducer.Reducer.{Reducer}
 use Rattle.shuffle_sums.specs.Putting.{Keeps}
 use Rattle.division.specs.Dividers.{IsFirstDivider, AreReducers, AreGroups, AreDividers, FoundGrows}
@@ -66,48 +62,6 @@ enter_places places ids id h low none = record {
 
 pub entered : (ids : List ℕ) (id : ℕ) → slice_get (ids ++ (id ∷ [])) (length ids) ≡ Some id
 entered ids id = last_entry ids id
-
--- ids with places stand once each
-pub distinct_places : (places : List (Option ℕ)) (ids : List ℕ) → ArePlaces places ids → Distinct ids
-distinct_places places ids h = once ids (λ p q x e f. let a = h.to x p e in let b = h.to x q f in cc (a, b))
-  where
-    placed : (x : ℕ) (l : List ℕ) → Mem x l → (k : ℕ) × (slice_get l k ≡ Some x)
-    placed x [] m = absurd m
-    placed x (y ∷ l) (inl e) = (0, ap Some (sym e))
-    placed x (y ∷ l) (inr m) = let p = placed x l m in (suc p.0, p.1)
-
-    zero_suc : (k : ℕ) → zero ≡ suc k → ⊥
-    zero_suc k e = cc e
-
-    less : (j k : ℕ) → suc j ≡ suc k → j ≡ k
-    less j k e = cc e
-
-    once : (l : List ℕ) → ((p q x : ℕ) → slice_get l p ≡ Some x → slice_get l q ≡ Some x → p ≡ q) → Distinct l
-    once [] h = tt
-    once (y ∷ l) h = (λ m. let p = placed y l m in zero_suc p.0 (h 0 (suc p.0) y refl p.1), once l (λ p q x e f. less p q (h (suc p) (suc q) x e f)))
-
--- the numbers below n
-abbrev below : ℕ → List ℕ
-below zero = []
-below (suc n) = n ∷ below n
-
-length-below : (n : ℕ) → length (below n) ≡ n
-length-below zero = refl
-length-below (suc n) = ap suc (length-below n)
-
-mem_below : (n x : ℕ) → x < n → Mem x (below n)
-mem_below zero x h = absurd (omega arith)
-mem_below (suc n) x h = by (ℕ_discrete x n) (mem_below n x)
-  where
-    by : Dec (x ≡ n) → (x < n → Mem x (below n)) → (x ≡ n) ⊎ Mem x (below n)
-    by (yes e) rest = inl e
-    by (no f) rest = inr (rest (omega (arith, h, f)))
-
--- ids below n with places are at most n
-pub few_places : (places : List (Option ℕ)) (ids : List ℕ) (n : ℕ) → ArePlaces places ids → All (λ i. i < n) ids → length ids ≤ n
-few_places places ids n h low =
-    subst (λ k. length ids ≤ k) (length-below n)
-    (no_longer ids (below n) (distinct_places places ids h) (λ x m. mem_below n x (let p = place_of ids x 0 m in subst (λ i. i < n) p.2 (low p.0 0 p.1))))
 
 -- ---- the ids of a tail
 

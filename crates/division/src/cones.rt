@@ -17,8 +17,6 @@ use sqlite_items::Items;
 use std::alloc::{AllocError, Global};
 use tree_store::TreeId;
 
-const MOST: usize = 1_073_741_824;
-
 /// The trees of one arity that steps can meet: their ids, in the order in which they were met; the place of each id; the place
 /// of each position and the position of each place, where positions rise by the order; and for each position its rule.
 #[derive(Drop)]
@@ -32,7 +30,8 @@ pub struct Cone {
 
 /// Gathers what steps can reach from the given ids, sorts it, and gives each position the rule of its insertion. The elements are
 /// given as ids, by groups and with the coefficients of their tails; `found`, `kept` and `parts` are as for `gather`, and `places`
-/// has the places of the given ids. `AllocError` comes for want of memory, or of room for more than 2^30 trees.
+/// has the places of the given ids. Old ids keep their trees and keys, and no id gets a key, also after an error. `AllocError`
+/// comes for want of memory alone.
 pub fn cone_of<O: TreeOrder>(
     alloc: Global,
     shelf: &mut Shelf,
@@ -75,9 +74,6 @@ pub fn cone_of<O: TreeOrder>(
         &mut places,
         &mut ids,
     )?;
-    if ids.len() > MOST {
-        return Err(AllocError);
-    }
     let sorting = sorted(alloc, shelf.store(), order, ids.as_slice())?;
     let ranks = ranks_of(alloc, sorting.as_slice(), ids.len())?;
     let table = table_of(

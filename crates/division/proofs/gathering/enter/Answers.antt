@@ -2,7 +2,8 @@ use Rattle.std.proofs.Common.{◌^◌, ◌∷◌, [], ◌∙◌, Some, set, sym,
 use mathlib.Core.Path.{ap₂}
 use mathlib.Core.List.{◌++◌}
 use Rattle.division.specs.Gathered.{CameFrom, ArePlaces}
-use Rattle.division.proofs.Meeting.{came_pushed, enter_places, entered, few_places}
+use Rattle.division.proofs.Meeting.{came_pushed, enter_places}
+use Rattle.division.proofs.FewIds.{few_places}
 use Rattle.division.proofs.gathering.enter.Goals as goal
 
 pub overflow_cast-place : goal.overflow_cast-place
