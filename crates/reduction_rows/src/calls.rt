@@ -24,6 +24,9 @@ fn document_answer(
         "SSum::insert_at" => settings::called(alloc, document, SumCall::InsertAt, words, out),
         "s_element" => settings::called(alloc, document, SumCall::SElement, words, out),
         "Shelf::shelve" => shelves::shelve(alloc, document, words, out),
+        "insert_at_root" => elements::inserted(alloc, document, words, out),
+        "step" => elements::stepped(alloc, document, words, out),
+        "gather" => gatherings::gathered(alloc, document, words, out),
         "reduce_row" => cones::reduced(alloc, document, words, out),
         _ => Err(RowFail::Refused),
     }
@@ -39,9 +42,6 @@ impl Program for Calls {
         out: &mut Vec<u8>,
     ) -> Result<(), RowFail> {
         match name {
-            "insert_at_root" => elements::inserted(alloc, words, out),
-            "step" => elements::stepped(alloc, words, out),
-            "gather" => gatherings::gathered(alloc, words, out),
             "Basis::add" => bases::kept(alloc, words, out),
             _ => document_answer(alloc, name, words, &document_of(alloc, text)?, out),
         }

@@ -2,52 +2,51 @@ ghost use Rattle.std.specs.Prelude.{◌≡◌, ◌<◌, ◌≤◌, ◌-◌, ℕ,
 ghost use Rattle.std.specs.List.{All};
 ghost use Rattle.modular_sums.specs.RuleTables.{IsRuleTail};
 ghost use Rattle.shuffle_sums.specs.Sorting.{AreOfOneArity};
-ghost use Rattle.tree_store.specs.Stores.{IsStore};
+ghost use Rattle.shuffle_sums.specs.Shelves.{IsShelf};
 ghost use Rattle.row_sweeps.specs.Terms.{pairs};
 ghost use Rattle.division.specs.Cones.{IsCone};
 
+use crate::stores::shelve_all;
 use crate::terms::write_terms;
 use division::{Cone, RowFail as SweepFail, add_element, cone_of, meet_all, reduce_row};
 use path_orders::{Path, TreeOrder};
 use presentation_text::{Document, write_number};
 use row_sweeps::{Steps, Term};
-use rows::{RowFail, end_line, end_tree, number_of};
+use rows::{RowFail, end_line, end_tree, most_leaves, number_of};
 use shuffle_passage::labels_of;
-use shuffle_sums::{Term as IdTerm, put_all};
-use shuffle_trees::all_trees;
+use shuffle_sums::{Shelf, Term as IdTerm};
+use shuffle_trees::{Labels, all_trees};
 use sqlite_items::Items;
 use std::alloc::Global;
 use tree_store::{Store, TreeId};
 
-// The ids of all shuffle trees of arity 3 over the document's labels; `Refused` where there are none.
-fn listing(alloc: Global, document: &Document, store: &mut Store) -> Result<Vec<TreeId>, RowFail>
-    ensures one_arity { IfOk result (λ ids. AreOfOneArity store.new ids.items) }
-    ensures store { OnOk result (IsStore store.new) }
+// The ids of all shuffle trees of arity 3 over the labels; `Refused` where there are none.
+fn listing(alloc: Global, labels: &Labels, shelf: &mut Shelf) -> Result<Vec<TreeId>, RowFail>
+    requires own { shelf.old.labels ≡ labels.now }
+    ensures one_arity { IfOk result (λ ids. AreOfOneArity shelf.new.trees ids.items) }
 {
-    let labels = labels_of(alloc, &document.gens)?;
-    let trees = all_trees(alloc, &labels, 3)?;
-    let ids = put_all(alloc, store, trees.as_slice())?;
-    let [first, ..] = ids.as_slice() else {
+    let trees = all_trees(alloc, labels, 3)?;
+    let ids = shelve_all(alloc, shelf, labels, trees.as_slice())?;
+    let [_, ..] = ids.as_slice() else {
         return Err(RowFail::Refused);
     };
-    let _view = store.node(*first);
     Ok(ids)
 }
 
 // The cone of these trees by an order, without elements.
 fn free_cone<O: TreeOrder>(
     alloc: Global,
-    store: &mut Store,
+    shelf: &mut Shelf,
     order: &O,
     prime: u32,
     all: &[TreeId],
 ) -> Result<Cone, RowFail>
-    requires one_arity { AreOfOneArity store.old all.now }
-    requires store { IsStore store.old }
+    requires one_arity { AreOfOneArity shelf.old.trees all.now }
+    requires shelf { IsShelf shelf.old }
     requires positive { 0 < prime }
     requires small { prime ≤ 65537 }
     ensures cone { IfOk result (λ cone. (given : List ℕ) × IsCone given cone) }
-    ensures held { IfOk result (λ cone. All (λ id. id < length store.new) cone.ids) }
+    ensures held { IfOk result (λ cone. All (λ id. id < length shelf.new.trees) cone.ids) }
     ensures prime { IfOk result (λ cone. cone.table.q ≡ prime - 1) }
 {
     let mut places = Items::new(alloc);
@@ -57,7 +56,7 @@ fn free_cone<O: TreeOrder>(
     let mut kept = Items::new(alloc);
     let cone = cone_of(
         alloc,
-        store,
+        shelf,
         order,
         prime,
         &[],
@@ -178,11 +177,13 @@ fn write_cone(alloc: Global, document: &Document, out: &mut Vec<u8>) -> Result<C
     ensures cone { IfOk result (λ cone. (given : List ℕ) × IsCone given cone) }
     ensures prime { IfOk result (λ cone. cone.table.q ≡ document.now.field - 1) }
 {
-    let mut store = Store::new(alloc);
-    let all = listing(alloc, document, &mut store)?;
+    let labels = labels_of(alloc, &document.gens)?;
+    let mut shelf = Shelf::new(alloc, &labels, most_leaves(&labels))?;
+    let all = listing(alloc, &labels, &mut shelf)?;
     let prime = prime_of(document);
-    let cone = free_cone(alloc, &mut store, &Path {}, prime, all.as_slice())?;
-    write_ids(alloc, &store, cone.ids.as_slice(), out)?;
+    let _ = shelf.store();
+    let cone = free_cone(alloc, &mut shelf, &Path {}, prime, all.as_slice())?;
+    write_ids(alloc, shelf.store(), cone.ids.as_slice(), out)?;
     Ok(cone)
 }
 

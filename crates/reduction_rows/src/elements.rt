@@ -8,7 +8,10 @@ ghost use Rattle.division.specs.Insertions.{IsReducer};
 
 use crate::stores::{ids_of, write_trees};
 use division::{Reducer, divides_root, insert_at_root, step};
-use rows::{RowFail, end_line};
+use presentation_text::Document;
+use rows::{RowFail, end_line, most_leaves};
+use shuffle_passage::labels_of;
+use shuffle_sums::Shelf;
 use sqlite_items::Items;
 use std::alloc::{AllocError, Global};
 use tree_store::{Store, TreeId};
@@ -110,19 +113,18 @@ pub fn lone_element(alloc: Global, store: &Store, ids: &[TreeId]) -> Result<Lone
 // Writes the trees of an insertion at the root, or `none` where the element doesn't divide the tree there.
 fn write_inserted(
     alloc: Global,
-    store: &mut Store,
+    shelf: &mut Shelf,
     reducer: &Reducer,
     host: TreeId,
     out: &mut Vec<u8>,
 ) -> Result<(), RowFail>
-    requires reducer { IsReducer store.old reducer.now }
+    requires reducer { IsReducer shelf.old.trees reducer.now }
     requires few { reducer.now.arity < 16 }
-    requires host { host < length store.old }
-    requires store { IsStore store.old }
+    requires host { host < length shelf.old.trees }
 {
     let mut parts = vec![in alloc; TreeId::numbered(0); ROOM]?;
     if !divides_root(
-        store,
+        shelf.store(),
         reducer.lead,
         reducer.arity,
         host,
@@ -131,38 +133,44 @@ fn write_inserted(
         return Ok(end_line("none", out)?);
     }
     let mut made = Items::new(alloc);
-    insert_at_root(store, alloc, reducer, host, parts.as_mut_slice(), &mut made)?;
-    write_trees(alloc, store, made.as_slice(), out)
+    insert_at_root(shelf, alloc, reducer, host, parts.as_mut_slice(), &mut made)?;
+    write_trees(alloc, shelf.store(), made.as_slice(), out)
 }
 
 /// Inserts an element, whose trees stand behind the host, at the root of that: what becomes of the trees of its tail.
-pub fn inserted(alloc: Global, words: &[String], out: &mut Vec<u8>) -> Result<(), RowFail> {
-    let mut store = Store::new(alloc);
-    let ids = ids_of(alloc, &mut store, words)?;
+pub fn inserted(
+    alloc: Global,
+    document: &Document,
+    words: &[String],
+    out: &mut Vec<u8>,
+) -> Result<(), RowFail> {
+    let labels = labels_of(alloc, &document.gens)?;
+    let mut shelf = Shelf::new(alloc, &labels, most_leaves(&labels))?;
+    let ids = ids_of(alloc, &mut shelf, &labels, words)?;
     let [host, trees @ ..] = ids.as_slice() else {
         return Err(RowFail::Refused);
     };
-    let reducer = element_of(alloc, &store, trees)?;
-    write_inserted(alloc, &mut store, &reducer, *host, out)
+    let reducer = element_of(alloc, shelf.store(), trees)?;
+    write_inserted(alloc, &mut shelf, &reducer, *host, out)
 }
 
 // Writes the trees of the tail of a step.
 fn write_step(
     alloc: Global,
-    store: &mut Store,
+    shelf: &mut Shelf,
     element: &LoneElement,
     host: TreeId,
     out: &mut Vec<u8>,
 ) -> Result<(), RowFail>
-    requires working { IsWorking store.old element.now.reducers element.now.groups [] [] }
+    requires working { IsWorking shelf.old.trees element.now.reducers element.now.groups [] [] }
     requires room { HaveRoom element.now.reducers 16 }
-    requires host { host < length store.old }
+    requires host { host < length shelf.old.trees }
 {
     let mut parts = vec![in alloc; TreeId::numbered(0); ROOM]?;
     let mut found = Items::new(alloc);
     let mut kept = Items::new(alloc);
     let tail = step(
-        store,
+        shelf,
         alloc,
         element.reducers.as_slice(),
         element.groups.as_slice(),
@@ -171,17 +179,23 @@ fn write_step(
         parts.as_mut_slice(),
         host,
     )?;
-    write_trees(alloc, store, tail.as_slice(), out)
+    write_trees(alloc, shelf.store(), tail.as_slice(), out)
 }
 
 /// The trees to which an element, whose trees stand behind the host, leads from that, at the place that is taken: none where it
 /// divides no place.
-pub fn stepped(alloc: Global, words: &[String], out: &mut Vec<u8>) -> Result<(), RowFail> {
-    let mut store = Store::new(alloc);
-    let ids = ids_of(alloc, &mut store, words)?;
+pub fn stepped(
+    alloc: Global,
+    document: &Document,
+    words: &[String],
+    out: &mut Vec<u8>,
+) -> Result<(), RowFail> {
+    let labels = labels_of(alloc, &document.gens)?;
+    let mut shelf = Shelf::new(alloc, &labels, most_leaves(&labels))?;
+    let ids = ids_of(alloc, &mut shelf, &labels, words)?;
     let [host, trees @ ..] = ids.as_slice() else {
         return Err(RowFail::Refused);
     };
-    let element = lone_element(alloc, &store, trees)?;
-    write_step(alloc, &mut store, &element, *host, out)
+    let element = lone_element(alloc, shelf.store(), trees)?;
+    write_step(alloc, &mut shelf, &element, *host, out)
 }

@@ -1,18 +1,63 @@
-ghost use Rattle.std.specs.Prelude.{◌<◌, length, IfOk};
+ghost use Rattle.std.specs.Prelude.{◌≡◌, ◌<◌, length, IfOk, OnOk};
 ghost use Rattle.std.specs.List.{All};
+ghost use Rattle.shuffle_sums.specs.Putting.{ArePut};
+ghost use Rattle.shuffle_sums.specs.Shelves.{IsShelf, IsShelved, KeepsShelf};
 
+use crate::shelves::fits_shelf;
 use rows::{RowFail, end_tree, shuffles_of};
-use shuffle_sums::put_all;
+use shuffle_sums::Shelf;
+use shuffle_trees::{Labels, STree};
 use std::alloc::Global;
 use tree_store::{Store, TreeId};
 
+// The id of the tree; `Refused` where it doesn't fit the shelf, which was made for the labels.
+fn shelve_one(
+    alloc: Global,
+    shelf: &mut Shelf,
+    labels: &Labels,
+    tree: &STree,
+) -> Result<TreeId, RowFail>
+    requires own { shelf.old.labels ≡ labels.now }
+    ensures found { IfOk result (λ id. IsShelved shelf.new id tree.now) }
+    ensures keeps { OnOk result (KeepsShelf shelf.old shelf.new) }
+    ensures shelf { OnOk result (IsShelf shelf.new) }
+{
+    if !fits_shelf(shelf, labels, tree) {
+        return Err(RowFail::Refused);
+    }
+    Ok(shelf.shelve(alloc, tree)?)
+}
+
+/// The ids of the trees; `Refused` where one doesn't fit the shelf, which was made for the labels.
+pub fn shelve_all(
+    alloc: Global,
+    shelf: &mut Shelf,
+    labels: &Labels,
+    trees: &[STree],
+) -> Result<Vec<TreeId>, RowFail>
+    requires own { shelf.old.labels ≡ labels.now }
+    ensures put { IfOk result (λ ids. ArePut shelf.new.trees trees.now ids.items) }
+{
+    let mut ids = Vec::new(alloc);
+    for tree in trees {
+        let id = shelve_one(alloc, shelf, labels, tree)?;
+        ids.push(id)?;
+    }
+    Ok(ids)
+}
+
 /// The ids of the trees that words spell.
-pub fn ids_of(alloc: Global, store: &mut Store, words: &[String]) -> Result<Vec<TreeId>, RowFail>
-    ensures held { IfOk result (λ ids. All (λ id. id < length store.new) ids.items) }
+pub fn ids_of(
+    alloc: Global,
+    shelf: &mut Shelf,
+    labels: &Labels,
+    words: &[String],
+) -> Result<Vec<TreeId>, RowFail>
+    requires own { shelf.old.labels ≡ labels.now }
+    ensures held { IfOk result (λ ids. All (λ id. id < length shelf.new.trees) ids.items) }
 {
     let trees = shuffles_of(alloc, words)?;
-    let ids = put_all(alloc, store, trees.as_slice())?;
-    Ok(ids)
+    shelve_all(alloc, shelf, labels, trees.as_slice())
 }
 
 /// Writes each tree in a line.
