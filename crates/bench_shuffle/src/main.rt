@@ -1,10 +1,11 @@
 //! Lists all shuffle trees of an arity over one binary label and compares keys of them; behind the word `multiples` counts small
-//! common multiples, and behind `frames` makes frames: to be timed.
+//! common multiples, behind `frames` makes frames, and behind `store` puts trees into a store and sorts their ids: to be timed.
 #![tactic(auto)]
 
 mod frames;
 mod keys;
 mod overlaps;
+mod stores;
 
 use std::alloc::{AllocError, Global};
 use std::{env, io};
@@ -22,6 +23,7 @@ fn answer(alloc: Global, words: &[String]) -> Result<String, AllocError> {
     match words {
         [name, numbers @ ..] if name.as_str() == "multiples" => overlaps::counted(alloc, numbers),
         [name, numbers @ ..] if name.as_str() == "frames" => frames::counted(alloc, numbers),
+        [name, numbers @ ..] if name.as_str() == "store" => stores::counted(alloc, numbers),
         _ => keys::counted(alloc, words),
     }
 }

@@ -15,6 +15,7 @@ pub mod OverlaidPlaces
 pub mod OverlapLists
 pub mod OverlayParts
 pub mod OverlayPatterns
+pub mod PlacedElements
 pub mod SiteOverlaps
 pub mod Steps
 pub mod VertexSearch

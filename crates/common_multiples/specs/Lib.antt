@@ -2,3 +2,4 @@ pub mod Building
 pub mod Listing
 pub mod Merging
 pub mod Overlaying
+pub mod SElements

@@ -1,2 +1,4 @@
+pub mod FitPlaces
+pub mod LeadingTerms
 pub mod LoneElement
 pub mod TermLists

@@ -1,4 +1,5 @@
-use crate::{bases, cones, elements, gatherings, shelves, sums};
+use crate::settings::SumCall;
+use crate::{bases, cones, elements, gatherings, settings, shelves};
 use presentation_text::Document;
 use rows::{Program, RowFail, document_of};
 use std::alloc::Global;
@@ -16,7 +17,12 @@ fn document_answer(
     out: &mut Vec<u8>,
 ) -> Result<(), RowFail> {
     match name {
-        "SSum::add_scaled" => sums::add_scaled(alloc, document, words, out),
+        "Setting::new" => settings::setting(alloc, document, words, out),
+        "weight_order" => settings::weights(alloc, document, words, out),
+        "SSum::from_sum" => settings::called(alloc, document, SumCall::FromSum, words, out),
+        "SSum::add_scaled" => settings::called(alloc, document, SumCall::AddScaled, words, out),
+        "SSum::insert_at" => settings::called(alloc, document, SumCall::InsertAt, words, out),
+        "s_element" => settings::called(alloc, document, SumCall::SElement, words, out),
         "Shelf::shelve" => shelves::shelve(alloc, document, words, out),
         "reduce_row" => cones::reduced(alloc, document, words, out),
         _ => Err(RowFail::Refused),

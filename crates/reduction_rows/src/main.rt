@@ -3,11 +3,15 @@
 //! setting is needed, the document gives the field, the labels and the order.
 #![tactic(auto)]
 
+mod adding;
 mod bases;
 mod calls;
 mod cones;
 mod elements;
 mod gatherings;
+mod inserting;
+mod s_elements;
+mod settings;
 mod shelves;
 mod stores;
 mod sums;

@@ -1,6 +1,5 @@
-ghost use Rattle.std.specs.Prelude.{◌≤◌, ℕ, IsTrue};
-ghost use Rattle.shuffle_insertions.specs.ShuffleTrees.{IsShuffleTree};
-ghost use Rattle.shuffle_trees.specs.LabelLists.{arity_in};
+ghost use Rattle.std.specs.Prelude.{◌≡◌, IsTrue};
+ghost use Rattle.shuffle_sums.specs.Shelves.{FitsShelf};
 
 use crate::sums::is_over;
 use presentation_text::{Document, write_number};
@@ -10,14 +9,15 @@ use shuffle_sums::Shelf;
 use shuffle_trees::{Key, Labels, STree};
 use std::alloc::Global;
 
-// Whether the tree is one over the labels, with at most so many leaves.
-fn is_welcome(labels: &Labels, most: u8, tree: &STree) -> bool
-    ensures { IsTrue result → (n : ℕ) × (n ≤ most) × IsShuffleTree (arity_in labels.now) n tree.now }
+/// Whether the tree is one over the labels, for which the shelf was made, and has no more leaves than fit there.
+pub fn fits_shelf(shelf: &Shelf, labels: &Labels, tree: &STree) -> bool
+    requires own { shelf.now.labels ≡ labels.now }
+    ensures { IsTrue result → FitsShelf shelf.now tree.now }
 {
     let Some(arity) = tree.arity() else {
         return false;
     };
-    if arity > most {
+    if arity > shelf.most() {
         return false;
     }
     is_over(labels, arity, tree)
@@ -43,11 +43,10 @@ fn write_shelved(
     tree: &STree,
     out: &mut Vec<u8>,
 ) -> Result<(), RowFail> {
-    let most = most_leaves(labels);
-    if !is_welcome(labels, most, tree) {
+    let mut shelf = Shelf::new(alloc, labels, most_leaves(labels))?;
+    if !fits_shelf(&shelf, labels, tree) {
         return Err(RowFail::Refused);
     }
-    let mut shelf = Shelf::new(alloc, labels, most)?;
     let first = shelf.shelve(alloc, tree)?;
     let again = shelf.shelve(alloc, tree)?;
     write_number(first.index() as u64, out)?;

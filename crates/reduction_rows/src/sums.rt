@@ -1,17 +1,15 @@
-ghost use Rattle.std.specs.Prelude.{◌≡◌, ◌<◌, ◌≤◌, ℕ, length, IfOk, IsTrue, OnOk};
-ghost use Rattle.std.specs.List.{All, AllByRecursion};
-ghost use Rattle.modular_sums.specs.Sums.{AllTerms};
+ghost use Rattle.std.specs.Prelude.{◌≡◌, ◌<◌, IfOk, IsTrue, OnOk};
+ghost use Rattle.std.specs.List.{All};
 ghost use Rattle.shuffle_insertions.specs.ShuffleTrees.{IsShuffleTree};
 ghost use Rattle.shuffle_trees.specs.LabelLists.{arity_in};
-ghost use Rattle.shuffle_sums.specs.Settings.{compares, field_of, labels_of as labels_in};
+ghost use Rattle.shuffle_sums.specs.Settings.{compares, field_of, labels_of};
 ghost use Rattle.shuffle_sums.specs.Shelves.{IsShelf, KeepsShelf};
-ghost use Rattle.shuffle_sums.specs.Sums.{FallsBy, HaveKeys};
+ghost use Rattle.shuffle_sums.specs.Sums.{AreTrees, FallsBy, HaveKeys};
 
-use path_orders::{LeafPath, Path, PathShort, TreeOrder};
-use presentation_text::{Document, OrderName, write_number};
-use rows::{RowFail, belongs, end_line, end_tree, most_leaves, number_of, shuffle_of};
-use shuffle_passage::labels_of;
-use shuffle_sums::{SSum, SSumFail, Setting, Shelf};
+use path_orders::TreeOrder;
+use presentation_text::write_number;
+use rows::{RowFail, belongs, end_tree, number_of, shuffle_of};
+use shuffle_sums::{SSum, Setting, Shelf};
 use shuffle_trees::{Labels, STree};
 use sqlite_items::Items;
 use std::alloc::Global;
@@ -52,26 +50,14 @@ fn first_arity(terms: &[(u32, STree)]) -> u8 {
     }
 }
 
-// Whether the numbers are residues, and the trees have one arity, at most so many leaves.
-fn are_terms(labels: &Labels, prime: u32, most: u8, terms: &[(u32, STree)]) -> bool
-    ensures residues { IsTrue result → AllByRecursion (λ x. x.0 < prime) terms.now }
-    ensures trees { IsTrue result → (n : ℕ) × (n ≤ most) × AllTerms terms.now (IsShuffleTree (arity_in labels.now) n) }
-{
-    let arity = first_arity(terms);
-    if arity > most {
-        return false;
-    }
-    are_over(labels, prime, arity, terms)
-}
-
 // The term of a residue and a tree.
 fn term_of(alloc: Global, coef: &String, tree: &String) -> Result<(u32, STree), RowFail> {
     let coef = number_of(coef)?;
     Ok((coef, shuffle_of(alloc, tree)?))
 }
 
-// The terms that words spell: for each a residue and a tree.
-fn spelled(alloc: Global, words: &[String]) -> Result<Items<(u32, STree)>, RowFail> {
+/// The terms that words spell: for each a residue and a tree.
+pub fn spelled(alloc: Global, words: &[String]) -> Result<Items<(u32, STree)>, RowFail> {
     if words.len() % 2 == 1 {
         return Err(RowFail::Refused);
     }
@@ -82,28 +68,48 @@ fn spelled(alloc: Global, words: &[String]) -> Result<Items<(u32, STree)>, RowFa
     Ok(terms)
 }
 
-// The sum of the terms that words spell.
-fn sum_of<O: TreeOrder>(
+/// The sum of the terms. `Refused` where a number is no residue, or a tree none over the labels with the leaves 1 to `arity`.
+pub fn sum_of<O: TreeOrder>(
+    alloc: Global,
+    setting: &Setting<O>,
+    shelf: &mut Shelf,
+    arity: u8,
+    terms: &[(u32, STree)],
+) -> Result<SSum<O>, RowFail>
+    requires own { shelf.old.labels ≡ labels_of setting.now }
+    ensures falls { IfOk result (FallsBy (compares O.weights O.by_keys setting.now) (field_of setting.now) shelf.new) }
+    ensures trees { IfOk result (AreTrees shelf.new arity) }
+    ensures keeps { OnOk result (KeepsShelf shelf.old shelf.new) }
+    ensures shelf { OnOk result (IsShelf shelf.new) }
+{
+    if arity > shelf.most() {
+        return Err(RowFail::Refused);
+    }
+    if !are_over(setting.labels(), setting.field().prime(), arity, terms) {
+        return Err(RowFail::Refused);
+    }
+    Ok(SSum::from_sum(alloc, setting, shelf, terms)?)
+}
+
+/// The sum of the terms that words spell, whose trees have the arity of the first.
+pub fn spelled_sum<O: TreeOrder>(
     alloc: Global,
     setting: &Setting<O>,
     shelf: &mut Shelf,
     words: &[String],
 ) -> Result<SSum<O>, RowFail>
-    requires own { shelf.old.labels ≡ labels_in setting.now }
+    requires own { shelf.old.labels ≡ labels_of setting.now }
     ensures falls { IfOk result (FallsBy (compares O.weights O.by_keys setting.now) (field_of setting.now) shelf.new) }
     ensures keeps { OnOk result (KeepsShelf shelf.old shelf.new) }
     ensures shelf { OnOk result (IsShelf shelf.new) }
 {
     let terms = spelled(alloc, words)?;
-    let prime = setting.field().prime();
-    if !are_terms(setting.labels(), prime, shelf.most(), terms.as_slice()) {
-        return Err(RowFail::Refused);
-    }
-    Ok(SSum::from_sum(alloc, setting, shelf, terms.as_slice())?)
+    let arity = first_arity(terms.as_slice());
+    sum_of(alloc, setting, shelf, arity, terms.as_slice())
 }
 
-// Writes each term in a line: its residue, and its tree.
-fn write_sum<O: TreeOrder>(
+/// Writes each term in a line: its residue, and its tree.
+pub fn write_sum<O: TreeOrder>(
     alloc: Global,
     shelf: &Shelf,
     sum: &SSum<O>,
@@ -118,92 +124,4 @@ fn write_sum<O: TreeOrder>(
         end_tree(term.1.shape(), out)?;
     }
     Ok(())
-}
-
-// Adds the other sum, so many times, and writes the fault, if there is one, and the sum.
-fn write_added<O: TreeOrder>(
-    alloc: Global,
-    setting: &Setting<O>,
-    shelf: &Shelf,
-    sum: &mut SSum<O>,
-    coef: u32,
-    other: &SSum<O>,
-    out: &mut Vec<u8>,
-) -> Result<(), RowFail>
-    requires residue { coef < field_of setting.now }
-    requires labels { shelf.now.labels ≡ labels_in setting.now }
-    requires own { FallsBy (compares O.weights O.by_keys setting.now) (field_of setting.now) shelf.now sum.old }
-    requires other { FallsBy (compares O.weights O.by_keys setting.now) (field_of setting.now) shelf.now other.now }
-{
-    match sum.add_scaled(alloc, setting, shelf, coef, other) {
-        Ok(()) => {}
-        Err(SSumFail::ArityDiffers) => end_line("ArityDiffers", out)?,
-        Err(SSumFail::NoMemory) => return Err(RowFail::NoMemory),
-    }
-    write_sum(alloc, shelf, sum, out)
-}
-
-// Adds the second sum, so many times, to the first one.
-fn write_both<O: TreeOrder>(
-    alloc: Global,
-    setting: &Setting<O>,
-    ones: &[String],
-    factor: u32,
-    others: &[String],
-    out: &mut Vec<u8>,
-) -> Result<(), RowFail> {
-    let most = most_leaves(setting.labels());
-    let mut shelf = Shelf::new(alloc, setting.labels(), most)?;
-    let mut sum = sum_of(alloc, setting, &mut shelf, ones)?;
-    let other = sum_of(alloc, setting, &mut shelf, others)?;
-    let coef = setting.field().of_number(u64::from(factor));
-    write_added(alloc, setting, &shelf, &mut sum, coef, &other, out)
-}
-
-// The same by an order.
-fn write_by<O: TreeOrder + Drop>(
-    alloc: Global,
-    document: &Document,
-    order: O,
-    words: &[String],
-    out: &mut Vec<u8>,
-) -> Result<(), RowFail> {
-    let at = plus_of(words);
-    let (ones, behind) = words.split_at(at);
-    let [_, factor, others @ ..] = behind else {
-        return Err(RowFail::Refused);
-    };
-    let factor = number_of(factor)?;
-    let labels = labels_of(alloc, &document.gens)?;
-    let table = document.gens.copy(alloc)?;
-    let setting = Setting::of_parts(document.field, table, labels, order);
-    write_both(alloc, &setting, ones, factor, others, out)
-}
-
-// The place of the word `+`; behind the last word where there is none.
-fn plus_of(words: &[String]) -> usize
-    ensures within { result ≤ length words.now }
-{
-    for at in 0..words.len() {
-        if words[at].as_str() == "+" {
-            return at;
-        }
-    }
-    words.len()
-}
-
-/// Adds the terms behind `+` and a factor, that many times, to those before it, by the document's order: what the sum is then,
-/// term by term, behind the fault if there is one.
-pub fn add_scaled(
-    alloc: Global,
-    document: &Document,
-    words: &[String],
-    out: &mut Vec<u8>,
-) -> Result<(), RowFail> {
-    match document.order {
-        OrderName::Path => write_by(alloc, document, Path {}, words, out),
-        OrderName::PathShort => write_by(alloc, document, PathShort {}, words, out),
-        OrderName::LeafPath => write_by(alloc, document, LeafPath {}, words, out),
-        OrderName::WeightPath => Err(RowFail::Refused),
-    }
 }

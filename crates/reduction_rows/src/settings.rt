@@ -1,0 +1,128 @@
+use crate::adding::added;
+use crate::inserting::inserted;
+use crate::s_elements::s_element_of;
+use crate::sums::{spelled_sum, write_sum};
+use path_orders::{LeafPath, Path, PathShort, TreeOrder, WeightPath};
+use presentation_text::{Document, OrderName, write_number};
+use rows::{RowFail, end_line, most_leaves, write_next, write_text};
+use shuffle_sums::{Setting, Shelf, weight_order};
+use shuffle_trees::Labels;
+use std::alloc::Global;
+
+/// A call that adds or inserts sums.
+#[derive(Clone, Copy, Debug)]
+pub enum SumCall {
+    /// `SSum::from_sum`
+    FromSum,
+    /// `SSum::add_scaled`
+    AddScaled,
+    /// `SSum::insert_at`
+    InsertAt,
+    /// `s_element`
+    SElement,
+}
+
+// The order by the weights of the document's generators.
+fn weighed(alloc: Global, document: &Document) -> Result<WeightPath, RowFail> {
+    if document.weights.len() != document.gens.len() as usize {
+        return Err(RowFail::Refused);
+    }
+    Ok(weight_order(alloc, &document.gens, document.weights.as_slice())?)
+}
+
+// The call over a setting.
+fn call_over<O: TreeOrder>(
+    alloc: Global,
+    setting: &Setting<O>,
+    call: SumCall,
+    words: &[String],
+    out: &mut Vec<u8>,
+) -> Result<(), RowFail> {
+    let most = most_leaves(setting.labels());
+    let mut shelf = Shelf::new(alloc, setting.labels(), most)?;
+    match call {
+        SumCall::FromSum => {
+            let sum = spelled_sum(alloc, setting, &mut shelf, words)?;
+            write_sum(alloc, &shelf, &sum, out)
+        }
+        SumCall::AddScaled => added(alloc, setting, &mut shelf, words, out),
+        SumCall::InsertAt => inserted(alloc, setting, &mut shelf, words, out),
+        SumCall::SElement => s_element_of(alloc, setting, &mut shelf, words, out),
+    }
+}
+
+// The call over the document's field and generators, and an order.
+fn call_by<O: TreeOrder + Drop>(
+    alloc: Global,
+    document: &Document,
+    order: O,
+    call: SumCall,
+    words: &[String],
+    out: &mut Vec<u8>,
+) -> Result<(), RowFail> {
+    let setting = Setting::new(alloc, document.field, &document.gens, order)?;
+    call_over(alloc, &setting, call, words, out)
+}
+
+/// The call by the document's order: what the sum is, term by term.
+pub fn called(
+    alloc: Global,
+    document: &Document,
+    call: SumCall,
+    words: &[String],
+    out: &mut Vec<u8>,
+) -> Result<(), RowFail> {
+    match document.order {
+        OrderName::Path => call_by(alloc, document, Path {}, call, words, out),
+        OrderName::PathShort => call_by(alloc, document, PathShort {}, call, words, out),
+        OrderName::LeafPath => call_by(alloc, document, LeafPath {}, call, words, out),
+        OrderName::WeightPath => {
+            let order = weighed(alloc, document)?;
+            call_by(alloc, document, order, call, words, out)
+        }
+    }
+}
+
+// Writes the arity of each label in a line.
+fn write_labels(labels: &Labels, out: &mut Vec<u8>) -> Result<(), RowFail> {
+    write_text("labels", out)?;
+    for label in 0..labels.len() {
+        write_next(u64::from(labels.arity(label)), out)?;
+    }
+    Ok(end_line("", out)?)
+}
+
+/// The prime, the number of generators, and the arities of the labels of the document's setting by `path`.
+pub fn setting(
+    alloc: Global,
+    document: &Document,
+    words: &[String],
+    out: &mut Vec<u8>,
+) -> Result<(), RowFail> {
+    let [] = words else {
+        return Err(RowFail::Refused);
+    };
+    let setting = Setting::new(alloc, document.field, &document.gens, Path {})?;
+    write_number(u64::from(setting.field().prime()), out)?;
+    write_next(u64::from(setting.table().len()), out)?;
+    end_line("", out)?;
+    write_labels(setting.labels(), out)
+}
+
+/// The weights of the labels by the document's weights.
+pub fn weights(
+    alloc: Global,
+    document: &Document,
+    words: &[String],
+    out: &mut Vec<u8>,
+) -> Result<(), RowFail> {
+    let [] = words else {
+        return Err(RowFail::Refused);
+    };
+    let order = weighed(alloc, document)?;
+    write_text("weights", out)?;
+    for weight in order.weights() {
+        write_next(u64::from(*weight), out)?;
+    }
+    Ok(end_line("", out)?)
+}
