@@ -96,7 +96,7 @@ module _ (before : List (Tree ℕ)) (tree l : ℕ) (ids parts : List ℕ) (root 
     pub next_belongs : (labels : List ℕ) (most : ℕ) (added now : List (Tree ℕ)) → now ≡ before ++ added → HasLeavesAmong labels most (built before parts tree) → HasLeavesAmong labels most (built now parts i)
     next_belongs labels most added now e h = subst (HasLeavesAmong labels most) (sym (built_now added now e))
         (among_subtree labels most (built before parts tree) (built before parts i)
-            (subst (IsSubtree (built before parts i)) (sym whole_is) (subtree_of_input l (row (map (built before parts) ids)) (built before parts i) (built before parts i) stands (subtree_itself (built before parts i)))) h)
+        (subst (IsSubtree (built before parts i)) (sym whole_is) (subtree_of_input l (row (map (built before parts) ids)) (built before parts i) (built before parts i) stands (subtree_itself (built before parts i)))) h)
 
     -- it was built
     pub next_built : (now later : List (Tree ℕ)) (out : List ℕ) (id : ℕ) → AreInputs before now (built before parts tree) (map (built before parts) (take k ids)) out

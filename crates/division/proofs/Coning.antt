@@ -1,16 +1,15 @@
 -- What was gathered, before it is sorted and ruled.
-use Rattle.std.proofs.Common.{◌≡◌, ℕ, zero, suc, ◌<◌, List, [], ◌∷◌, length, refl, sym, ◌∙◌, ap, subst, Option, Some, slice_get, get_or, inl, inr}
+use Rattle.std.proofs.Common.{◌≡◌, ℕ, ◌<◌, List, length, sym, ◌∙◌, subst, Option, Some, slice_get, get_or}
 use Rattle.std.specs.List.{All}
 use Rattle.std.specs.declared.cmp.Ordering.{Ordering}
 use Rattle.std.proofs.lemmas.Option.{slice_get-get_or, slice_get_within, get_or_from_slice_get}
-use Rattle.modular_sums.specs.Lists.{Mem, Distinct}
 use Rattle.labelled_trees.specs.Trees.{Tree}
 use Rattle.shuffle_insertions.specs.ShuffleTrees.{IsShuffleTree}
 use Rattle.shuffle_bases.specs.Elements.{Element, Setting, Insertion}
 use Rattle.division.specs.declared.reducer.Reducer.{Reducer}
 use Rattle.shuffle_sums.specs.Putting.{Keeps}
 use Rattle.division.specs.Dividers.{AreReducers, AreDividers}
-use Rattle.division.specs.Gathered.{AreGathered, AllOver, ArePlaces}
+use Rattle.division.specs.Gathered.{AreGathered, AllOver}
 use Rattle.division.specs.Laws.{IsReducerOf}
 use Rattle.division.proofs.MadeTrees.{grown_tree, grown_ids}
 use Rattle.division.proofs.TailSteps.{reducers_later}

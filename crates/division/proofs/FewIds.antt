@@ -1,12 +1,11 @@
 -- Ids that stand once each are few.
-use Rattle.std.proofs.Common.{◌≡◌, ℕ, ◌<◌, ◌≤◌, zero, suc, List, [], ◌∷◌, length, map, get_or, refl, sym, ◌∙◌, ap, arith, subst, Option, Some, slice_get, inl, inr, ◌⊎◌}
+use Rattle.std.proofs.Common.{◌≡◌, ℕ, ◌<◌, ◌≤◌, zero, suc, List, [], ◌∷◌, length, map, refl, sym, ap, arith, subst, Option, Some, slice_get, inl, inr, ◌⊎◌}
 use native.Mathlib.Decide.{ℕ_discrete}
 use Rattle.std.specs.List.{All}
 use Rattle.std.proofs.lemmas.List.{length-map}
 use Rattle.std.proofs.lemmas.List.Elements.{All-head, All-tail}
 use Rattle.modular_sums.specs.Lists.{Mem, Distinct}
 use Rattle.labelled_trees.specs.Trees.{Tree, leaf}
-use Rattle.labelled_trees.specs.Leaves.{leaf_count}
 use Rattle.labelled_trees.proofs.Fitting.{some_leaf}
 use Rattle.shuffle_insertions.specs.ShuffleTrees.{IsShuffle, IsShuffleTree}
 use Rattle.shuffle_insertions.specs.Counting.{most_trees}
@@ -113,9 +112,9 @@ module _ (shelf : Shelf) (is_shelf : IsShelf shelf) (n : ℕ) where
       let within = arity_within i (All-head IsOfArity i ids h) in
       let all = listed (length shelf.labels) (arity_in shelf.labels) (are_labels shelf.labels is_shelf.labels_are) n in
       let fewer = no_longer (map (tree_at shelf.trees) (i ∷ ids)) (all_trees (length shelf.labels) (arity_in shelf.labels) n)
-          (distinct_trees shelf.trees (i ∷ ids) is_shelf.store.distinct d (λ k e lt. (h k e lt).0))
-          (λ t m. let q = tree_of_id shelf.trees IsOfArity (i ∷ ids) h t m in
-          all.0.each t (subst (IsShuffleTree (arity_in shelf.labels) n) (sym q.2) (shuffle_tree q.0 q.1))) in
+      (distinct_trees shelf.trees (i ∷ ids) is_shelf.store.distinct d (λ k e lt. (h k e lt).0))
+      (λ t m. let q = tree_of_id shelf.trees IsOfArity (i ∷ ids) h t m in
+      all.0.each t (subst (IsShuffleTree (arity_in shelf.labels) n) (sym q.2) (shuffle_tree q.0 q.1))) in
       let size = length-map (i ∷ ids) (tree_at shelf.trees) in
       let most = is_shelf.few n within.0 within.1 in
       omega (arith, fewer, size, all.1, most)

@@ -114,7 +114,7 @@ module _ (shelf : Shelf) (host l : ℕ) (ids : List ℕ) (at child : ℕ) (is_sh
     low = h.held n d lt;
     belongs = subst (HasLeavesAmong shelf.labels shelf.most) (sym (other_is (get_or kept n d)))
         (other_belongs l parts.front (tree_at old child) (tree_at old (get_or kept n d)) parts.back host_belongs.valid (kept_belongs n d lt).valid (h.leaves n d lt) shelf.labels shelf.most host_belongs
-            (kept_belongs n d lt).fits);
+        (kept_belongs n d lt).fits);
   }
 
   child_zero : occurs 0 (tree_at old child) ≡ 0

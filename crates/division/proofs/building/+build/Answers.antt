@@ -1,6 +1,6 @@
 use Rattle.std.proofs.Common.{◌≡◌, ◌<◌, ◌+◌, length, map, take, ap, sym, ◌∙◌, subst, arith, slice_get, Some, IfOk}
 use Rattle.std.proofs.lemmas.Option.{slice_get-get_or}
-use Rattle.labelled_trees.specs.Trees.{leaf, node, row, graft}
+use Rattle.labelled_trees.specs.Trees.{leaf, graft}
 use Rattle.labelled_trees.specs.Leaves.{occurs}
 use Rattle.labelled_trees.proofs.Leaves.{occurs_self}
 use Rattle.tree_store.specs.Stores.{tree_at, AddsSubtrees}
@@ -8,7 +8,7 @@ use Rattle.tree_store.proofs.Subtrees.{AreInputs, adds_both}
 use Rattle.shuffle_sums.specs.Shelves.{HasLeavesAmong}
 use Rattle.division.specs.Parts.{built, part_at}
 use Rattle.division.proofs.LaidParts.{get_or_any, part_read}
-use Rattle.division.proofs.Builds.{IsBuilding, building_more, copied_root, input_lower, next_low, next_room, next_held, next_belongs, next_built, added_so_far, vertex_is}
+use Rattle.division.proofs.Builds.{building_more, copied_root, input_lower, next_low, next_room, next_held, next_belongs, next_built, added_so_far, vertex_is}
 use Rattle.division.proofs.building.+build.Goals as goal
 
 pub build-requires : goal.build-requires
@@ -18,8 +18,8 @@ build-requires t c =
     let root = copied_root c.store.result.now old c.args.tree c.in-Node.label c.in-Node.inputs.now ts c.store.ensures.store (c.as_slice-input-items.ensures ∙ c.in_ok-inputs-in-Node.ensures.ok) c.in-Node.ensures.root in
     let low = input_lower old c.args.tree c.in-Node.label ts c.args.parts.now root c.requires.tree c.requires.room c.requires.held c.loop-input.input-index c.input-item.result c.loop-input-test.true c.input-item.is in
     let belongs = next_belongs old c.args.tree c.in-Node.label ts c.args.parts.now root c.requires.tree c.requires.room c.requires.held c.loop-input.input-index c.input-item.result c.loop-input-test.true c.input-item.is c.loop-input.shelf.labels c.loop-input.shelf.most c.loop-input.invariant.so_far.added.0 c.loop-input.shelf.trees c.loop-input.invariant.so_far.added.1
-        (subst (λ ls. HasLeavesAmong ls c.loop-input.shelf.most (built old c.args.parts.now c.args.tree)) (sym c.loop-input.invariant.keeps.labels)
-            (subst (λ n. HasLeavesAmong c.args.shelf.now.labels n (built old c.args.parts.now c.args.tree)) (sym c.loop-input.invariant.keeps.most) c.requires.belongs)) in (
+    (subst (λ ls. HasLeavesAmong ls c.loop-input.shelf.most (built old c.args.parts.now c.args.tree)) (sym c.loop-input.invariant.keeps.labels)
+    (subst (λ n. HasLeavesAmong c.args.shelf.now.labels n (built old c.args.parts.now c.args.tree)) (sym c.loop-input.invariant.keeps.most) c.requires.belongs)) in (
       omega (arith, low),
       (next_low old c.args.tree c.in-Node.label ts c.args.parts.now root c.requires.tree c.requires.room c.requires.held c.loop-input.input-index c.input-item.result c.loop-input-test.true c.input-item.is c.loop-input.invariant.so_far.added.0 c.loop-input.shelf.trees c.loop-input.invariant.so_far.added.1, (next_room old c.args.tree c.in-Node.label ts c.args.parts.now root c.requires.tree c.requires.room c.requires.held c.loop-input.input-index c.input-item.result c.loop-input-test.true c.input-item.is c.loop-input.invariant.so_far.added.0 c.loop-input.shelf.trees c.loop-input.invariant.so_far.added.1, (next_held old c.args.tree c.in-Node.label ts c.args.parts.now root c.requires.tree c.requires.room c.requires.held c.loop-input.input-index c.input-item.result c.loop-input-test.true c.input-item.is c.loop-input.invariant.so_far.added.0 c.loop-input.shelf.trees c.loop-input.invariant.so_far.added.1, belongs))),
     )

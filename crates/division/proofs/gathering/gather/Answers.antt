@@ -17,12 +17,11 @@ each-preserved c =
     let there = subst (StandAt c.meet_all.new.ids c.in_ok-at.at) c.as_slice-in-each.ensures c.in_ok-at.ensures.there in
     let old = grown_held c.each.shelf.trees c.step.new.shelf.trees c.step.ensures.keeps.trees c.each.ids c.each.invariant.1.held in
     let tail = step_held c.step.new.shelf.trees c.args.reducers.now c.step.new.found x c.in_ok-tail.tail c.in_ok-tail.ensures.step in
-    let held = c.meet_all.ensures.held (length c.step.new.shelf.trees) old (subst (All (λ i. i < length c.step.new.shelf.trees)) (sym c.as_slice-in-each.ensures) tail) in
-    (
+    let held = c.meet_all.ensures.held (length c.step.new.shelf.trees) old (subst (All (λ i. i < length c.step.new.shelf.trees)) (sym c.as_slice-in-each.ensures) tail) in (
       (keeps_both c.args.shelf.now c.each.shelf c.step.new.shelf c.each.invariant.0.0 c.step.ensures.keeps, c.step.ensures.keys ∙ c.each.invariant.0.1),
       gathering_more c.args.shelf.now.trees c.each.shelf.trees c.step.new.shelf.trees c.args.reducers.now c.args.groups.now c.args.found.now c.each.found c.step.new.found c.each.kept c.step.new.kept c.each.places c.meet_all.new.places
-    c.args.ids.now c.each.ids c.meet_all.new.ids c.each.tails c.each.invariant.1 c.step.ensures.found c.step.ensures.working c.step.ensures.keeps.trees c.meet_all.ensures.places c.meet_all.ensures.longer
-    x c.in_ok-tail.tail c.in_ok-at.at c.push.new.self lt stands c.in_ok-push.ensures.ok c.in_ok-tail.ensures.step there held (subst (CameFrom c.each.ids c.meet_all.new.ids) c.as_slice-in-each.ensures c.meet_all.ensures.only),
+          c.args.ids.now c.each.ids c.meet_all.new.ids c.each.tails c.each.invariant.1 c.step.ensures.found c.step.ensures.working c.step.ensures.keeps.trees c.meet_all.ensures.places c.meet_all.ensures.longer
+          x c.in_ok-tail.tail c.in_ok-at.at c.push.new.self lt stands c.in_ok-push.ensures.ok c.in_ok-tail.ensures.step there held (subst (CameFrom c.each.ids c.meet_all.new.ids) c.as_slice-in-each.ensures c.meet_all.ensures.only),
     )
 
 pub meet_all-requires-clause-low : goal.meet_all-requires-clause-low

@@ -1,4 +1,4 @@
-use Rattle.std.proofs.Common.{◌≡◌, ◌<◌, ◌≤◌, ℕ, List, sym, subst, refl, length, arith, slice_index}
+use Rattle.std.proofs.Common.{◌<◌, ◌≤◌, ℕ, List, sym, subst, refl, length, arith, slice_index}
 use Rattle.std.specs.List.{All}
 use Rattle.std.proofs.lemmas.Result.{on_ok_weaker}
 use Rattle.labelled_trees.specs.Trees.{Tree}
