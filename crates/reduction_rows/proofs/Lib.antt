@@ -1,4 +1,5 @@
 pub mod FitPlaces
 pub mod LeadingTerms
 pub mod LoneElement
+pub mod ShelvedLists
 pub mod TermLists
