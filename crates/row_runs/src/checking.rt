@@ -9,10 +9,11 @@ use certificate_text::{Block, Step};
 use presentation_text::Document;
 use rows::{RowFail, end_line};
 use sqlite_items::Items;
-use std::alloc::Global;
+use std::alloc::{AllocError, Global};
+use symmetric_sums::Instance;
 
 // Whether the element of a step fits, and the coefficients of its uses are residues.
-fn is_ready(document: &Document, step: &Step) -> bool
+fn is_checkable_step(document: &Document, step: &Step) -> bool
     ensures { IsTrue result → IsCheckableStep document.now.field document.now.gens step.now }
 {
     for item in step.uses.as_slice() {
@@ -23,11 +24,12 @@ fn is_ready(document: &Document, step: &Step) -> bool
     step.element.fits(document.field, &document.gens)
 }
 
-fn are_ready(document: &Document, steps: &[Step]) -> bool
+// The same of each step.
+fn are_checkable(document: &Document, steps: &[Step]) -> bool
     ensures { IsTrue result → AreCheckable document.now.field document.now.gens steps.now }
 {
     for step in steps {
-        if !is_ready(document, step) {
+        if !is_checkable_step(document, step) {
             return false;
         }
     }
@@ -41,23 +43,39 @@ fn checked(alloc: Global, document: &Document, block: &Block) -> Result<CheckAns
         return Err(RowFail::Refused);
     }
     let fits = block.want.fits(document.field, &document.gens);
-    if !fits || !are_ready(document, block.steps.as_slice()) {
+    if !fits || !are_checkable(document, block.steps.as_slice()) {
         return Err(RowFail::Refused);
     }
     Ok(check_block(alloc, document, block)?)
 }
 
-// The block of one step with one use, whose element is that of the question and is wanted.
-fn block_of(alloc: Global, document: &Document, words: &[String]) -> Result<Block, RowFail> {
+// The instance that words name, alone.
+fn uses_of(alloc: Global, words: &[String]) -> Result<Items<Instance>, RowFail> {
     let mut uses = Items::new(alloc);
     uses.push(instance_of(alloc, words)?)?;
+    Ok(uses)
+}
+
+// A step with that use, alone, whose element is that of the question.
+fn steps_of(alloc: Global, document: &Document, words: &[String]) -> Result<Items<Step>, RowFail> {
+    let uses = uses_of(alloc, words)?;
     let element = copy(alloc, document, 0)?;
     let mut steps = Items::new(alloc);
     steps.push(Step { element, uses })?;
+    Ok(steps)
+}
+
+// The block of that step, whose element is wanted.
+fn block_of(alloc: Global, document: &Document, words: &[String]) -> Result<Block, RowFail> {
     Ok(Block {
+        steps: steps_of(alloc, document, words)?,
         want: copy(alloc, document, 0)?,
-        steps,
     })
+}
+
+// Ends a line by the answer.
+fn end_answer(alloc: Global, answer: CheckAnswer, out: &mut Vec<u8>) -> Result<(), AllocError> {
+    end_line(format!(in alloc; "{answer:?}")?.as_str(), out)
 }
 
 /// Answers the call of `certificate_check`, for the instance that words name. False where it has none of this name.
@@ -71,8 +89,7 @@ pub fn answer(
     if name != "check_block" {
         return Ok(false);
     }
-    let block = block_of(alloc, document, words)?;
-    let found = checked(alloc, document, &block)?;
-    end_line(format!(in alloc; "{found:?}")?.as_str(), out)?;
+    let found = checked(alloc, document, &block_of(alloc, document, words)?)?;
+    end_answer(alloc, found, out)?;
     Ok(true)
 }

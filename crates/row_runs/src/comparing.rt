@@ -1,11 +1,10 @@
-use path_orders::{Blocks, LeafPath, Path, PathShort, TreeOrder, WeightPath};
+use crate::sorting::{by_weight, put_block};
+use path_orders::{Blocks, LeafPath, Path, PathShort, TreeOrder};
 use presentation_text::{Document, OrderName, write_number};
-use rows::{RowFail, end_line, shuffle_of, shuffles_of, write_next};
+use rows::{RowFail, end_line, shuffle_of, shuffles_of, write_next, write_text};
 use shuffle_passage::labels_of;
-use shuffle_sums::flat_key;
 use shuffle_trees::{Key, Labels, STree};
-use sqlite_items::Items;
-use std::alloc::Global;
+use std::alloc::{AllocError, Global};
 use std::cmp::Ordering;
 use tree_store::Store;
 
@@ -37,6 +36,19 @@ fn compared<O: TreeOrder>(
     }
 }
 
+// Compares two trees by their keys.
+fn keys_compared<O: TreeOrder>(
+    alloc: Global,
+    order: &O,
+    labels: &Labels,
+    a: &STree,
+    b: &STree,
+) -> Result<Ordering, AllocError> {
+    let key = Key::of(alloc, a)?;
+    let other = Key::of(alloc, b)?;
+    Ok(order.compare_keys(labels, &key, &other))
+}
+
 // Writes how a tree stands to each of the others: by the trees, and behind it by their keys.
 fn compare_with<O: TreeOrder>(
     alloc: Global,
@@ -46,15 +58,14 @@ fn compare_with<O: TreeOrder>(
     others: &[STree],
     out: &mut Vec<u8>,
 ) -> Result<(), RowFail> {
-    let key = Key::of(alloc, one)?;
     for (at, other) in others.iter().enumerate() {
-        let trees = compared(order, labels, one, other)?;
-        let keys = order.compare_keys(labels, &key, &Key::of(alloc, other)?);
         if at > 0 {
             out.push(b' ')?;
         }
-        out.extend_from_slice(ordering_text(trees).as_bytes())?;
-        out.extend_from_slice(ordering_text(keys).as_bytes())?;
+        let trees = compared(order, labels, one, other)?;
+        write_text(ordering_text(trees), out)?;
+        let keys = keys_compared(alloc, order, labels, one, other)?;
+        write_text(ordering_text(keys), out)?;
     }
     Ok(end_line("", out)?)
 }
@@ -74,6 +85,24 @@ fn compare_all<O: TreeOrder>(
 }
 
 // The same by the document's order.
+fn compare_by(
+    alloc: Global,
+    document: &Document,
+    labels: &Labels,
+    trees: &[STree],
+    out: &mut Vec<u8>,
+) -> Result<(), RowFail> {
+    match document.order {
+        OrderName::Path => compare_all(alloc, &Path {}, labels, trees, out),
+        OrderName::PathShort => compare_all(alloc, &PathShort {}, labels, trees, out),
+        OrderName::LeafPath => compare_all(alloc, &LeafPath {}, labels, trees, out),
+        OrderName::WeightPath => {
+            compare_all(alloc, &by_weight(alloc, document)?, labels, trees, out)
+        }
+    }
+}
+
+// The same of the trees that words spell, over the labels of the document.
 fn compare(
     alloc: Global,
     document: &Document,
@@ -82,35 +111,7 @@ fn compare(
 ) -> Result<(), RowFail> {
     let labels = labels_of(alloc, &document.gens)?;
     let trees = shuffles_of(alloc, words)?;
-    let trees = trees.as_slice();
-    match document.order {
-        OrderName::Path => compare_all(alloc, &Path {}, &labels, trees, out),
-        OrderName::PathShort => compare_all(alloc, &PathShort {}, &labels, trees, out),
-        OrderName::LeafPath => compare_all(alloc, &LeafPath {}, &labels, trees, out),
-        OrderName::WeightPath => {
-            let weights = Items::from_slice(alloc, document.weights.as_slice())?;
-            compare_all(alloc, &WeightPath::new(weights), &labels, trees, out)
-        }
-    }
-}
-
-// Puts the tree, with at most 16 leaves, into the store and writes its block.
-fn put_block<O: TreeOrder>(
-    alloc: Global,
-    store: &mut Store,
-    order: &O,
-    tree: &STree,
-    blocks: &mut Blocks,
-) -> Result<(), RowFail> {
-    let Some(leaves) = tree.arity() else {
-        return Err(RowFail::Refused);
-    };
-    if leaves > 16 {
-        return Err(RowFail::Refused);
-    }
-    let id = store.put(alloc, tree)?;
-    order.write_block(&flat_key(store, id), blocks)?;
-    Ok(())
+    compare_by(alloc, document, &labels, trees.as_slice(), out)
 }
 
 // Writes the number of a block's numbers, and these.
@@ -123,6 +124,14 @@ fn end_block(block: &[u16], out: &mut Vec<u8>) -> Result<(), RowFail> {
     Ok(end_line("", out)?)
 }
 
+// Writes each block in a line.
+fn end_blocks(blocks: &Blocks, out: &mut Vec<u8>) -> Result<(), RowFail> {
+    for at in 0..blocks.len() {
+        end_block(blocks.get(at), out)?;
+    }
+    Ok(())
+}
+
 // Writes the block of the tree that a word spells.
 fn write_block<O: TreeOrder>(
     alloc: Global,
@@ -130,19 +139,10 @@ fn write_block<O: TreeOrder>(
     word: &String,
     out: &mut Vec<u8>,
 ) -> Result<(), RowFail> {
-    let mut store = Store::new(alloc);
+    let tree = shuffle_of(alloc, word)?;
     let mut blocks = Blocks::new(alloc);
-    put_block(
-        alloc,
-        &mut store,
-        order,
-        &shuffle_of(alloc, word)?,
-        &mut blocks,
-    )?;
-    for at in 0..blocks.len() {
-        end_block(blocks.get(at), out)?;
-    }
-    Ok(())
+    put_block(alloc, &mut Store::new(alloc), order, &tree, &mut blocks)?;
+    end_blocks(&blocks, out)
 }
 
 // The block of a tree by the document's order.
@@ -159,10 +159,7 @@ fn block(
         OrderName::Path => write_block(alloc, &Path {}, word, out),
         OrderName::PathShort => write_block(alloc, &PathShort {}, word, out),
         OrderName::LeafPath => write_block(alloc, &LeafPath {}, word, out),
-        OrderName::WeightPath => {
-            let weights = Items::from_slice(alloc, document.weights.as_slice())?;
-            write_block(alloc, &WeightPath::new(weights), word, out)
-        }
+        OrderName::WeightPath => write_block(alloc, &by_weight(alloc, document)?, word, out),
     }
 }
 

@@ -1,11 +1,12 @@
 ghost use Rattle.std.specs.Prelude.{ℕ, IfOk};
 ghost use Rattle.labelled_trees.specs.Trees.{IsNode};
 ghost use Rattle.shuffle_insertions.specs.ShuffleTrees.{IsShuffle};
+ghost use Rattle.shuffle_places.specs.Connected.{IsConnected};
 
 use labelled_trees::Tree;
 use presentation_text::Document;
-use rows::{RowFail, shuffle_tree, vertices_of, write_line, write_plain};
-use shuffle_trees::STree;
+use rows::{RowFail, end_line, end_tree, shuffle_tree, vertices_of, write_line};
+use shuffle_trees::{Frame, STree};
 use std::alloc::{AllocError, Global};
 use tree_divisors::{Place, first_place, frame_at, places_of, restrict};
 
@@ -25,7 +26,12 @@ fn pattern(alloc: Global, document: &Document) -> Result<STree, RowFail>
 pub fn all(alloc: Global, document: &Document, out: &mut Vec<u8>) -> Result<(), RowFail> {
     let host = shuffle_tree(alloc, document, 1)?;
     let found = places_of(alloc, &pattern(alloc, document)?, &host)?;
-    for place in found.as_slice() {
+    Ok(write_places(found.as_slice(), out)?)
+}
+
+// Writes each place in a line.
+fn write_places(places: &[Place], out: &mut Vec<u8>) -> Result<(), AllocError> {
+    for place in places {
         write_line(place.vertices(), out)?;
     }
     Ok(())
@@ -35,10 +41,9 @@ pub fn all(alloc: Global, document: &Document, out: &mut Vec<u8>) -> Result<(), 
 pub fn first(alloc: Global, document: &Document, out: &mut Vec<u8>) -> Result<(), RowFail> {
     let host = shuffle_tree(alloc, document, 1)?;
     match first_place(alloc, &pattern(alloc, document)?, &host)? {
-        Some(place) => write_line(place.vertices(), out)?,
-        None => out.extend_from_slice(b"none\n")?,
+        Some(place) => Ok(write_line(place.vertices(), out)?),
+        None => Ok(end_line("none", out)?),
     }
-    Ok(())
 }
 
 /// Of the place with the given vertices in the tree, each in a line: the divisor, the context and the inputs; `none` where it is none.
@@ -50,21 +55,25 @@ pub fn cut(
 ) -> Result<(), RowFail> {
     let host = shuffle_tree(alloc, document, 0)?;
     let vertices = vertices_of(alloc, numbers)?;
-    let Some(place) = Place::of(alloc, &host, vertices.as_slice())? else {
-        out.extend_from_slice(b"none\n")?;
-        return Ok(());
-    };
-    write_tree_line(restrict(alloc, &host, &place)?.shape(), out)?;
-    let frame = frame_at(alloc, &host, &place)?;
-    write_tree_line(frame.context(), out)?;
-    for input in frame.inputs() {
-        write_tree_line(input.shape(), out)?;
+    match Place::of(alloc, &host, vertices.as_slice())? {
+        Some(place) => write_cut(alloc, &host, &place, out),
+        None => Ok(end_line("none", out)?),
     }
-    Ok(())
 }
 
-fn write_tree_line(tree: &Tree, out: &mut Vec<u8>) -> Result<(), AllocError> {
-    write_plain(tree, out)?;
-    out.push(b'\n')?;
+// Writes in a line each the divisor at a place, and the context and the inputs around it.
+fn write_cut(alloc: Global, host: &STree, place: &Place, out: &mut Vec<u8>) -> Result<(), RowFail>
+    requires place { IsConnected host.now place.now }
+{
+    end_tree(restrict(alloc, host, place)?.shape(), out)?;
+    write_frame(&frame_at(alloc, host, place)?, out)
+}
+
+// Writes the context and the inputs of a frame, each in a line.
+fn write_frame(frame: &Frame, out: &mut Vec<u8>) -> Result<(), RowFail> {
+    end_tree(frame.context(), out)?;
+    for input in frame.inputs() {
+        end_tree(input.shape(), out)?;
+    }
     Ok(())
 }

@@ -1,9 +1,15 @@
+ghost use Rattle.labelled_trees.specs.Meaning.{tree_of};
+ghost use Rattle.symmetric_sums.specs.Terms.{FitsOver};
+ghost use Rattle.symmetric_trees.specs.Trees.{Fits};
+
 use presentation_text::{
-    DocKind, Document, PartFail, Token, element_at, print_sum, print_tree, tokens, tree_at,
-    write_number,
+    DocKind, Document, ElementAt, PartFail, Token, element_at, print_sum, print_tree, tokens,
+    tree_at, write_number,
 };
-use rows::{RowFail, end_line, end_number, small_number_of, write_before};
+use prime_field::Field;
+use rows::{RowFail, end_line, small_number_of, write_text};
 use std::alloc::{AllocError, Global};
+use symmetric_trees::{GenTable, Tree};
 
 // The line of these words.
 fn line_of(alloc: Global, words: &[String]) -> Result<Vec<u8>, AllocError> {
@@ -43,10 +49,39 @@ fn split(alloc: Global, words: &[String], out: &mut Vec<u8>) -> Result<(), RowFa
 }
 
 // Ends a line by the token that is refused, and the kind.
-fn end_fault(alloc: Global, token: usize, kind: DocKind, out: &mut Vec<u8>) -> Result<(), RowFail> {
+fn end_fault(
+    alloc: Global,
+    token: usize,
+    kind: DocKind,
+    out: &mut Vec<u8>,
+) -> Result<(), AllocError> {
     write_number(token as u64, out)?;
     out.push(b' ')?;
-    Ok(end_line(format!(in alloc; "{kind:?}")?.as_str(), out)?)
+    end_line(format!(in alloc; "{kind:?}")?.as_str(), out)
+}
+
+// The same of a part that isn't read.
+fn end_fail(alloc: Global, fail: PartFail, out: &mut Vec<u8>) -> Result<(), RowFail> {
+    match fail {
+        PartFail::At { token, kind } => Ok(end_fault(alloc, token, kind, out)?),
+        PartFail::NoMemory => Err(RowFail::NoMemory),
+    }
+}
+
+// Ends a line by the place behind a tree, and the tree.
+fn end_read_tree(
+    alloc: Global,
+    table: &GenTable,
+    tree: &Tree,
+    next: usize,
+    out: &mut Vec<u8>,
+) -> Result<(), RowFail>
+    requires fits { Fits table.now (tree_of tree.now) }
+{
+    write_number(next as u64, out)?;
+    write_text(": ", out)?;
+    out.extend_from_slice(print_tree(alloc, table, tree)?.as_slice())?;
+    Ok(end_line("", out)?)
 }
 
 // Reads the tree at the front of a line, whose leaves are free where the first word says so: the place behind it, and the tree.
@@ -62,22 +97,37 @@ fn tree(
     let line = line_of(alloc, behind)?;
     let tokens = tokens(alloc, &line)?;
     let table = &document.gens;
-    match tree_at(
-        alloc,
-        table,
-        tokens.as_slice(),
-        0,
-        leaves.as_str() == "free",
-    ) {
-        Ok((tree, next)) => {
-            write_number(next as u64, out)?;
-            out.extend_from_slice(b": ")?;
-            out.extend_from_slice(print_tree(alloc, table, &tree)?.as_slice())?;
-            Ok(end_line("", out)?)
-        }
-        Err(PartFail::At { token, kind }) => end_fault(alloc, token, kind, out),
-        Err(PartFail::NoMemory) => Err(RowFail::NoMemory),
+    let is_free = leaves.as_str() == "free";
+    match tree_at(alloc, table, tokens.as_slice(), 0, is_free) {
+        Ok((tree, next)) => end_read_tree(alloc, table, &tree, next, out),
+        Err(fail) => end_fail(alloc, fail, out),
     }
+}
+
+// Writes an arity, or `-` where there is none.
+fn write_arity(arity: Option<u8>, out: &mut Vec<u8>) -> Result<(), AllocError> {
+    match arity {
+        Some(arity) => write_number(u64::from(arity), out),
+        None => write_text("-", out),
+    }
+}
+
+// Ends a line by the place behind an element, its arity, and the element.
+fn end_read_element(
+    alloc: Global,
+    field: Field,
+    table: &GenTable,
+    found: &ElementAt,
+    out: &mut Vec<u8>,
+) -> Result<(), RowFail>
+    requires fits { FitsOver field table.now found.now.sum }
+{
+    write_number(found.next as u64, out)?;
+    out.push(b' ')?;
+    write_arity(found.arity, out)?;
+    write_text(": ", out)?;
+    out.extend_from_slice(print_sum(alloc, field, table, &found.sum)?.as_slice())?;
+    Ok(end_line("", out)?)
 }
 
 // The arity that a word asks for; `-` asks for none.
@@ -106,20 +156,8 @@ fn element(
     let field = document.field;
     let table = &document.gens;
     match element_at(alloc, field, table, tokens.as_slice(), 0, least, arity) {
-        Ok(found) => {
-            write_number(found.next as u64, out)?;
-            out.push(b' ')?;
-            match found.arity {
-                Some(arity) => write_number(u64::from(arity), out)?,
-                None => out.push(b'-')?,
-            }
-            out.extend_from_slice(b": ")?;
-            let text = print_sum(alloc, field, table, &found.sum)?;
-            out.extend_from_slice(text.as_slice())?;
-            Ok(end_line("", out)?)
-        }
-        Err(PartFail::At { token, kind }) => end_fault(alloc, token, kind, out),
-        Err(PartFail::NoMemory) => Err(RowFail::NoMemory),
+        Ok(found) => end_read_element(alloc, field, table, &found, out),
+        Err(fail) => end_fail(alloc, fail, out),
     }
 }
 

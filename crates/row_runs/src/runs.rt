@@ -1,5 +1,5 @@
 use crate::calls;
-use operad_run::{check_run, operad_run};
+use operad_run::{Status, check_run, operad_run};
 use outside_io::{MemorySink, MemorySource};
 use presentation_text::write_number;
 use rows::{Program, RowFail};
@@ -58,6 +58,45 @@ fn text_behind(alloc: Global, comment: u32, text: &[u8]) -> Result<Vec<u8>, Allo
     Ok(bytes)
 }
 
+// The source of a run.
+fn source_of(alloc: Global, outside: Outside, text: &[u8]) -> Result<MemorySource, AllocError> {
+    let bytes = text_behind(alloc, outside.comment, text)?;
+    let failing = [outside.failing_read].to_vec(alloc)?;
+    let chunk = outside.chunk.max(1) as usize;
+    Ok(MemorySource::new(bytes, chunk, failing))
+}
+
+// The sink of a run.
+fn sink_of(alloc: Global, outside: Outside) -> Result<MemorySink, AllocError> {
+    let failing = [outside.failing_write].to_vec(alloc)?;
+    let chunk = outside.chunk.max(1) as usize;
+    MemorySink::new(alloc, ROOM, chunk, failing)
+}
+
+// The status of a run of the program that the first word names.
+fn status_of(
+    alloc: Global,
+    words: &[String],
+    source: &mut MemorySource,
+    sink: &mut MemorySink,
+) -> Status {
+    match words {
+        [program, given @ ..] if program.as_str() == "operad_check" => {
+            check_run(alloc, given, source, sink)
+        }
+        [_, given @ ..] => operad_run(alloc, given, source, sink),
+        [] => operad_run(alloc, words, source, sink),
+    }
+}
+
+// Writes the status of a run, and what the run wrote.
+fn write_run(status: Status, bytes: &[u8], out: &mut Vec<u8>) -> Result<(), AllocError> {
+    out.extend_from_slice(b"> ")?;
+    write_number(u64::from(status.code()), out)?;
+    out.push(b'\n')?;
+    out.extend_from_slice(bytes)
+}
+
 // What a run of a program writes on a text, with its status before it. The first word names the program.
 fn run(
     alloc: Global,
@@ -66,27 +105,10 @@ fn run(
     text: &[u8],
     out: &mut Vec<u8>,
 ) -> Result<(), AllocError> {
-    let chunk = outside.chunk.max(1) as usize;
-    let bytes = text_behind(alloc, outside.comment, text)?;
-    let failing_reads = [outside.failing_read].to_vec(alloc)?;
-    let failing_writes = [outside.failing_write].to_vec(alloc)?;
-    let mut source = MemorySource::new(bytes, chunk, failing_reads);
-    let mut sink = MemorySink::new(alloc, ROOM, chunk, failing_writes)?;
-    let status = match words {
-        [program, given @ ..] => {
-            if program.as_str() == "operad_check" {
-                check_run(alloc, given, &mut source, &mut sink)
-            } else {
-                operad_run(alloc, given, &mut source, &mut sink)
-            }
-        }
-        [] => operad_run(alloc, words, &mut source, &mut sink),
-    };
-    out.extend_from_slice(b"> ")?;
-    write_number(u64::from(status.code()), out)?;
-    out.push(b'\n')?;
-    out.extend_from_slice(sink.bytes())?;
-    Ok(())
+    let mut source = source_of(alloc, outside, text)?;
+    let mut sink = sink_of(alloc, outside)?;
+    let status = status_of(alloc, words, &mut source, &mut sink);
+    write_run(status, sink.bytes(), out)
 }
 
 /// The runs of programs, and the calls.

@@ -3,21 +3,21 @@ ghost use Rattle.modular_sums.specs.Lists.{Distinct};
 ghost use Rattle.shuffle_sums.specs.Sorting.{AreOfOneArity};
 
 use path_orders::{Blocks, LeafPath, Path, PathShort, TreeOrder, WeightPath};
-use presentation_text::{Document, OrderName, write_number};
-use rows::{RowFail, shuffle_tree, write_next};
+use presentation_text::{Document, OrderName};
+use rows::{RowFail, end_line, end_number, shuffle_tree, write_next};
 use shuffle_passage::labels_of;
 use shuffle_sums::{flat_key, put_all, sort_blocks, sorted};
 use shuffle_trees::{Labels, STree, all_trees};
 use sqlite_items::Items;
-use std::alloc::Global;
+use std::alloc::{AllocError, Global};
 use std::cmp::Ordering;
 use tree_store::{Store, TreeId};
 
 // The most leaves of a tree that has a flat key.
 const MOST_LEAVES: u8 = 16;
 
-// Puts the tree into the store and writes its block.
-fn write_block<O: TreeOrder>(
+/// Puts the tree into the store and writes its block; `Refused` where it has more than 16 leaves.
+pub fn put_block<O: TreeOrder>(
     alloc: Global,
     store: &mut Store,
     order: &O,
@@ -27,31 +27,50 @@ fn write_block<O: TreeOrder>(
     match tree.arity() {
         Some(leaves) if leaves <= MOST_LEAVES => {
             let id = store.put(alloc, tree)?;
-            order.write_block(&flat_key(store, id), blocks)?;
-            Ok(())
+            Ok(order.write_block(&flat_key(store, id), blocks)?)
         }
         _ => Err(RowFail::Refused),
     }
 }
 
-// The places of the trees once they are sorted by their blocks.
+// Writes the blocks of the trees.
+fn put_blocks<O: TreeOrder>(
+    alloc: Global,
+    document: &Document,
+    store: &mut Store,
+    order: &O,
+    blocks: &mut Blocks,
+) -> Result<(), RowFail> {
+    for at in 0..document.asks.len() {
+        put_block(
+            alloc,
+            store,
+            order,
+            &shuffle_tree(alloc, document, at)?,
+            blocks,
+        )?;
+    }
+    Ok(())
+}
+
+// Writes places in a line, each with a blank before it.
+fn end_places(places: &[usize], out: &mut Vec<u8>) -> Result<(), AllocError> {
+    for place in places {
+        write_next(*place as u64, out)?;
+    }
+    end_line("", out)
+}
+
+// Writes the places of the trees once they are sorted by their blocks.
 fn by_blocks<O: TreeOrder>(
     alloc: Global,
     document: &Document,
     order: &O,
     out: &mut Vec<u8>,
 ) -> Result<(), RowFail> {
-    let mut store = Store::new(alloc);
     let mut blocks = Blocks::new(alloc);
-    for at in 0..document.asks.len() {
-        let tree = shuffle_tree(alloc, document, at)?;
-        write_block(alloc, &mut store, order, &tree, &mut blocks)?;
-    }
-    for place in sort_blocks(alloc, &blocks)?.as_slice() {
-        write_next(*place as u64, out)?;
-    }
-    out.push(b'\n')?;
-    Ok(())
+    put_blocks(alloc, document, &mut Store::new(alloc), order, &mut blocks)?;
+    Ok(end_places(sort_blocks(alloc, &blocks)?.as_slice(), out)?)
 }
 
 /// Sorts the trees by their blocks in the order of the document, and writes their places, counted from 0.
@@ -64,8 +83,8 @@ pub fn blocks(alloc: Global, document: &Document, out: &mut Vec<u8>) -> Result<(
     }
 }
 
-// The weights of the labels, where each generator has one label.
-fn by_weight(alloc: Global, document: &Document) -> Result<WeightPath, RowFail> {
+/// The order by the weights of the labels, where each generator has one label.
+pub fn by_weight(alloc: Global, document: &Document) -> Result<WeightPath, RowFail> {
     let weights = Items::from_slice(alloc, document.weights.as_slice())?;
     Ok(WeightPath::new(weights))
 }
@@ -96,6 +115,47 @@ fn is_below<O: TreeOrder>(order: &O, labels: &Labels, one: &STree, other: &STree
     }
 }
 
+// The places of all trees of an arity once these are sorted.
+fn sorted_places<O: TreeOrder>(
+    alloc: Global,
+    order: &O,
+    labels: &Labels,
+    arity: u8,
+) -> Result<Vec<usize>, RowFail>
+    requires { arity ≤ 16 }
+{
+    let mut store = Store::new(alloc);
+    let ids = listing(alloc, &mut store, labels, arity)?;
+    Ok(sorted(alloc, &store, order, ids.as_slice())?)
+}
+
+// Whether the order has the tree at a place below that at the next one; false where there are not both.
+fn is_rising<O: TreeOrder>(
+    order: &O,
+    labels: &Labels,
+    trees: &[STree],
+    place: usize,
+    next: usize,
+) -> bool {
+    match (trees.get(place), trees.get(next)) {
+        (Some(one), Some(other)) => is_below(order, labels, one, other),
+        _ => false,
+    }
+}
+
+// At how many of the places the tree stands above that at the place before.
+fn rises<O: TreeOrder>(order: &O, labels: &Labels, trees: &[STree], places: &[usize]) -> u64 {
+    let mut count = 0u64;
+    let mut before = trees.len();
+    for place in places {
+        if is_rising(order, labels, trees, before, *place) {
+            count = count.saturating_add(1);
+        }
+        before = *place;
+    }
+    count
+}
+
 // How many trees stand, once all of an arity are sorted, above the one before them.
 fn count_rising<O: TreeOrder>(
     alloc: Global,
@@ -105,22 +165,21 @@ fn count_rising<O: TreeOrder>(
 ) -> Result<u64, RowFail>
     requires { arity ≤ 16 }
 {
-    let mut store = Store::new(alloc);
-    let ids = listing(alloc, &mut store, labels, arity)?;
+    let places = sorted_places(alloc, order, labels, arity)?;
     let trees = all_trees(alloc, labels, arity)?;
-    let mut count = 0u64;
-    let mut before = None;
-    for at in &sorted(alloc, &store, order, ids.as_slice())? {
-        let here = trees.as_slice().get(*at);
-        if let Some(one) = before
-            && let Some(other) = here
-            && is_below(order, labels, one, other)
-        {
-            count = count.saturating_add(1);
-        }
-        before = here;
+    Ok(rises(order, labels, trees.as_slice(), &places))
+}
+
+// The same by the document's order.
+fn rising_by(alloc: Global, document: &Document, labels: &Labels, arity: u8) -> Result<u64, RowFail>
+    requires { arity ≤ 16 }
+{
+    match document.order {
+        OrderName::Path => count_rising(alloc, &Path {}, labels, arity),
+        OrderName::PathShort => count_rising(alloc, &PathShort {}, labels, arity),
+        OrderName::LeafPath => count_rising(alloc, &LeafPath {}, labels, arity),
+        OrderName::WeightPath => count_rising(alloc, &by_weight(alloc, document)?, labels, arity),
     }
-    Ok(count)
 }
 
 /// Sorts all shuffle trees of the given arity by the document's order, and writes how many of them the order has above the
@@ -136,15 +195,6 @@ pub fn all(
         _ => return Err(RowFail::Refused),
     };
     let labels = labels_of(alloc, &document.gens)?;
-    let count = match document.order {
-        OrderName::Path => count_rising(alloc, &Path {}, &labels, arity)?,
-        OrderName::PathShort => count_rising(alloc, &PathShort {}, &labels, arity)?,
-        OrderName::LeafPath => count_rising(alloc, &LeafPath {}, &labels, arity)?,
-        OrderName::WeightPath => {
-            count_rising(alloc, &by_weight(alloc, document)?, &labels, arity)?
-        }
-    };
-    write_number(count, out)?;
-    out.push(b'\n')?;
-    Ok(())
+    let count = rising_by(alloc, document, &labels, arity)?;
+    Ok(end_number(count, out)?)
 }

@@ -1,33 +1,48 @@
 ghost use Rattle.std.specs.Prelude.{◌<◌, length, IfOk, IfSome};
 
 use presentation_text::{Document, write_number};
-use rows::{RowFail, shuffle_tree, write_next, write_plain};
+use rows::{RowFail, end_tree, shuffle_tree, write_next, write_text};
 use smallvec::SmallVec;
-use std::alloc::Global;
+use std::alloc::{AllocError, Global};
 use tree_store::{NodeView, Store, TreeId};
+
+// A blank, and a label; `-` stands for none.
+fn write_label(label: Option<u16>, out: &mut Vec<u8>) -> Result<(), AllocError> {
+    match label {
+        Some(label) => write_next(u64::from(label), out),
+        None => write_text(" -", out),
+    }
+}
 
 // The id, the label, the least leaf and the number of leaves of a tree of the store, and the tree; `-` stands for no label.
 fn write_held(alloc: Global, store: &Store, id: TreeId, out: &mut Vec<u8>) -> Result<(), RowFail>
     requires held { id < length store.now }
 {
     write_number(id.index() as u64, out)?;
-    match store.label_of(id) {
-        Some(label) => write_next(u64::from(label), out)?,
-        None => out.extend_from_slice(b" -")?,
-    }
+    write_label(store.label_of(id), out)?;
     write_next(u64::from(store.least_leaf(id)), out)?;
     write_next(u64::from(store.leaves(id)), out)?;
     out.push(b' ')?;
-    write_plain(store.tree_of(alloc, id)?.shape(), out)?;
-    out.push(b'\n')?;
-    Ok(())
+    Ok(end_tree(store.tree_of(alloc, id)?.shape(), out)?)
+}
+
+// Puts the tree of the question at a place into the store.
+fn put_question(
+    alloc: Global,
+    store: &mut Store,
+    document: &Document,
+    at: usize,
+) -> Result<TreeId, RowFail>
+    ensures held { IfOk result (λ id. id < length store.new) }
+{
+    Ok(store.put(alloc, &shuffle_tree(alloc, document, at)?)?)
 }
 
 /// Puts the trees of all questions into a store, and writes of each what is held with its id.
 pub fn put(alloc: Global, document: &Document, out: &mut Vec<u8>) -> Result<(), RowFail> {
     let mut store = Store::new(alloc);
     for at in 0..document.asks.len() {
-        let id = store.put(alloc, &shuffle_tree(alloc, document, at)?)?;
+        let id = put_question(alloc, &mut store, document, at)?;
         write_held(alloc, &store, id, out)?;
     }
     Ok(())
@@ -50,6 +65,22 @@ fn relabel(
     Ok(Some(store.vertex(label, inputs)?))
 }
 
+// Writes what is held with the id of that vertex; `Refused` where the tree is a leaf.
+fn write_relabelled(
+    alloc: Global,
+    store: &mut Store,
+    id: TreeId,
+    label: u16,
+    out: &mut Vec<u8>,
+) -> Result<(), RowFail>
+    requires held { id < length store.old }
+{
+    match relabel(alloc, store, id, label)? {
+        Some(again) => write_held(alloc, store, again, out),
+        None => Err(RowFail::Refused),
+    }
+}
+
 /// Puts the tree of the question, and then a vertex with the given label and the inputs of its root: what is held with the
 /// id of each.
 pub fn vertex(
@@ -62,10 +93,7 @@ pub fn vertex(
         return Err(RowFail::Refused);
     };
     let mut store = Store::new(alloc);
-    let id = store.put(alloc, &shuffle_tree(alloc, document, 0)?)?;
+    let id = put_question(alloc, &mut store, document, 0)?;
     write_held(alloc, &store, id, out)?;
-    match relabel(alloc, &mut store, id, (*label % 65536) as u16)? {
-        Some(again) => write_held(alloc, &store, again, out),
-        None => Err(RowFail::Refused),
-    }
+    write_relabelled(alloc, &mut store, id, (*label % 65536) as u16, out)
 }

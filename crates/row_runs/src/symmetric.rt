@@ -6,8 +6,8 @@ use rows::{
 use sqlite_items::Items;
 use std::alloc::Global;
 use symmetric_trees::{
-    GenFail, GenTable, Generator, Name, Part, PartKind, Sign, arity_of, fill, graft, numbered,
-    spelled, spelling_order,
+    GenFail, GenTable, Generator, Name, Part, PartKind, Sign, Tree, arity_of, fill, graft,
+    numbered, spelled, spelling_order,
 };
 
 // The kind of a part that a word names.
@@ -71,6 +71,19 @@ fn end_table(table: &GenTable, out: &mut Vec<u8>) -> Result<(), RowFail> {
     Ok(())
 }
 
+// Writes what adding a generator gives.
+fn write_added(
+    alloc: Global,
+    added: Result<(), GenFail>,
+    out: &mut Vec<u8>,
+) -> Result<(), RowFail> {
+    match added {
+        Ok(()) => Ok(write_text("added", out)?),
+        Err(GenFail::NoMemory) => Err(RowFail::NoMemory),
+        Err(fail) => Ok(write_text(format!(in alloc; "{fail:?}")?.as_str(), out)?),
+    }
+}
+
 // Adds a generator to a copy of the table, and writes what is answered and how many generators there are then.
 fn add(
     alloc: Global,
@@ -79,12 +92,7 @@ fn add(
     out: &mut Vec<u8>,
 ) -> Result<(), RowFail> {
     let mut longer = table.copy(alloc)?;
-    let added = longer.add(alloc, generator_of(alloc, words)?);
-    match added {
-        Ok(()) => write_text("added", out)?,
-        Err(GenFail::NoMemory) => return Err(RowFail::NoMemory),
-        Err(fail) => write_text(format!(in alloc; "{fail:?}")?.as_str(), out)?,
-    }
+    write_added(alloc, longer.add(alloc, generator_of(alloc, words)?), out)?;
     write_next(u64::from(longer.len()), out)?;
     Ok(end_line("", out)?)
 }
@@ -168,6 +176,20 @@ fn grafted(alloc: Global, words: &[String], out: &mut Vec<u8>) -> Result<(), Row
     Ok(end_tree(&graft(alloc, &tree, inputs)?, out)?)
 }
 
+// Ends a line by a context filled with a tree, on which the inputs are grafted.
+fn end_filled(
+    alloc: Global,
+    context: &Tree,
+    tree: &Tree,
+    inputs: &[Tree],
+    out: &mut Vec<u8>,
+) -> Result<(), RowFail> {
+    if !is_within(tree, inputs.len()) {
+        return Err(RowFail::Refused);
+    }
+    Ok(end_tree(&fill(alloc, context, tree, inputs)?, out)?)
+}
+
 // Writes the first tree, a context, filled with the second one, on which the others are grafted.
 fn filled(alloc: Global, words: &[String], out: &mut Vec<u8>) -> Result<(), RowFail> {
     let [context, tree, inputs @ ..] = words else {
@@ -175,13 +197,8 @@ fn filled(alloc: Global, words: &[String], out: &mut Vec<u8>) -> Result<(), RowF
     };
     let context = tree_of(alloc, context)?;
     let tree = tree_of(alloc, tree)?;
-    let given = trees_of(alloc, inputs)?;
-    let inputs = given.as_slice();
-    if !is_within(&tree, inputs.len()) {
-        return Err(RowFail::Refused);
-    }
-    let filled = fill(alloc, &context, &tree, inputs)?;
-    Ok(end_tree(&filled, out)?)
+    let inputs = trees_of(alloc, inputs)?;
+    end_filled(alloc, &context, &tree, inputs.as_slice(), out)
 }
 
 // Writes how the first tree stands to the second one.

@@ -3,7 +3,7 @@ use Rattle.std.specs.List.{All}
 use Rattle.std.proofs.lemmas.List.{take_all}
 use Rattle.std.proofs.lemmas.List.Elements.{All-more}
 use Rattle.symmetric_sums.specs.declared.instance.Instance.{Instance}
-use Rattle.row_runs.proofs.checking.is_ready.Goals as goal
+use Rattle.row_runs.proofs.checking.is_checkable_step.Goals as goal
 
 pub loop-item-preserved : goal.loop-item-preserved
 loop-item-preserved c =
