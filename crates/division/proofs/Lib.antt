@@ -4,6 +4,7 @@ pub mod Coning
 pub mod Elements
 pub mod FirstDividers
 pub mod GrownCones
+pub mod Indexed
 pub mod InputTrees
 pub mod KeptBases
 pub mod KeptLists
@@ -14,6 +15,7 @@ pub mod NewLeads
 pub mod NewTails
 pub mod OverTrees
 pub mod Ranking
+pub mod RootGroups
 pub mod Rowing
 pub mod Ruling
 pub mod TailSteps
