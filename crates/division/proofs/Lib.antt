@@ -5,6 +5,7 @@ pub mod Elements
 pub mod FewIds
 pub mod FirstDividers
 pub mod GrownCones
+pub mod Indexed
 pub mod InputTrees
 pub mod KeptBases
 pub mod KeptLists
@@ -15,6 +16,7 @@ pub mod NewLeads
 pub mod NewTails
 pub mod OverTrees
 pub mod Ranking
+pub mod RootGroups
 pub mod Rowing
 pub mod Ruling
 pub mod TailSteps

@@ -10,4 +10,5 @@ pub mod KeptTails
 pub mod Laws
 pub mod Parts
 pub mod Ranks
+pub mod Roots
 pub mod Rows
