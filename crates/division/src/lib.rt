@@ -1,9 +1,10 @@
 //! Division of sums of shuffle trees by monic elements, over the ids of a shelf.
 //!
 //! `dividing` finds the first element of a list whose leading tree divides a tree, `tails` and `kept` make the trees that a
-//! step from there leads to: they belong to the shelf, so it has room for them. `gathering` collects all trees that steps can reach from given ones; `cones` sorts them and gives
-//! each the rule of its step; `rows` reduces sums over them, with counted and logged steps. `growing` adds an element to what
-//! was gathered. `basis` keeps monic sums with different leading trees, and a `cofactor` records a step.
+//! step from there leads to: they belong to the shelf, so it has room for them. `gathering` collects all trees that steps can
+//! reach from given ones; `cones` sorts them and gives each the rule of its step; `rows` reduces sums over them, with counted
+//! and logged steps. `growing` adds an element to what was gathered. `basis` keeps monic sums with different leading trees,
+//! `index` their positions by root label and arity, and a `cofactor` records a step.
 #![tactic(auto)]
 
 mod basis;

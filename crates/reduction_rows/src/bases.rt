@@ -1,39 +1,92 @@
-ghost use Rattle.std.specs.Prelude.{◌≡◌, ◌∷◌, [], IfOk};
+ghost use Rattle.std.specs.Prelude.{◌≡◌, ◌<◌, IfOk, IsTrue, length};
+ghost use Rattle.shuffle_sums.specs.Settings.{labels_of};
+ghost use Rattle.shuffle_sums.specs.Shelves.{KeepsShelf};
+ghost use Rattle.division.specs.Bases.{IsIndexedBy, IsMonicSum};
 
+use crate::adding::plus_of;
+use crate::sums::spelled_sum;
 use crate::terms::write_terms;
 use division::Basis;
-use path_orders::Path;
-use rows::{RowFail, number_of};
-use shuffle_sums::{SSum, Term};
-use sqlite_items::Items;
-use std::alloc::{AllocError, Global};
-use tree_store::TreeId;
+use path_orders::TreeOrder;
+use presentation_text::write_number;
+use rows::{RowFail, end_line, small_number_of, write_next, write_text};
+use shuffle_sums::{SSum, Setting, Shelf};
+use std::alloc::Global;
 
-// The sum of one term.
-fn one_term(alloc: Global, coef: u32, tree: u32) -> Result<SSum<Path>, AllocError>
-    ensures term { IfOk result (λ sum. sum ≡ (coef, tree) ∷ []) }
+// Whether the first term of the sum has the coefficient 1.
+fn is_monic<O: TreeOrder>(sum: &SSum<O>) -> bool
+    ensures monic { IsTrue result → IsMonicSum sum.now }
 {
-    let tree = TreeId::numbered(tree as usize);
-    let terms = Items::from_slice(alloc, &[Term { coef, tree }])?;
-    Ok(SSum::from_terms(terms))
+    match sum.lead() {
+        Some(first) => first.0 == 1,
+        None => false,
+    }
 }
 
-// The basis of one element, which is an id, and behind it a residue times an id.
-fn basis_of(alloc: Global, lead: u32, coef: u32, tree: u32) -> Result<Basis<Path>, AllocError> {
+// The basis of the sum that words spell.
+fn basis_of<O: TreeOrder>(
+    alloc: Global,
+    setting: &Setting<O>,
+    shelf: &mut Shelf,
+    words: &[String],
+) -> Result<Basis<O>, RowFail>
+    requires own { shelf.old.labels ≡ labels_of setting.now }
+    ensures indexed { IfOk result (IsIndexedBy shelf.new) }
+    ensures one { IfOk result (λ basis. length basis.elements ≡ 1) }
+    ensures labels { IfOk result (λ basis. shelf.new.labels ≡ labels_of setting.now) }
+{
+    let sum = spelled_sum(alloc, setting, shelf, words)?;
+    if !is_monic(&sum) {
+        return Err(RowFail::Refused);
+    }
     let mut basis = Basis::new(alloc);
-    basis.add(alloc, one_term(alloc, 1, lead)?)?;
-    basis.set_tail(alloc, 0, one_term(alloc, coef, tree)?)?;
+    basis.add(alloc, shelf, sum)?;
     Ok(basis)
 }
 
-/// Keeps an id in a basis, and gives it a residue times an id as tail: the terms of the elements.
-pub fn kept(alloc: Global, words: &[String], out: &mut Vec<u8>) -> Result<(), RowFail> {
-    let [lead, coef, tree] = words else {
+/// Keeps the sum of the terms before `+` in a basis, and gives it that of the terms behind as tail: the residues and ids of the
+/// element.
+pub fn kept<O: TreeOrder>(
+    alloc: Global,
+    setting: &Setting<O>,
+    shelf: &mut Shelf,
+    words: &[String],
+    out: &mut Vec<u8>,
+) -> Result<(), RowFail>
+    requires own { shelf.old.labels ≡ labels_of setting.now }
+{
+    let (ones, behind) = words.split_at(plus_of(words));
+    let [_, others @ ..] = behind else {
         return Err(RowFail::Refused);
     };
-    let basis = basis_of(alloc, number_of(lead)?, number_of(coef)?, number_of(tree)?)?;
+    let mut basis = basis_of(alloc, setting, shelf, ones)?;
+    let tail = spelled_sum(alloc, setting, shelf, others)?;
+    basis.set_tail(alloc, 0, tail)?;
     for element in basis.elements() {
         write_terms(element.terms(), out)?;
     }
     Ok(())
+}
+
+/// The positions, in the basis of the sum of the terms behind them, of elements that begin with a label and have an arity.
+pub fn candidates<O: TreeOrder>(
+    alloc: Global,
+    setting: &Setting<O>,
+    shelf: &mut Shelf,
+    words: &[String],
+    out: &mut Vec<u8>,
+) -> Result<(), RowFail>
+    requires own { shelf.old.labels ≡ labels_of setting.now }
+{
+    let [label, arity, terms @ ..] = words else {
+        return Err(RowFail::Refused);
+    };
+    let label = u16::from(small_number_of(label)?);
+    let arity = small_number_of(arity)?;
+    let basis = basis_of(alloc, setting, shelf, terms)?;
+    write_text("positions", out)?;
+    for position in basis.candidates(shelf, label, arity) {
+        write_next(u64::from(*position), out)?;
+    }
+    Ok(end_line("", out)?)
 }

@@ -1,5 +1,5 @@
 use crate::settings::SumCall;
-use crate::{bases, cones, elements, gatherings, settings, shelves};
+use crate::{cones, elements, gatherings, settings, shelves};
 use presentation_text::Document;
 use rows::{Program, RowFail, document_of};
 use std::alloc::Global;
@@ -23,6 +23,8 @@ fn document_answer(
         "SSum::add_scaled" => settings::called(alloc, document, SumCall::AddScaled, words, out),
         "SSum::insert_at" => settings::called(alloc, document, SumCall::InsertAt, words, out),
         "s_element" => settings::called(alloc, document, SumCall::SElement, words, out),
+        "Basis::add" => settings::called(alloc, document, SumCall::Add, words, out),
+        "Basis::candidates" => settings::called(alloc, document, SumCall::Candidates, words, out),
         "Shelf::shelve" => shelves::shelve(alloc, document, words, out),
         "insert_at_root" => elements::inserted(alloc, document, words, out),
         "step" => elements::stepped(alloc, document, words, out),
@@ -41,10 +43,7 @@ impl Program for Calls {
         text: &[u8],
         out: &mut Vec<u8>,
     ) -> Result<(), RowFail> {
-        match name {
-            "Basis::add" => bases::kept(alloc, words, out),
-            _ => document_answer(alloc, name, words, &document_of(alloc, text)?, out),
-        }
+        document_answer(alloc, name, words, &document_of(alloc, text)?, out)
     }
 
     fn run(

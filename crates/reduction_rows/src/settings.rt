@@ -1,4 +1,5 @@
 use crate::adding::added;
+use crate::bases;
 use crate::inserting::inserted;
 use crate::s_elements::s_element_of;
 use crate::sums::{spelled_sum, write_sum};
@@ -9,7 +10,7 @@ use shuffle_sums::{Setting, Shelf, weight_order};
 use shuffle_trees::Labels;
 use std::alloc::Global;
 
-/// A call that adds or inserts sums.
+/// A call over sums and a shelf.
 #[derive(Clone, Copy, Debug)]
 pub enum SumCall {
     /// `SSum::from_sum`
@@ -20,6 +21,10 @@ pub enum SumCall {
     InsertAt,
     /// `s_element`
     SElement,
+    /// `Basis::add`
+    Add,
+    /// `Basis::candidates`
+    Candidates,
 }
 
 // The order by the weights of the document's generators.
@@ -48,6 +53,8 @@ fn call_over<O: TreeOrder>(
         SumCall::AddScaled => added(alloc, setting, &mut shelf, words, out),
         SumCall::InsertAt => inserted(alloc, setting, &mut shelf, words, out),
         SumCall::SElement => s_element_of(alloc, setting, &mut shelf, words, out),
+        SumCall::Add => bases::kept(alloc, setting, &mut shelf, words, out),
+        SumCall::Candidates => bases::candidates(alloc, setting, &mut shelf, words, out),
     }
 }
 
