@@ -30,11 +30,7 @@ impl Model for Index {
 }
 
 // Makes room for a group at this place.
-fn widen_groups(
-    alloc: Global,
-    groups: &mut Vec<Items<u32>>,
-    place: usize,
-) -> Result<(), AllocError>
+fn widen_groups(alloc: Global, groups: &mut Vec<Items<u32>>, place: usize) -> Result<(), AllocError>
     ensures long { OnOk result (place < length groups.new.items) }
     ensures same { SameGroups groups.old.items groups.new.items }
 {
@@ -45,11 +41,7 @@ fn widen_groups(
 }
 
 // Puts a position behind the others of a group.
-fn push_position(
-    groups: &mut [Items<u32>],
-    place: usize,
-    position: u32,
-) -> Result<(), AllocError>
+fn push_position(groups: &mut [Items<u32>], place: usize, position: u32) -> Result<(), AllocError>
     requires place { place < length groups.old }
     ensures pushed { OnOk result (groups.new ≡ set groups.old place (slice_index_or groups.old place [] ++ position ∷ [])) }
     ensures unchanged { OnErr result (groups.new ≡ groups.old) }
