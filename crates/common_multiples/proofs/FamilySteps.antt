@@ -10,14 +10,14 @@ use Rattle.shuffle_insertions.specs.ShuffleTrees.{IsShuffle}
 use Rattle.shuffle_places.specs.Overlays.{shape}
 use Rattle.shuffle_places.proofs.PatternSets.{start_in}
 use Rattle.shuffle_trees.specs.ValidTrees.{IsValid}
-use Rattle.shuffle_trees.proofs.Counts.{few_leaves, few_vertices}
+use Rattle.shuffle_trees.proofs.Counts.{few_leaves, few_vertices, count_of_shuffle}
 use Rattle.shuffle_places.specs.AllPlaces.{lay}
 use Rattle.tree_divisors.specs.Laying.{Covers, IsLaid}
 use Rattle.common_multiples.specs.Building.{numbered, over_at}
 use Rattle.common_multiples.specs.Listing.{FitsAt, IsLayable}
 use Rattle.common_multiples.specs.Overlaying.{Agree, StandsAt}
 use Rattle.common_multiples.proofs.LaidOver.{over_at_laid, laid_leaves}
-use Rattle.common_multiples.proofs.SiteOverlaps.{arity_leaves, numbered_agree, few_vertices as few_laid, host_lies, has_vertex, guest_lies, few_inside}
+use Rattle.common_multiples.proofs.SiteOverlaps.{numbered_agree, few_vertices as few_laid, host_lies, has_vertex, guest_lies, few_inside}
 
 -- ---- room
 
@@ -46,7 +46,7 @@ fits_of n m v a b h g x count parts valid eh eg s agree is whole e =
       arity =
           let laid = ap leaf_count (over_at_laid 1 v h g s.context x s.is s.is_node s.number) in
           let sum = laid_leaves s.context x g in
-          let all : leaf_count (fill s.context x) ≡ m = ap leaf_count (sym s.is ∙ eh) ∙ arity_leaves m a valid in
+          let all : leaf_count (fill s.context x) ≡ m = ap leaf_count (sym s.is ∙ eh) ∙ count_of_shuffle m a valid in
           omega (arith, laid, sum, all, is, whole, e);
     })
 

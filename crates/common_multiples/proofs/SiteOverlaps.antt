@@ -14,7 +14,6 @@ use Rattle.labelled_trees.proofs.Leaves.{at_leaf, by_leaf}
 use Rattle.labelled_trees.proofs.Permutations.{times-leaves}
 use Rattle.shuffle_insertions.specs.ShuffleTrees.{IsShuffle}
 use Rattle.shuffle_insertions.specs.Listing.{upto}
-use Rattle.shuffle_insertions.proofs.TreeOrders.{length_leaves, leaves_count}
 use Rattle.shuffle_insertions.proofs.Counted.{mem_times, times_mem}
 use Rattle.shuffle_insertions.proofs.Upto.{in_upto, upto_mem}
 use Rattle.shuffle_insertions.proofs.LabelSums.{once_of}
@@ -24,7 +23,7 @@ use Rattle.shuffle_places.specs.Multiples.{IsOverlap}
 use Rattle.shuffle_places.proofs.PatternSets.{start_in}
 use Rattle.shuffle_places.specs.Overlays.{shape}
 use Rattle.shuffle_trees.specs.ValidTrees.{IsValid, IsWide}
-use Rattle.shuffle_trees.proofs.Counts.{fewer_vertices}
+use Rattle.shuffle_trees.proofs.Counts.{fewer_vertices, count_of_shuffle}
 use Rattle.tree_divisors.specs.Laying.{Covers, IsLaid, numbers_at}
 use Rattle.common_multiples.specs.Building.{numbered, over_at}
 use Rattle.common_multiples.specs.Listing.{AreOverlapsAt, IsInverse, IsOneToOne, multiple_with}
@@ -38,10 +37,6 @@ use Rattle.common_multiples.proofs.NumberedShapes.{numbered_shape, numbered_leav
 use Rattle.common_multiples.proofs.Numbering.{leaf_count-shape}
 use Rattle.common_multiples.proofs.OverlayPatterns.{pattern_lies, begins_among}
 use Rattle.common_multiples.proofs.OverlaidPlaces.{first_in, second_in, first_apart, second_apart, each_leaf, first_begins, second_begins, numbered_overlap}
-
--- as many leaves as the arity
-pub arity_leaves : (m : ℕ) (t : Tree ℕ) → IsShuffle m t → leaf_count t ≡ m
-arity_leaves m t h = sym (length_leaves t) ∙ leaves_count m t h
 
 -- a wide tree with the leaves 1 to n is a tree of the program
 pub valid_of_shuffle : (n : ℕ) (t : Tree ℕ) → n < 256 → IsWide t → IsShuffle n t → IsValid t
@@ -74,7 +69,7 @@ module _ (n m k v : ℕ) (a b : Tree ℕ) (turned : Bool) (valid_a : IsShuffle m
     each = λ tree host guest w o root e top.
         let fits = (agrees n a b stands.context x stands.is stands.is_node tree host guest o (subst (Mem 1) (sym root.1) (inl refl)) (at_vertex w guest e top)).1 in
         let sum = laid_leaves stands.context x b in
-        let whole : leaf_count (fill stands.context x) ≡ m = ap leaf_count (sym stands.is) ∙ arity_leaves m a valid_a in
+        let whole : leaf_count (fill stands.context x) ≡ m = ap leaf_count (sym stands.is) ∙ count_of_shuffle m a valid_a in
         absurd (other (omega (arith, fits, sum, whole, is)));
     once = tt;
   }

@@ -9,7 +9,7 @@ use Rattle.shuffle_transfer.specs.Labels.{words_of}
 use Rattle.shuffle_transfer.proofs.LabelLists.{copies_are_labels, arity_of_label, each_copy, labels_most}
 use Rattle.symmetric_trees.specs.Generators.{part_of, generators_of, IsTable, IsArity, SizesFit}
 use Rattle.symmetric_trees.specs.declared.generators.Generator.{Generator}
-use Rattle.symmetric_trees.proofs.Tables.{sizes-held}
+use Rattle.symmetric_trees.proofs.Tables.{inputs_held, few_inputs}
 use Rattle.shuffle_passage.specs.LabelKinds.{kind_in}
 use Rattle.shuffle_passage.specs.Passage.{AreLabelsOf}
 use Rattle.shuffle_passage.proofs.WordBounds.{count_words}
@@ -21,7 +21,7 @@ kinds_count (g ∷ gs) = ap₂ (λ n ns. n ∷ ns) (sym (count_words (map part_o
 
 kinds_arities : (gens : List Generator) → AllByRecursion SizesFit gens → map (λ kind. kind.0) (map kind_in gens) ≡ map total (generators_of gens)
 kinds_arities [] h = refl
-kinds_arities (g ∷ gs) h = ap₂ (λ n ns. n ∷ ns) (sym (sizes-held (g ∷ []) 0 g refl ∙ h.0.1)) (kinds_arities gs h.1)
+kinds_arities (g ∷ gs) h = ap₂ (λ n ns. n ∷ ns) (sym (inputs_held g h.0)) (kinds_arities gs h.1)
 
 -- the arities, kind by kind, are those of the labels
 pub are_labels : (gens : List Generator) → IsTable gens → AreLabelsOf gens (kinds.labels_of_kinds (map kind_in gens))
@@ -34,10 +34,6 @@ are_labels gens table = record {
 all_arities : (gens : List Generator) → AllByRecursion (λ (g : Generator). IsArity g.arity) gens → AllByRecursion IsArity (map (λ kind. kind.0) (map kind_in gens))
 all_arities [] h = tt
 all_arities (g ∷ gs) h = (h.0, all_arities gs h.1)
-
-few_inputs : (gens : List Generator) → AllByRecursion (λ (g : Generator). IsArity g.arity) gens → AllByRecursion SizesFit gens → AllByRecursion (λ ps. total ps ≤ 6) (generators_of gens)
-few_inputs [] h k = tt
-few_inputs (g ∷ gs) h k = (let e = sizes-held (g ∷ []) 0 g refl in omega (arith, e, k.0.1, h.0.1), few_inputs gs h.1 k.1)
 
 pub few_labels : (gens : List Generator) → IsTable gens → AreFew (kinds.labels_of_kinds (map kind_in gens))
 few_labels gens table =

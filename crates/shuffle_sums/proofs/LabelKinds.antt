@@ -13,7 +13,7 @@ use Rattle.shuffle_transfer.proofs.LabelLists.{copies_are_labels, copy_of_label,
 use Rattle.symmetric_trees.specs.Generators.{kind_of, part_of, generators_of, IsTable, IsArity, SizesFit}
 use Rattle.symmetric_trees.specs.declared.generators.Generator.{Generator}
 use Rattle.symmetric_trees.specs.declared.generators.Part.{Part}
-use Rattle.symmetric_trees.proofs.Tables.{sizes-held}
+use Rattle.symmetric_trees.proofs.Tables.{inputs_held, few_inputs}
 use Rattle.shuffle_sums.specs.LabelArities.{AreLabelArities, AreLabelWeights, arity_and_count}
 
 -- a product is divided by one of its factors
@@ -32,10 +32,6 @@ orders_next parts whole i orders d same lt is = (
       ∙ ap (λ n. n * part_orders (map part_of (drop (i + 1) parts))) (sym is)
       ∙ ap (λ ps. orders * part_orders (map part_of (drop (i + 1) ps))) same,
 )
-
--- the sizes of the parts of a generator are its number of inputs
-pub inputs_held : (g : Generator) → SizesFit g → total (map part_of g.parts) ≡ g.arity
-inputs_held g h = sizes-held (g ∷ []) 0 g refl ∙ h.1
 
 counts_are : (gens : List Generator) → map (λ kind. kind.1) (map arity_and_count gens) ≡ map (λ ps. length (words_of ps)) (generators_of gens)
 counts_are [] = refl
@@ -56,10 +52,6 @@ label_arities gens table = record {
 all_arities : (gens : List Generator) → AllByRecursion (λ (g : Generator). IsArity g.arity) gens → AllByRecursion IsArity (map (λ kind. kind.0) (map arity_and_count gens))
 all_arities [] h = tt
 all_arities (g ∷ gs) h = (h.0, all_arities gs h.1)
-
-few_inputs : (gens : List Generator) → AllByRecursion (λ (g : Generator). IsArity g.arity) gens → AllByRecursion SizesFit gens → AllByRecursion (λ ps. total ps ≤ 6) (generators_of gens)
-few_inputs [] h k = tt
-few_inputs (g ∷ gs) h k = (let e = inputs_held g k.0 in omega (arith, e, h.0.1), few_inputs gs h.1 k.1)
 
 -- there are few of them
 pub few_arities : (gens : List Generator) → IsTable gens → AreFew (labels_of_kinds (map arity_and_count gens))

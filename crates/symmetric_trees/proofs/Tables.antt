@@ -1,6 +1,6 @@
 -- Facts of tables of generators.
 use Rattle.std.proofs.Common.{◌≡◌, ℕ, zero, suc, map, refl, ◌+◌, ◌<◌, ◌≤◌, List, [], ◌∷◌, ◌++◌, length, get_or, take, Some, slice_get, ◌⊎◌, ⊎_elim, ap, ◌∙◌, sym, subst, arith, length-append}
-use Rattle.std.specs.List.{Any, HoldsAt, sum_by}
+use Rattle.std.specs.List.{Any, AllByRecursion, HoldsAt, sum_by}
 use Rattle.std.proofs.lemmas.List.Sums.{sum_by-cons, sum_by_more, sum_by-take-le}
 use Rattle.operad_ideals.specs.Parts.{total}
 use Rattle.operad_ideals.specs.Laws.{arity}
@@ -11,7 +11,7 @@ use Rattle.std.proofs.lemmas.List.Quantifiers.{all_pairs_push}
 use Rattle.std.proofs.lemmas.List.{get_or_default}
 use Rattle.std.proofs.lemmas.Option.{get_or_from_slice_get}
 use Rattle.symmetric_trees.specs.declared.generators.Generator.{Generator}
-use Rattle.symmetric_trees.specs.Generators.{part_of, parts_at, IsTable, IsTaken, MayBeAdded, IsNamed, IsArity, SizesFit}
+use Rattle.symmetric_trees.specs.Generators.{part_of, parts_at, generators_of, IsTable, IsTaken, MayBeAdded, IsNamed, IsArity, SizesFit}
 
 -- a name that no generator has differs from the name of each
 pub none_named : (generators : List Generator) (name : List ℕ) → (Any (IsNamed name) generators → ⊥) → (k : ℕ) (d : Generator) → k < length generators → (get_or generators k d).name ≡ name → ⊥
@@ -72,6 +72,14 @@ arity-past (x ∷ xs) (suc i) l = arity-past xs i (omega arith)
 -- the sizes of a generator of a table add up to its inputs
 pub sizes-held : (generators : List Generator) (i : ℕ) (g : Generator) → slice_get generators i ≡ Some g → arity (parts_at generators) i ≡ sum_by (λ (part : Part). part.size) g.parts
 sizes-held generators i g e = ap total (parts_at-held generators i g e) ∙ total-parts g.parts
+
+-- the sizes of the parts of a generator are its number of inputs
+pub inputs_held : (g : Generator) → SizesFit g → total (map part_of g.parts) ≡ g.arity
+inputs_held g h = total-parts g.parts ∙ h.1
+
+pub few_inputs : (generators : List Generator) → AllByRecursion (λ (g : Generator). IsArity g.arity) generators → AllByRecursion SizesFit generators → AllByRecursion (λ parts. total parts ≤ 6) (generators_of generators)
+few_inputs [] h k = tt
+few_inputs (g ∷ gs) h k = (let e = inputs_held g k.0 in omega (arith, e, h.0.1), few_inputs gs h.1 k.1)
 
 not_past : (n i a : ℕ) → 2 ≤ a → (n ≤ i → a ≡ 0) → i < n
 not_past n i a l past = grind arith

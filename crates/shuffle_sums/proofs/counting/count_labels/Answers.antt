@@ -5,7 +5,8 @@ use Rattle.symmetric_trees.specs.declared.generators.PartKind.TheVariants.{Sym}
 use Rattle.shuffle_transfer.specs.Labels.{words_of}
 use Rattle.shuffle_transfer.specs.LabelCounts.{part_orders}
 use Rattle.shuffle_transfer.proofs.LabelLists.{words_divide}
-use Rattle.shuffle_sums.proofs.LabelKinds.{divided, orders_next, inputs_held}
+use Rattle.symmetric_trees.proofs.Tables.{inputs_held}
+use Rattle.shuffle_sums.proofs.LabelKinds.{divided, orders_next}
 use Rattle.shuffle_sums.proofs.counting.count_labels.Goals as goal
 
 pub loop-part-init : goal.loop-part-init
