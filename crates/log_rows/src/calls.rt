@@ -3,12 +3,8 @@ ghost use Rattle.symmetric_sums.specs.Terms.{FitsOver};
 
 use crate::{entries, logs, parts, vertices, words};
 use presentation_text::Document;
-use rows::{Program, RowFail, document_of, numbers_of};
+use rows::{RowFail, document_of, numbers_of};
 use std::alloc::Global;
-
-/// The calls of this program. It has no rows but calls.
-#[derive(Drop)]
-pub struct LogCalls {}
 
 // Calls what the name says, where numbers are its arguments.
 fn number_answer(
@@ -29,33 +25,38 @@ fn number_answer(
     }
 }
 
-impl Program for LogCalls {
-    fn call(
-        &self,
-        alloc: Global,
-        name: &str,
-        given: &[String],
-        text: &[u8],
-        out: &mut Vec<u8>,
-    ) -> Result<(), RowFail> {
-        if name == "find_vertices" {
-            return vertices::find(alloc, given, out);
-        }
-        let document = document_of(alloc, text)?;
-        if words::answer(alloc, name, given, &document.gens, out)? {
-            return Ok(());
-        }
-        let numbers = numbers_of(alloc, given)?;
-        number_answer(alloc, name, &numbers, &document, out)
-    }
+/// Whether the call of this name is one of these.
+pub fn has_call(name: &str) -> bool {
+    matches!(
+        name,
+        "find_vertices"
+            | "write_words"
+            | "write_some"
+            | "read_word"
+            | "NormalTrees"
+            | "Log::push"
+            | "block_of"
+            | "entry_for"
+            | "part_with_last"
+    )
+}
 
-    fn run(
-        &mut self,
-        _alloc: Global,
-        _words: &[String],
-        _text: &[u8],
-        _out: &mut Vec<u8>,
-    ) -> Result<(), RowFail> {
-        Err(RowFail::Refused)
+/// Calls what the name says: on words, or on a document and numbers. The answer is written behind `out`. `Refused` where the
+/// text is no document, or the words are no arguments for the call.
+pub fn call(
+    alloc: Global,
+    name: &str,
+    given: &[String],
+    text: &[u8],
+    out: &mut Vec<u8>,
+) -> Result<(), RowFail> {
+    if name == "find_vertices" {
+        return vertices::find(alloc, given, out);
     }
+    let document = document_of(alloc, text)?;
+    if words::answer(alloc, name, given, &document.gens, out)? {
+        return Ok(());
+    }
+    let numbers = numbers_of(alloc, given)?;
+    number_answer(alloc, name, &numbers, &document, out)
 }

@@ -1,12 +1,8 @@
 use crate::settings::SumCall;
 use crate::{cones, elements, gatherings, settings, shelves};
 use presentation_text::Document;
-use rows::{Program, RowFail, document_of};
+use rows::{RowFail, document_of};
 use std::alloc::Global;
-
-/// The calls of `shuffle_sums` and `division`.
-#[derive(Clone, Copy, Debug)]
-pub struct Calls;
 
 // Calls what the name says, where a document gives the setting.
 fn document_answer(
@@ -34,25 +30,34 @@ fn document_answer(
     }
 }
 
-impl Program for Calls {
-    fn call(
-        &self,
-        alloc: Global,
-        name: &str,
-        words: &[String],
-        text: &[u8],
-        out: &mut Vec<u8>,
-    ) -> Result<(), RowFail> {
-        document_answer(alloc, name, words, &document_of(alloc, text)?, out)
-    }
+/// Whether the call of this name is one of these.
+pub fn has_call(name: &str) -> bool {
+    matches!(
+        name,
+        "Setting::new"
+            | "weight_order"
+            | "SSum::from_sum"
+            | "SSum::add_scaled"
+            | "SSum::insert_at"
+            | "s_element"
+            | "Basis::add"
+            | "Basis::candidates"
+            | "Shelf::shelve"
+            | "insert_at_root"
+            | "step"
+            | "gather"
+            | "reduce_row"
+    )
+}
 
-    fn run(
-        &mut self,
-        _alloc: Global,
-        _words: &[String],
-        _text: &[u8],
-        _out: &mut Vec<u8>,
-    ) -> Result<(), RowFail> {
-        Err(RowFail::Refused)
-    }
+/// Calls what the name says: on words, over the setting that a document gives. The answer is written behind `out`. `Refused`
+/// where the text is no document, or the words are no arguments for the call.
+pub fn call(
+    alloc: Global,
+    name: &str,
+    words: &[String],
+    text: &[u8],
+    out: &mut Vec<u8>,
+) -> Result<(), RowFail> {
+    document_answer(alloc, name, words, &document_of(alloc, text)?, out)
 }
