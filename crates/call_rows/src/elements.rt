@@ -1,3 +1,7 @@
+ghost use Rattle.std.specs.Prelude.{◌<◌, IsTrue};
+ghost use Rattle.std.specs.List.{All};
+ghost use Rattle.symmetric_sums.specs.Terms.{FitsOver};
+
 use crate::checks::all_fit;
 use presentation_text::{Document, write_number};
 use rows::{
@@ -34,6 +38,15 @@ fn end_sum(sum: &Sum, out: &mut Vec<u8>) -> Result<(), RowFail> {
     Ok(end_terms(sum.terms(), out)?)
 }
 
+// Writes what adding a term gives.
+fn write_added(added: Result<(), SumFail>, out: &mut Vec<u8>) -> Result<(), RowFail> {
+    match added {
+        Ok(()) => Ok(write_before("added", out)?),
+        Err(SumFail::ArityDiffers) => Ok(write_before("ArityDiffers", out)?),
+        Err(SumFail::NoMemory) => Err(RowFail::NoMemory),
+    }
+}
+
 // Adds the term of a residue and a tree to the first element.
 fn add_term(
     alloc: Global,
@@ -53,11 +66,10 @@ fn add_term(
     let Some(_) = arity_of(&tree, &document.gens) else {
         return Err(RowFail::Refused);
     };
-    match sum.add_term(alloc, document.field, &document.gens, coef, tree) {
-        Ok(()) => write_before("added", out)?,
-        Err(SumFail::ArityDiffers) => write_before("ArityDiffers", out)?,
-        Err(SumFail::NoMemory) => return Err(RowFail::NoMemory),
-    }
+    write_added(
+        sum.add_term(alloc, document.field, &document.gens, coef, tree),
+        out,
+    )?;
     end_sum(&sum, out)
 }
 
@@ -81,9 +93,9 @@ fn scaled(
     words: &[String],
     out: &mut Vec<u8>,
 ) -> Result<(), RowFail> {
+    let sum = element(document, 0)?;
     for word in words {
-        let sum = multiple(alloc, document, element(document, 0)?, number_of(word)?)?;
-        end_sum(&sum, out)?;
+        end_sum(&multiple(alloc, document, sum, number_of(word)?)?, out)?;
     }
     Ok(())
 }
@@ -144,6 +156,73 @@ pub fn instance_of(alloc: Global, words: &[String]) -> Result<Instance, RowFail>
     })
 }
 
+// Copies of the elements of all questions.
+fn elements_of(alloc: Global, document: &Document) -> Result<Items<Sum>, RowFail> {
+    let mut elements = Items::new(alloc);
+    for at in 0..document.asks.len() {
+        elements.push(copy(alloc, document, at)?)?;
+    }
+    Ok(elements)
+}
+
+// Whether an instance's residue, the relations and the steps fit the document.
+fn can_expand(document: &Document, rels: &[Sum], steps: &[Sum], item: &Instance) -> bool
+    ensures coef { IsTrue result → item.now.coef < document.now.field }
+    ensures rels { IsTrue result → All (FitsOver document.now.field document.now.gens) rels.now }
+    ensures steps { IsTrue result → All (FitsOver document.now.field document.now.gens) steps.now }
+{
+    let relations_fit = all_fit(document.field, &document.gens, rels);
+    let steps_fit = all_fit(document.field, &document.gens, steps);
+    item.coef < document.field.prime() && relations_fit && steps_fit
+}
+
+// The arity of an instance's expansion.
+fn expanded_arity(
+    alloc: Global,
+    document: &Document,
+    rels: &[Sum],
+    steps: &[Sum],
+    item: &Instance,
+) -> Result<u8, ExpandFail>
+    requires coef { item.now.coef < document.now.field }
+    requires rels { All (FitsOver document.now.field document.now.gens) rels.now }
+    requires steps { All (FitsOver document.now.field document.now.gens) steps.now }
+{
+    let found = expand_with_arity(alloc, document.field, &document.gens, rels, steps, item)?;
+    Ok(found.arity)
+}
+
+// Ends a line by the arity of an instance's expansion, and its terms.
+fn end_expanded(
+    alloc: Global,
+    document: &Document,
+    rels: &[Sum],
+    steps: &[Sum],
+    item: &Instance,
+    out: &mut Vec<u8>,
+) -> Result<(), RowFail> {
+    if !can_expand(document, rels, steps, item) {
+        return Err(RowFail::Refused);
+    }
+    match expanded_arity(alloc, document, rels, steps, item) {
+        Ok(arity) => write_number(u64::from(arity), out)?,
+        Err(fail) => return end_unfit(fail, out),
+    }
+    out.push(b' ')?;
+    match expand(alloc, document.field, &document.gens, rels, steps, item) {
+        Ok(sum) => Ok(end_terms(sum.terms(), out)?),
+        Err(fail) => end_unfit(fail, out),
+    }
+}
+
+// Ends a line by why an instance has no expansion.
+fn end_unfit(fail: ExpandFail, out: &mut Vec<u8>) -> Result<(), RowFail> {
+    match fail {
+        ExpandFail::Unfit => Ok(end_line("Unfit", out)?),
+        ExpandFail::NoMemory => Err(RowFail::NoMemory),
+    }
+}
+
 // Expands an instance of a relation, a symmetry rule, or a question's element as a step: the arity and the terms.
 fn expanded(
     alloc: Global,
@@ -152,28 +231,15 @@ fn expanded(
     out: &mut Vec<u8>,
 ) -> Result<(), RowFail> {
     let item = instance_of(alloc, words)?;
-    let field = document.field;
-    let gens = &document.gens;
-    let rels = document.rels.as_slice();
-    let mut steps = Items::new(alloc);
-    for at in 0..document.asks.len() {
-        steps.push(copy(alloc, document, at)?)?;
-    }
-    let steps = steps.as_slice();
-    if item.coef >= field.prime() || !all_fit(field, gens, rels) || !all_fit(field, gens, steps) {
-        return Err(RowFail::Refused);
-    }
-    match expand_with_arity(alloc, field, gens, rels, steps, &item) {
-        Ok(found) => write_number(u64::from(found.arity), out)?,
-        Err(ExpandFail::Unfit) => return Ok(end_line("Unfit", out)?),
-        Err(ExpandFail::NoMemory) => return Err(RowFail::NoMemory),
-    }
-    out.push(b' ')?;
-    match expand(alloc, field, gens, rels, steps, &item) {
-        Ok(sum) => Ok(end_terms(sum.terms(), out)?),
-        Err(ExpandFail::Unfit) => Ok(end_line("Unfit", out)?),
-        Err(ExpandFail::NoMemory) => Err(RowFail::NoMemory),
-    }
+    let steps = elements_of(alloc, document)?;
+    end_expanded(
+        alloc,
+        document,
+        document.rels.as_slice(),
+        steps.as_slice(),
+        &item,
+        out,
+    )
 }
 
 /// Answers the calls of `symmetric_sums`. False where it has none of this name.

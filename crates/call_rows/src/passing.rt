@@ -1,3 +1,8 @@
+ghost use Rattle.std.specs.Prelude.{IfOk};
+ghost use Rattle.labelled_trees.specs.Labelled.{Fits};
+ghost use Rattle.shuffle_transfer.specs.Labels.{inputs_of};
+ghost use Rattle.symmetric_trees.specs.Generators.{generators_of};
+
 use crate::checks::all_belong;
 use crate::symmetric::sign_text;
 use presentation_text::{Document, write_number};
@@ -8,19 +13,46 @@ use rows::{
 use shuffle_passage::{
     frame_to_context, labels_of, relabelled, relabellings, to_shuffle, to_symmetric,
 };
-use shuffle_trees::Frame;
-use std::alloc::Global;
+use shuffle_trees::{Frame, Labels, STree};
+use sqlite_items::Items;
+use std::alloc::{AllocError, Global};
 use symmetric_sums::Sum;
-use symmetric_trees::{GenTable, arity_of};
+use symmetric_trees::{GenTable, Sign, Tree, arity_of};
 
-// Writes how many labels the table has, and the number of inputs of each of the first nine.
-fn labels(alloc: Global, table: &GenTable, out: &mut Vec<u8>) -> Result<(), RowFail> {
-    let labels = labels_of(alloc, table)?;
+// Writes how many labels there are, and the number of inputs of each of the first nine.
+fn write_labels(labels: &Labels, out: &mut Vec<u8>) -> Result<(), RowFail> {
     write_number(u64::from(labels.len()), out)?;
     for label in 0..labels.len().min(9) {
         write_next(u64::from(labels.arity(label)), out)?;
     }
     Ok(end_line("", out)?)
+}
+
+// The same of the labels of the table.
+fn labels(alloc: Global, table: &GenTable, out: &mut Vec<u8>) -> Result<(), RowFail> {
+    write_labels(&labels_of(alloc, table)?, out)
+}
+
+// The sign of a tree, and its shuffle form.
+fn form_of(alloc: Global, table: &GenTable, tree: &Tree) -> Result<(Sign, STree), RowFail>
+    ensures belongs { IfOk result (λ found. Fits (inputs_of (generators_of table.now)) found.1) }
+{
+    match arity_of(tree, table) {
+        Some(_) => Ok(to_shuffle(alloc, table, tree)?),
+        None => Err(RowFail::Refused),
+    }
+}
+
+// Ends a line by what a shuffle tree is spelled back to.
+fn end_back(
+    alloc: Global,
+    table: &GenTable,
+    tree: &STree,
+    out: &mut Vec<u8>,
+) -> Result<(), AllocError>
+    requires belongs { Fits (inputs_of (generators_of table.now)) tree.now }
+{
+    end_tree(&to_symmetric(alloc, table, tree)?, out)
 }
 
 // Writes of a tree its sign, its shuffle form, and what that is spelled back to.
@@ -30,17 +62,12 @@ fn passed(
     word: &String,
     out: &mut Vec<u8>,
 ) -> Result<(), RowFail> {
-    let tree = tree_of(alloc, word)?;
-    let Some(_) = arity_of(&tree, table) else {
-        return Err(RowFail::Refused);
-    };
-    let (sign, form) = to_shuffle(alloc, table, &tree)?;
-    let back = to_symmetric(alloc, table, &form)?;
+    let (sign, form) = form_of(alloc, table, &tree_of(alloc, word)?)?;
     write_before(word.as_str(), out)?;
     write_text(sign_text(sign), out)?;
     write_plain(form.shape(), out)?;
     out.push(b' ')?;
-    Ok(end_tree(&back, out)?)
+    Ok(end_back(alloc, table, &form, out)?)
 }
 
 fn all_passed(
@@ -55,6 +82,18 @@ fn all_passed(
     Ok(())
 }
 
+// The shuffle tree that a word spells, over the labels of the table.
+fn own_tree(alloc: Global, table: &GenTable, word: &String) -> Result<STree, RowFail>
+    ensures belongs { IfOk result (λ tree. Fits (inputs_of (generators_of table.now)) tree) }
+{
+    let tree = shuffle_of(alloc, word)?;
+    if belongs(tree.shape(), &labels_of(alloc, table)?) {
+        Ok(tree)
+    } else {
+        Err(RowFail::Refused)
+    }
+}
+
 // Writes what a shuffle tree over the labels of the table is spelled back to.
 fn spelled(
     alloc: Global,
@@ -62,13 +101,9 @@ fn spelled(
     word: &String,
     out: &mut Vec<u8>,
 ) -> Result<(), RowFail> {
-    let labels = labels_of(alloc, table)?;
-    let tree = shuffle_of(alloc, word)?;
-    if !belongs(tree.shape(), &labels) {
-        return Err(RowFail::Refused);
-    }
+    let tree = own_tree(alloc, table, word)?;
     write_before(word.as_str(), out)?;
-    Ok(end_tree(&to_symmetric(alloc, table, &tree)?, out)?)
+    Ok(end_back(alloc, table, &tree, out)?)
 }
 
 fn all_spelled(
@@ -95,6 +130,29 @@ fn frame_of(alloc: Global, words: &[String]) -> Result<Frame, RowFail> {
     }
 }
 
+// Writes a context and inputs.
+fn write_context(context: &Tree, inputs: &[Tree], out: &mut Vec<u8>) -> Result<(), RowFail> {
+    write_plain(context, out)?;
+    for input in inputs {
+        out.push(b' ')?;
+        write_plain(input, out)?;
+    }
+    Ok(end_line("", out)?)
+}
+
+// The context and the inputs of a frame over the labels of the table, as they are spelled back.
+fn context_of(
+    alloc: Global,
+    table: &GenTable,
+    frame: &Frame,
+) -> Result<(Tree, Items<Tree>), RowFail> {
+    let labels = labels_of(alloc, table)?;
+    if !belongs(frame.context(), &labels) || !all_belong(frame.inputs(), &labels) {
+        return Err(RowFail::Refused);
+    }
+    Ok(frame_to_context(alloc, table, frame)?)
+}
+
 // Writes the context and the inputs of a frame as they are spelled back.
 fn framed(
     alloc: Global,
@@ -102,21 +160,8 @@ fn framed(
     words: &[String],
     out: &mut Vec<u8>,
 ) -> Result<(), RowFail> {
-    let labels = labels_of(alloc, table)?;
-    let frame = frame_of(alloc, words)?;
-    if !belongs(frame.context(), &labels) {
-        return Err(RowFail::Refused);
-    }
-    if !all_belong(frame.inputs(), &labels) {
-        return Err(RowFail::Refused);
-    }
-    let (context, inputs) = frame_to_context(alloc, table, &frame)?;
-    write_plain(&context, out)?;
-    for input in inputs.as_slice() {
-        out.push(b' ')?;
-        write_plain(input, out)?;
-    }
-    Ok(end_line("", out)?)
+    let (context, inputs) = context_of(alloc, table, &frame_of(alloc, words)?)?;
+    write_context(&context, inputs.as_slice(), out)
 }
 
 // Writes each permutation and the terms of the element that it relabels.
