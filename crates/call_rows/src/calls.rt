@@ -1,6 +1,6 @@
 use crate::{
-    checking, comparing, elements, overlaps, passing, places, reading, shuffle, sorting, stores,
-    symmetric, texts,
+    checking, comparing, elements, fields, outside, overlaps, passing, places, reading, shuffle,
+    sorting, stores, symmetric, texts,
 };
 use presentation_text::Document;
 use rows::{RowFail, document_of, numbers_of};
@@ -35,6 +35,12 @@ fn word_answer(
     document: &Document,
     out: &mut Vec<u8>,
 ) -> Result<bool, RowFail> {
+    if outside::answer(alloc, name, words, out)? {
+        return Ok(true);
+    }
+    if fields::answer(name, words, out)? {
+        return Ok(true);
+    }
     if symmetric::answer(alloc, name, words, &document.gens, out)? {
         return Ok(true);
     }

@@ -13,6 +13,8 @@ mod checking;
 mod checks;
 mod comparing;
 mod elements;
+mod fields;
+mod outside;
 mod overlaps;
 mod passing;
 mod places;

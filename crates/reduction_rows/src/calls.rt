@@ -1,5 +1,5 @@
 use crate::settings::SumCall;
-use crate::{cones, elements, gatherings, settings, shelves};
+use crate::{cones, elements, gatherings, settings, shelves, sweeps};
 use presentation_text::Document;
 use rows::{RowFail, document_of};
 use std::alloc::Global;
@@ -26,6 +26,7 @@ fn document_answer(
         "step" => elements::stepped(alloc, document, words, out),
         "gather" => gatherings::gathered(alloc, document, words, out),
         "reduce_row" => cones::reduced(alloc, document, words, out),
+        "sweep" => sweeps::swept(alloc, words, out),
         _ => Err(RowFail::Refused),
     }
 }
@@ -47,6 +48,7 @@ pub fn has_call(name: &str) -> bool {
             | "step"
             | "gather"
             | "reduce_row"
+            | "sweep"
     )
 }
 

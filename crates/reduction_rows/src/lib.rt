@@ -15,6 +15,7 @@ mod settings;
 mod shelves;
 mod stores;
 mod sums;
+mod sweeps;
 mod terms;
 
 pub use calls::{call, has_call};
