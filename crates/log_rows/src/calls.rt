@@ -41,6 +41,23 @@ pub fn has_call(name: &str) -> bool {
     )
 }
 
+// Calls what the name says: on words, or on numbers, where a document gives the generators and the relations.
+fn document_answer(
+    alloc: Global,
+    name: &str,
+    given: &[String],
+    document: &Document,
+    out: &mut Vec<u8>,
+) -> Result<(), RowFail>
+    requires fit { All (FitsOver document.now.field document.now.gens) document.now.rels }
+{
+    if words::answer(alloc, name, given, &document.gens, out)? {
+        return Ok(());
+    }
+    let numbers = numbers_of(alloc, given)?;
+    number_answer(alloc, name, &numbers, document, out)
+}
+
 /// Calls what the name says: on words, or on a document and numbers. The answer is written behind `out`. `Refused` where the
 /// text is no document, or the words are no arguments for the call.
 pub fn call(
@@ -53,10 +70,5 @@ pub fn call(
     if name == "find_vertices" {
         return vertices::find(alloc, given, out);
     }
-    let document = document_of(alloc, text)?;
-    if words::answer(alloc, name, given, &document.gens, out)? {
-        return Ok(());
-    }
-    let numbers = numbers_of(alloc, given)?;
-    number_answer(alloc, name, &numbers, &document, out)
+    document_answer(alloc, name, given, &document_of(alloc, text)?, out)
 }

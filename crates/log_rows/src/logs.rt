@@ -5,12 +5,13 @@ ghost use Rattle.symmetric_sums.specs.declared.term.Term.{Term};
 ghost use Rattle.symmetric_sums.specs.Terms.{FitsOver};
 ghost use Rattle.cofactor_log.specs.Entries.{KeepsRule};
 
+use certificate_text::Block;
 use cofactor_log::{Entry, Log};
 use identity_queries::block_of;
 use presentation_text::{Document, write_number};
 use rows::{RowFail, end_line, end_number, write_next};
 use sqlite_items::Items;
-use std::alloc::Global;
+use std::alloc::{AllocError, Global};
 use symmetric_sums::Sum;
 
 /// The log over the document's relations.
@@ -41,16 +42,21 @@ fn push_zero(alloc: Global, log: &mut Log, out: &mut Vec<u8>) -> Result<(), RowF
     }
 }
 
+// Ends a line by numbers, with a blank before each.
+fn end_numbers(numbers: &[u32], out: &mut Vec<u8>) -> Result<(), RowFail> {
+    for number in numbers {
+        write_next(u64::from(*number), out)?;
+    }
+    Ok(end_line("", out)?)
+}
+
 // Writes the numbers of the entries on which the entry with this number rests.
 fn write_rest(alloc: Global, log: &Log, number: u32, out: &mut Vec<u8>) -> Result<(), RowFail>
     requires held { (0 < number) × (number ≤ length log.now.entries) }
 {
     write_number(u64::from(number), out)?;
     out.push(b':')?;
-    for rest in log.rests_on(alloc, number)?.iter() {
-        write_next(u64::from(*rest), out)?;
-    }
-    Ok(end_line("", out)?)
+    end_numbers(&log.rests_on(alloc, number)?, out)
 }
 
 // The same for each entry.
@@ -59,6 +65,29 @@ fn write_rests(alloc: Global, log: &Log, out: &mut Vec<u8>) -> Result<(), RowFai
         write_rest(alloc, log, at as u32 + 1, out)?;
     }
     Ok(())
+}
+
+// Pushes that entry so many times: in a line how many entries there were, and the number of each.
+fn push_zeros(alloc: Global, log: &mut Log, times: u32, out: &mut Vec<u8>) -> Result<(), RowFail> {
+    write_number(log.entries().len() as u64, out)?;
+    for _ in 0..times {
+        push_zero(alloc, log, out)?;
+    }
+    Ok(end_line("", out)?)
+}
+
+// On how many entries no uses rest.
+fn count_without_uses(alloc: Global, log: &Log) -> Result<usize, AllocError> {
+    Ok(log.uses_rest_on(alloc, &[])?.len())
+}
+
+// Pushes that entry so many times to the log, and writes what the log is then.
+fn push_over(alloc: Global, log: &mut Log, times: u32, out: &mut Vec<u8>) -> Result<(), RowFail> {
+    push_zeros(alloc, log, times, out)?;
+    end_number(log.entries().len() as u64, out)?;
+    write_rests(alloc, log, out)?;
+    let rest = count_without_uses(alloc, log)?;
+    Ok(end_number(rest as u64, out)?)
 }
 
 /// Pushes the entry of the element 0 so many times to the log over the document's relations: in a line how many entries there
@@ -74,25 +103,29 @@ pub fn push(
     let [times] = numbers else {
         return Err(RowFail::Refused);
     };
-    let mut log = log_of(alloc, document)?;
-    write_number(log.entries().len() as u64, out)?;
-    for _ in 0..*times {
-        push_zero(alloc, &mut log, out)?;
-    }
-    end_line("", out)?;
-    end_number(log.entries().len() as u64, out)?;
-    write_rests(alloc, &log, out)?;
-    let rest = log.uses_rest_on(alloc, &[])?.len();
-    Ok(end_number(rest as u64, out)?)
+    push_over(alloc, &mut log_of(alloc, document)?, *times, out)
+}
+
+// The block that wants the element 0 by an entry that uses nothing.
+fn zero_block(alloc: Global, log: &Log) -> Result<Block, AllocError> {
+    block_of(alloc, log, &zero(alloc))
+}
+
+// Writes how many terms the block wants, and how many steps it has.
+fn write_block(block: &Block, out: &mut Vec<u8>) -> Result<(), RowFail> {
+    write_number(block.want.terms().len() as u64, out)?;
+    write_next(block.steps.len() as u64, out)?;
+    Ok(end_line("", out)?)
+}
+
+// The same of the block that wants the element 0 over this log.
+fn write_zero_block(alloc: Global, log: &Log, out: &mut Vec<u8>) -> Result<(), RowFail> {
+    write_block(&zero_block(alloc, log)?, out)
 }
 
 /// Of the block that wants the element 0 by an entry that uses nothing: the number of terms that are wanted, and that of steps.
 pub fn block(alloc: Global, document: &Document, out: &mut Vec<u8>) -> Result<(), RowFail>
     requires fit { All (FitsOver document.now.field document.now.gens) document.now.rels }
 {
-    let log = log_of(alloc, document)?;
-    let block = block_of(alloc, &log, &zero(alloc))?;
-    write_number(block.want.terms().len() as u64, out)?;
-    write_next(block.steps.len() as u64, out)?;
-    Ok(end_line("", out)?)
+    write_zero_block(alloc, &log_of(alloc, document)?, out)
 }

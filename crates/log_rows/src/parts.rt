@@ -1,4 +1,4 @@
-ghost use Rattle.std.specs.Prelude.{IfOk};
+ghost use Rattle.std.specs.Prelude.{◌<◌, ◌^◌, IfOk};
 ghost use Rattle.std.specs.List.{All};
 ghost use Rattle.normal_listing.specs.Parting.{BothBelow};
 
@@ -36,6 +36,31 @@ fn parts_below(alloc: Global, unit: u16, numbers: &[u32]) -> Result<Vec<Part>, R
     Ok(parts)
 }
 
+// Writes each part in a line.
+fn write_parts(parts: &[Part], out: &mut Vec<u8>) -> Result<(), RowFail> {
+    for part in parts {
+        write_number(u64::from(part.own), out)?;
+        write_next(u64::from(part.others), out)?;
+        end_line("", out)?;
+    }
+    Ok(())
+}
+
+// Writes the ways to part a set with this leaf behind those of the set without it.
+fn write_with_last(
+    alloc: Global,
+    before: &[Part],
+    below: u16,
+    unit: u16,
+    out: &mut Vec<u8>,
+) -> Result<(), RowFail>
+    requires below { below < unit }
+    requires small { unit < 2 ^ 15 }
+    requires before { All (BothBelow unit) before.now }
+{
+    write_parts(part_with_last(alloc, before, below, unit)?.as_slice(), out)
+}
+
 /// The ways to part a set with one more leaf, each in a line. The numbers are that of the set without it, the leaf's bit, and
 /// two for each way to part that set.
 pub fn part(alloc: Global, numbers: &[u32], out: &mut Vec<u8>) -> Result<(), RowFail> {
@@ -47,10 +72,5 @@ pub fn part(alloc: Global, numbers: &[u32], out: &mut Vec<u8>) -> Result<(), Row
     }
     let unit = *unit as u16;
     let before = parts_below(alloc, unit, before)?;
-    for part in part_with_last(alloc, &before, *below as u16, unit)?.as_slice() {
-        write_number(u64::from(part.own), out)?;
-        write_next(u64::from(part.others), out)?;
-        end_line("", out)?;
-    }
-    Ok(())
+    write_with_last(alloc, &before, *below as u16, unit, out)
 }

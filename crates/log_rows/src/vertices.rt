@@ -1,4 +1,4 @@
-ghost use Rattle.std.specs.Prelude.{◌≡◌, ◌<◌, ◌∷◌, [], ℕ, List, IfOk, IfSome, length};
+ghost use Rattle.std.specs.Prelude.{◌≡◌, ◌<◌, ◌∷◌, ◌++◌, [], ℕ, List, IfOk, IfSome, OnOk, length};
 ghost use Rattle.std.specs.List.{All};
 ghost use Rattle.labelled_trees.specs.Trees.{Tree, leaf};
 ghost use Rattle.shuffle_insertions.specs.ShuffleTrees.{IsShuffle};
@@ -63,29 +63,24 @@ fn corolla_of(store: &Store, id: TreeId) -> Result<Corolla, RowFail>
     }
 }
 
-// The ids of the trees on no leaf, on the first, and on the second.
-fn ids_of(alloc: Global, corolla: Corolla) -> Result<Vec<Items<TreeId>>, AllocError>
-    ensures each { IfOk result (λ lists. lists.items ≡ each_of corolla.first corolla.second) }
+// Puts the list of one thing behind the lists.
+fn push_lone<T: Copy>(alloc: Global, lists: &mut Vec<Items<T>>, item: T) -> Result<(), AllocError>
+    ensures pushed { OnOk result (lists.new.items ≡ lists.old.items ++ (item ∷ []) ∷ []) }
 {
-    let mut lists = Vec::new(alloc);
-    lists.push(Items::new(alloc))?;
-    lists.push(Items::from_slice(alloc, &[corolla.first])?)?;
-    lists.push(Items::from_slice(alloc, &[corolla.second])?)?;
-    Ok(lists)
+    let mut lone = Items::new(alloc);
+    lone.push(item)?;
+    lists.push(lone)?;
+    Ok(())
 }
 
-// Their words.
-fn words_of(
-    alloc: Global,
-    first: SpellingWord,
-    second: SpellingWord,
-) -> Result<Vec<Items<SpellingWord>>, AllocError>
+// Nothing, and then each of two things alone.
+fn each_of<T: Copy>(alloc: Global, first: T, second: T) -> Result<Vec<Items<T>>, AllocError>
     ensures each { IfOk result (λ lists. lists.items ≡ each_of first second) }
 {
     let mut lists = Vec::new(alloc);
     lists.push(Items::new(alloc))?;
-    lists.push(Items::from_slice(alloc, &[first])?)?;
-    lists.push(Items::from_slice(alloc, &[second])?)?;
+    push_lone(alloc, &mut lists, first)?;
+    push_lone(alloc, &mut lists, second)?;
     Ok(lists)
 }
 
@@ -93,12 +88,11 @@ fn words_of(
 fn parted(alloc: Global) -> Result<Vec<Items<Part>>, AllocError>
     ensures parts { IfOk result (λ lists. lists.items ≡ both_parts) }
 {
-    let both = Part { own: 1, others: 2 };
     let mut lists = Vec::new(alloc);
     lists.push(Items::new(alloc))?;
     lists.push(Items::new(alloc))?;
     lists.push(Items::new(alloc))?;
-    lists.push(Items::from_slice(alloc, &[both])?)?;
+    push_lone(alloc, &mut lists, Part { own: 1, others: 2 })?;
     Ok(lists)
 }
 
@@ -111,9 +105,19 @@ fn two_leaves(alloc: Global, corolla: Corolla) -> Result<TwoLeaves, AllocError>
     let first = SpellingWord::symbol(corolla.first_leaf);
     let second = SpellingWord::symbol(corolla.second_leaf);
     Ok(TwoLeaves {
-        ids: ids_of(alloc, corolla)?,
-        words: words_of(alloc, first, second)?,
+        ids: each_of(alloc, corolla.first, corolla.second)?,
+        words: each_of(alloc, first, second)?,
         parted: parted(alloc)?,
+    })
+}
+
+// A label of a generator, by the order of its inputs.
+fn label_of(alloc: Global, generator: u8, order: &[u8]) -> Result<Label, AllocError>
+    ensures label { IfOk result (λ label. (label.generator ≡ generator) × (label.order ≡ order.now)) }
+{
+    Ok(Label {
+        generator,
+        order: Items::from_slice(alloc, order)?,
     })
 }
 
@@ -122,14 +126,8 @@ fn labels_of(alloc: Global, generator: u8) -> Result<Vec<Label>, AllocError>
     ensures labels { IfOk result (λ labels. labels.items ≡ both_labels generator) }
 {
     let mut labels = Vec::new(alloc);
-    labels.push(Label {
-        generator,
-        order: Items::from_slice(alloc, &[1, 2])?,
-    })?;
-    labels.push(Label {
-        generator,
-        order: Items::from_slice(alloc, &[2, 1])?,
-    })?;
+    labels.push(label_of(alloc, generator, &[1, 2])?)?;
+    labels.push(label_of(alloc, generator, &[2, 1])?)?;
     Ok(labels)
 }
 
@@ -206,8 +204,70 @@ fn write_symbols(word: SpellingWord, out: &mut Vec<u8>) -> Result<(), AllocError
     end_line("", out)
 }
 
-// Writes the words that are found over the leaves of the tree with this id, and with this lead.
+// Writes words, each in a line.
+fn write_words(words: &[SpellingWord], out: &mut Vec<u8>) -> Result<(), RowFail> {
+    for word in words {
+        write_symbols(*word, out)?;
+    }
+    Ok(())
+}
+
+// Writes the words that are found over these leaves and leads.
 fn write_found(
+    alloc: Global,
+    store: &Store,
+    labels: &[Label],
+    leads: &[Items<Lead>],
+    leaves: &TwoLeaves,
+    out: &mut Vec<u8>,
+) -> Result<(), RowFail>
+    requires leaves { HasCorolla store.now leaves.now }
+    requires labels { (generator : ℕ) × (generator < 22) × (labels.now ≡ both_labels generator) }
+    requires both { length leads.now ≡ 2 }
+    requires leads { All (All (IsShuffleLead store.now)) leads.now }
+{
+    let found = found(alloc, store, labels, leads, leaves)?;
+    write_words(found.words.as_slice(), out)
+}
+
+// The same, where the lead has the label of this number.
+fn write_led(
+    alloc: Global,
+    store: &Store,
+    leaves: &TwoLeaves,
+    labels: &[Label],
+    lead: Option<Lead>,
+    label: u16,
+    out: &mut Vec<u8>,
+) -> Result<(), RowFail>
+    requires leaves { HasCorolla store.now leaves.now }
+    requires labels { (generator : ℕ) × (generator < 22) × (labels.now ≡ both_labels generator) }
+    requires lead { IfSome lead (IsShuffleLead store.now) }
+{
+    let leads = leads_of(alloc, lead, label)?;
+    write_found(alloc, store, labels, &leads, leaves, out)
+}
+
+// The same over the labels of a generator.
+fn write_labelled(
+    alloc: Global,
+    store: &Store,
+    leaves: &TwoLeaves,
+    generator: u8,
+    lead: Option<Lead>,
+    label: u16,
+    out: &mut Vec<u8>,
+) -> Result<(), RowFail>
+    requires leaves { HasCorolla store.now leaves.now }
+    requires generator { generator < 22 }
+    requires lead { IfSome lead (IsShuffleLead store.now) }
+{
+    let labels = labels_of(alloc, generator)?;
+    write_led(alloc, store, leaves, &labels, lead, label, out)
+}
+
+// Writes the words that are found over the leaves of the tree with this id, and with this lead.
+fn write_vertex(
     alloc: Global,
     store: &Store,
     id: TreeId,
@@ -221,16 +281,45 @@ fn write_found(
     requires valid { IfSome lead (λ lead. IsShuffle lead.arity (tree_at store.now id)) }
 {
     let corolla = corolla_of(store, id)?;
+    let label = corolla.label;
     let leaves = two_leaves(alloc, corolla)?;
-    let labels = labels_of(alloc, generator)?;
-    let leads = leads_of(alloc, lead, corolla.label)?;
-    for word in found(alloc, store, &labels, &leads, &leaves)?
-        .words
-        .as_slice()
-    {
-        write_symbols(*word, out)?;
-    }
-    Ok(())
+    write_labelled(alloc, store, &leaves, generator, lead, label, out)
+}
+
+// The same for a tree, which is put into the store.
+fn write_tree(
+    alloc: Global,
+    store: &mut Store,
+    tree: &STree,
+    is_lead: bool,
+    generator: u8,
+    out: &mut Vec<u8>,
+) -> Result<(), RowFail>
+    requires generator { generator < 22 }
+{
+    let id = store.put(alloc, tree)?;
+    write_vertex(alloc, store, id, lead_of(tree, id, is_lead), generator, out)
+}
+
+// The same for a tree that a word spells.
+fn write_spelled(
+    alloc: Global,
+    word: &String,
+    is_lead: bool,
+    generator: u8,
+    out: &mut Vec<u8>,
+) -> Result<(), RowFail>
+    requires generator { generator < 22 }
+{
+    let tree = shuffle_of(alloc, word)?;
+    write_tree(
+        alloc,
+        &mut Store::new(alloc),
+        &tree,
+        is_lead,
+        generator,
+        out,
+    )
 }
 
 /// The words of the vertices over two leaves whose labels are those of a generator with two inputs of no symmetry: by the
@@ -243,9 +332,5 @@ pub fn find(alloc: Global, given: &[String], out: &mut Vec<u8>) -> Result<(), Ro
     if generator > 21 {
         return Err(RowFail::Refused);
     }
-    let tree = shuffle_of(alloc, tree)?;
-    let mut store = Store::new(alloc);
-    let id = store.put(alloc, &tree)?;
-    let lead = lead_of(&tree, id, !leads.is_empty());
-    write_found(alloc, &store, id, lead, generator, out)
+    write_spelled(alloc, tree, !leads.is_empty(), generator, out)
 }

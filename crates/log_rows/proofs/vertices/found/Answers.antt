@@ -1,4 +1,4 @@
-use Rattle.std.proofs.Common.{◌≡◌, ◌<◌, ◌∙◌, ℕ, List, length, ap, sym, subst}
+use Rattle.std.proofs.Common.{◌<◌, ◌∙◌, ℕ, List, length, ap, sym, subst}
 use Rattle.modular_sums.specs.Lists.{Mem}
 use Rattle.normal_listing.specs.Choices.{choices}
 use Rattle.normal_listing.specs.Vertices.{generator_of, word_of, IsShuffleLead, IsVertex}
