@@ -1,11 +1,9 @@
 -- The elements of a basis that falls, as ids: they are given for its setting, which fits.
-use Rattle.std.proofs.Common.{◌≡◌, ℕ, zero, suc, ◌-◌, ◌<◌, ◌≤◌, List, [], ◌∷◌, length, map, get_or, refl, sym, ◌∙◌, ap, arith, subst, inl, inr, ◌⊎◌, Option, Some, None, slice_get}
-use mathlib.Core.Path.{ap₂}
+use Rattle.std.proofs.Common.{◌≡◌, ℕ, zero, suc, ◌-◌, ◌<◌, List, [], ◌∷◌, length, map, refl, sym, ◌∙◌, ap, arith, subst, inl, inr, Some, slice_get}
 use Rattle.std.specs.List.{All, AllByRecursion}
 use Rattle.std.specs.declared.cmp.Ordering.{Ordering}
 use Rattle.std.specs.declared.cmp.Ordering.TheVariants.{Less, Equal, Greater}
 use Rattle.std.specs.Ordering.{ordering_reverse}
-use Rattle.std.proofs.lemmas.Option.{slice_get_within, slice_get-get_or}
 use Rattle.modular_sums.specs.Lists.{Mem, Distinct}
 use Rattle.modular_sums.proofs.Lists.{mem_map, mem_of_map}
 use Rattle.modular_sums.specs.Sums.{AllTerms, moved}
@@ -18,14 +16,14 @@ use Rattle.shuffle_insertions.specs.ShuffleTrees.{IsShuffle, IsShuffleTree}
 use Rattle.shuffle_insertions.specs.Orders.{IsTreeOrder}
 use Rattle.shuffle_trees.specs.LabelLists.{arity_in}
 use Rattle.shuffle_trees.proofs.Counts.{count_of_shuffle}
-use Rattle.shuffle_bases.specs.Elements.{Element, IsMonic, AreMonic, IsLess}
+use Rattle.shuffle_bases.specs.Elements.{Element, IsMonic, AreMonic}
 use Rattle.tree_store.specs.Stores.{tree_at}
-use Rattle.tree_store.proofs.Trees.{one_place, mem_at, place_of}
+use Rattle.tree_store.proofs.Trees.{one_place}
 use Rattle.shuffle_sums.specs.Shelves.{Shelf, HasKey, IsShelf}
 use Rattle.shuffle_sums.specs.Sums.{over, AreTrees, FallsBy, HaveKeys}
 use Rattle.shuffle_sums.proofs.Arities.{within_shelf}
 use Rattle.division.specs.declared.reducer.Reducer.{Reducer}
-use Rattle.division.specs.Bases.{AreLeads, BasisFalls, IsMonicSum, element_of, elements_over, first_id, setting_over}
+use Rattle.division.specs.Bases.{BasisFalls, IsMonicSum, element_of, first_id, setting_over}
 use Rattle.division.specs.Dividers.{AreReducers, HaveRoom}
 use Rattle.division.specs.Given.{AreGiven, IsFitSetting, behind, coefs_of, numbers_in, reducer_of}
 use Rattle.division.specs.Insertions.{IsReducer}

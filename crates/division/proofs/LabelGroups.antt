@@ -1,17 +1,17 @@
 -- Elements grouped by the labels of the roots of their leading trees.
-use Rattle.std.specs.Prelude.{slice_index, slice_index_or}
-use Rattle.std.proofs.Common.{◌≡◌, ◌≢◌, ℕ, zero, suc, ◌+◌, ◌<◌, ◌≤◌, List, [], ◌∷◌, length, get_or, refl, sym, ◌∙◌, ap, arith, subst, Option, Some, None, slice_get, inl, inr, ◌⊎◌}
+use Rattle.std.specs.Prelude.{slice_index}
+use Rattle.std.proofs.Common.{◌≡◌, ℕ, zero, suc, ◌+◌, ◌<◌, List, [], ◌∷◌, length, refl, sym, ◌∙◌, ap, arith, subst, Some, slice_get, inl, inr, ◌⊎◌}
 use mathlib.Core.List.{◌++◌}
 use native.Mathlib.Decide.{ℕ_discrete, dec_lt}
 use Rattle.std.specs.List.{All}
 use Rattle.std.proofs.lemmas.List.{length-append, get_or_append_left}
-use Rattle.std.proofs.lemmas.Option.{slice_get_within, slice_get-get_or, get_or_from_slice_get}
+use Rattle.std.proofs.lemmas.Option.{slice_get_within, get_or_from_slice_get}
 use Rattle.std.proofs.Math.Seq.{get_or-append_seam}
 use Rattle.modular_sums.specs.Lists.{Mem}
 use Rattle.modular_sums.proofs.Lists.{mem_left, mem_right, mem_either}
 use Rattle.labelled_trees.specs.Trees.{Tree, node}
 use Rattle.tree_store.specs.Stores.{tree_at, HasLabel}
-use Rattle.tree_store.proofs.Trees.{mem_at, place_of}
+use Rattle.tree_store.proofs.Trees.{mem_at}
 use Rattle.division.specs.declared.reducer.Reducer.{Reducer}
 use Rattle.division.specs.Dividers.{AreGroups}
 use Rattle.division.specs.Roots.{EntersAt, group_at}

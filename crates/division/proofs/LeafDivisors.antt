@@ -1,7 +1,7 @@
 -- A leaf divides no tree.
-use Rattle.std.proofs.Common.{◌≡◌, ℕ, List, sym, ◌∙◌, subst, Option, Some, None}
+use Rattle.std.proofs.Common.{◌≡◌, ℕ, Some, None}
 use Rattle.labelled_trees.specs.Trees.{Tree, leaf, node, IsNode}
-use Rattle.shuffle_places.specs.Places.{divisor_of, IsPlace}
+use Rattle.shuffle_places.specs.Places.{divisor_of}
 use Rattle.shuffle_places.proofs.Places.{cut_of_place}
 use Rattle.tree_divisors.specs.Finding.{HasNoPlace}
 use Rattle.division.specs.Roots.{root_label}

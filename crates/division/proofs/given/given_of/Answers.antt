@@ -1,8 +1,6 @@
 use Rattle.std.proofs.Common.{◌≡◌, List, ℕ, ap, map, sym, subst, ◌∙◌}
-use mathlib.Core.Path.{ap₂}
 use Rattle.std.proofs.lemmas.List.{take_all}
 use Rattle.labelled_trees.specs.Trees.{Tree}
-use Rattle.division.specs.declared.reducer.Reducer.{Reducer}
 use Rattle.division.specs.Bases.{setting_over}
 use Rattle.division.specs.Dividers.{AreReducers, HaveRoom}
 use Rattle.division.specs.Given.{AreGiven, coefs_of, reducer_of}

@@ -1,6 +1,5 @@
-use Rattle.std.proofs.Common.{◌<◌, ◌≤◌, ◌≡◌, ℕ, Some, arith, ap, sym, subst, ◌∙◌, length, slice_get}
+use Rattle.std.proofs.Common.{Some, arith, ap, sym, ◌∙◌}
 use Rattle.std.proofs.lemmas.Option.{slice_get-get_or}
-use Rattle.division.specs.Roots.{EntersAt}
 use Rattle.division.proofs.LabelGroups.{groups_all, groups_more}
 use Rattle.division.proofs.given.groups_of.Goals as goal
 

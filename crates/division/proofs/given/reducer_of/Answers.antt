@@ -1,5 +1,3 @@
-use Rattle.std.proofs.Common.{subst, sym}
-use Rattle.division.specs.Given as spec
 use Rattle.division.proofs.SumParts.{coefs_made, reducer_made}
 use Rattle.division.proofs.given.reducer_of.Goals as goal
 

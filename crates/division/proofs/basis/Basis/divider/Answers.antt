@@ -1,4 +1,4 @@
-use Rattle.std.proofs.Common.{◌<◌, ℕ, List, arith, ap, length, subst}
+use Rattle.std.proofs.Common.{ℕ, List, arith, ap, length, subst}
 use Rattle.tree_divisors.specs.Finding.{HasNoPlace}
 use Rattle.division.specs.Bases.{lead_at}
 use Rattle.division.proofs.basis.Basis.divider.Goals as goal
