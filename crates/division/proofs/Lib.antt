@@ -2,6 +2,7 @@ pub mod Agreeing
 pub mod Builds
 pub mod Coning
 pub mod Elements
+pub mod FallingBases
 pub mod FewIds
 pub mod FirstDividers
 pub mod GrownCones
@@ -9,7 +10,9 @@ pub mod Indexed
 pub mod InputTrees
 pub mod KeptBases
 pub mod KeptLists
+pub mod LabelGroups
 pub mod LaidParts
+pub mod LeafDivisors
 pub mod MadeTrees
 pub mod Meeting
 pub mod NewLeads
@@ -19,5 +22,6 @@ pub mod Ranking
 pub mod RootGroups
 pub mod Rowing
 pub mod Ruling
+pub mod SumParts
 pub mod TailSteps
 pub mod WholeTrees

@@ -1,6 +1,6 @@
 ghost use Rattle.std.specs.Prelude.{◌≡◌, ◌<◌, ◌+◌, ◌*◌, ◌++◌, ◌∷◌, ℕ, [], Some, length, set, slice_index_or, OnOk, OnErr};
 ghost use Rattle.division.specs.Roots as spec;
-ghost use Rattle.division.specs.Roots.{ArePositions, EntersLabel, IsSmallRoot, SameGroups, group_place};
+ghost use Rattle.division.specs.Roots.{ArePositions, EntersAt, EntersLabel, IsSmallRoot, SameGroups, group_place};
 
 use crate::root::Root;
 use sqlite_items::Items;
@@ -116,6 +116,20 @@ impl Index {
     }
 }
 
+/// Puts a position behind those of the group at this place. The groups are as before after an error.
+pub(crate) fn enter_at(
+    alloc: Global,
+    groups: &mut Vec<Items<u32>>,
+    place: usize,
+    position: u32,
+) -> Result<(), AllocError>
+    ensures entered { OnOk result (EntersAt groups.old.items groups.new.items place position) }
+    ensures same { OnErr result (SameGroups groups.old.items groups.new.items) }
+{
+    widen_groups(alloc, groups, place)?;
+    push_position(groups, place, position)
+}
+
 // Puts a position into the group of its root, if this has a label.
 fn enter_group(
     alloc: Global,
@@ -129,10 +143,6 @@ fn enter_group(
 {
     match root.label {
         None => Ok(()),
-        Some(label) => {
-            let place = place_of(label, root.arity);
-            widen_groups(alloc, groups, place)?;
-            push_position(groups, place, position)
-        }
+        Some(label) => enter_at(alloc, groups, place_of(label, root.arity), position),
     }
 }

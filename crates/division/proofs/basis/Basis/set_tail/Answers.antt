@@ -1,11 +1,11 @@
 use Rattle.std.proofs.Common.{ℕ, List, ◌∙◌, ◌≡◌, ◌<◌, ◌∷◌, length, map, get_or, set, ap, sym, subst}
 use mathlib.Core.List.{◌++◌}
 use mathlib.Core.Path.{ap₂}
-use Rattle.division.specs.Bases.{AreLeads, Basis, IsIndexedBy, first_id, tailed}
+use Rattle.division.specs.Bases.{Basis, IsBasis, IsIndexedBy, first_id, tailed}
 use Rattle.division.specs.Roots.{root_of}
 use Rattle.tree_store.specs.Stores.{tree_at}
 use Rattle.division.proofs.Indexed.{roots_again}
-use Rattle.division.proofs.NewTails.{leads_again, replaced_there}
+use Rattle.division.proofs.NewTails.{basis_again, replaced_there}
 use Rattle.division.proofs.basis.Basis.set_tail.Goals as goal
 
 pub invariant_of-self : goal.invariant_of-self
@@ -16,7 +16,7 @@ invariant_of-self g c =
     let made_is : c.set.new.self ≡ set els at (tailed sum c.args.tail) = c.set.ensures ∙ ap (set els at) c.in_ok-made.ensures.made in
     let sum_is : sum ≡ get_or els at sum = c.index-as_slice-at.is ∙ ap (λ l. get_or l at sum) c.as_slice.ensures in
     let within : at < length els = subst (λ (b : Basis). at < length b.elements) (sym c.self.view_is) c.requires.at in
-    subst AreLeads (sym made_is) (leads_again els at sum c.args.tail c.self.invariant within sum_is)
+    subst IsBasis (sym made_is) (basis_again els at sum c.args.tail c.self.invariant within sum_is)
 
 pub returns-clause-replaced : goal.returns-clause-replaced
 returns-clause-replaced g c = λ front back x old e l.
@@ -39,4 +39,4 @@ returns-clause-indexed g c = λ shelf i.
     let sum_is : sum ≡ get_or els at sum = c.index-as_slice-at.is ∙ ap (λ l. get_or l at sum) c.as_slice.ensures in
     let within : at < length els = subst (λ (b : Basis). at < length b.elements) (sym c.self.view_is) c.requires.at in
     let before : c.self.inside.index ≡ roots els = subst (IsIndexedBy shelf) (sym c.self.view_is) i in
-    before ∙ sym (ap roots made_is ∙ roots_again shelf els at sum c.args.tail c.self.invariant.monic within sum_is)
+    before ∙ sym (ap roots made_is ∙ roots_again shelf els at sum c.args.tail c.self.invariant.leads.monic within sum_is)

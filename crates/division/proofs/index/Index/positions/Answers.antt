@@ -1,4 +1,4 @@
-use Rattle.std.proofs.Common.{[], arith, ap, sym, subst, ◌∙◌}
+use Rattle.std.proofs.Common.{[], arith, ap, subst, ◌∙◌}
 use Rattle.division.specs.Roots.{ArePositions, group_at}
 use Rattle.division.proofs.RootGroups.{group_found, none_small}
 use Rattle.division.proofs.index.Index.positions.Goals as goal

@@ -1,4 +1,4 @@
-use Rattle.std.proofs.Common.{sym, subst, ◌∙◌}
+use Rattle.std.proofs.Common.{sym, subst}
 use Rattle.division.specs.Roots.{AreGrouped, EntersLabel}
 use Rattle.division.proofs.RootGroups.{grouped_more}
 use Rattle.division.proofs.index.Index.push.Goals as goal
