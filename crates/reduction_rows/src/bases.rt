@@ -1,7 +1,7 @@
 ghost use Rattle.std.specs.Prelude.{◌≡◌, ◌<◌, IfOk, IsTrue, length};
 ghost use Rattle.shuffle_sums.specs.Settings.{labels_of};
 ghost use Rattle.shuffle_sums.specs.Shelves.{KeepsShelf};
-ghost use Rattle.division.specs.Bases.{IsIndexedBy, IsMonicSum};
+ghost use Rattle.division.specs.Bases.{AllStand, IsIndexedBy, IsMonicSum};
 
 use crate::adding::plus_of;
 use crate::sums::spelled_sum;
@@ -9,8 +9,9 @@ use crate::terms::write_terms;
 use division::Basis;
 use path_orders::TreeOrder;
 use presentation_text::write_number;
-use rows::{RowFail, end_line, small_number_of, write_next, write_text};
+use rows::{RowFail, end_line, shuffle_of, small_number_of, write_next, write_text};
 use shuffle_sums::{SSum, Setting, Shelf};
+use shuffle_trees::STree;
 use std::alloc::Global;
 
 // Whether the first term of the sum has the coefficient 1.
@@ -33,6 +34,7 @@ fn basis_of<O: TreeOrder>(
     requires own { shelf.old.labels ≡ labels_of setting.now }
     ensures indexed { IfOk result (IsIndexedBy shelf.new) }
     ensures one { IfOk result (λ basis. length basis.elements ≡ 1) }
+    ensures stands { IfOk result (λ basis. AllStand shelf.new basis.elements) }
     ensures labels { IfOk result (λ basis. shelf.new.labels ≡ labels_of setting.now) }
 {
     let sum = spelled_sum(alloc, setting, shelf, words)?;
@@ -89,4 +91,44 @@ pub fn candidates<O: TreeOrder>(
         write_next(u64::from(*position), out)?;
     }
     Ok(end_line("", out)?)
+}
+
+// Writes the position of the first element whose leading tree divides a tree, and its first place; `none` where there is none.
+fn write_divider<O: TreeOrder>(
+    alloc: Global,
+    shelf: &Shelf,
+    basis: &Basis<O>,
+    tree: &STree,
+    out: &mut Vec<u8>,
+) -> Result<(), RowFail>
+    requires stands { AllStand shelf.now basis.now.elements }
+    requires indexed { IsIndexedBy shelf.now basis.now }
+{
+    let Some((position, place)) = basis.divider(alloc, shelf, tree)? else {
+        return Ok(end_line("none", out)?);
+    };
+    write_number(u64::from(position), out)?;
+    write_text(" at", out)?;
+    for vertex in place.vertices() {
+        write_next(u64::from(*vertex), out)?;
+    }
+    Ok(end_line("", out)?)
+}
+
+/// What divides the tree before the terms: the position, in the basis of their sum, of the first element whose leading tree does,
+/// and the first place where it does; `none` where there is no such element.
+pub fn divider<O: TreeOrder>(
+    alloc: Global,
+    setting: &Setting<O>,
+    shelf: &mut Shelf,
+    words: &[String],
+    out: &mut Vec<u8>,
+) -> Result<(), RowFail>
+    requires own { shelf.old.labels ≡ labels_of setting.now }
+{
+    let [word, terms @ ..] = words else {
+        return Err(RowFail::Refused);
+    };
+    let basis = basis_of(alloc, setting, shelf, terms)?;
+    write_divider(alloc, shelf, &basis, &shuffle_of(alloc, word)?, out)
 }

@@ -21,6 +21,7 @@ fn document_answer(
         "s_element" => settings::called(alloc, document, SumCall::SElement, words, out),
         "Basis::add" => settings::called(alloc, document, SumCall::Add, words, out),
         "Basis::candidates" => settings::called(alloc, document, SumCall::Candidates, words, out),
+        "Basis::divider" => settings::called(alloc, document, SumCall::Divider, words, out),
         "Shelf::shelve" => shelves::shelve(alloc, document, words, out),
         "insert_at_root" => elements::inserted(alloc, document, words, out),
         "step" => elements::stepped(alloc, document, words, out),
@@ -43,6 +44,7 @@ pub fn has_call(name: &str) -> bool {
             | "s_element"
             | "Basis::add"
             | "Basis::candidates"
+            | "Basis::divider"
             | "Shelf::shelve"
             | "insert_at_root"
             | "step"

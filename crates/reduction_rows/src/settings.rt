@@ -25,6 +25,8 @@ pub enum SumCall {
     Add,
     /// `Basis::candidates`
     Candidates,
+    /// `Basis::divider`
+    Divider,
 }
 
 // The order by the weights of the document's generators.
@@ -55,6 +57,7 @@ fn call_over<O: TreeOrder>(
         SumCall::SElement => s_element_of(alloc, setting, &mut shelf, words, out),
         SumCall::Add => bases::kept(alloc, setting, &mut shelf, words, out),
         SumCall::Candidates => bases::candidates(alloc, setting, &mut shelf, words, out),
+        SumCall::Divider => bases::divider(alloc, setting, &mut shelf, words, out),
     }
 }
 
