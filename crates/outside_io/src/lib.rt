@@ -5,8 +5,6 @@ mod calls;
 mod memory;
 mod real;
 mod sure;
-#[cfg(test)]
-mod tests;
 mod whole;
 mod words;
 

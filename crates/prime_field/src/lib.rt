@@ -1,9 +1,6 @@
 //! Arithmetic modulo a prime of a short list.
 #![tactic(auto)]
 
-#[cfg(test)]
-mod tests;
-
 ghost use Rattle.std.specs.Prelude.{ℕ, ◌≡◌, ◌+◌, ◌-◌, ◌*◌, ◌/◌, ◌<◌, ◌≤◌, pos, ◌-ℤ◌, SomeIff};
 ghost use Rattle.prime_field.specs.Laws.{Fields};
 ghost use Rattle.prime_field.specs.Primes.{IsFieldPrime};

@@ -1,4 +1,4 @@
-ghost use Rattle.std.specs.Prelude.{◌≡◌, ◌<◌, ◌≤◌, ◌+◌, ◌++◌, ◌^◌, ◌-◌, ℕ, List, [], Some, None, length, slice_get, slice_set, slice_range, IfOk, IsTrue, OnOk, OnErr, MatchOption, map};
+ghost use Rattle.std.specs.Prelude.{◌≡◌, ◌<◌, ◌≤◌, ◌+◌, ◌++◌, ◌^◌, ◌-◌, ℕ, List, [], Some, None, length, slice_get, slice_set, slice_range, IfOk, OnOk, OnErr, MatchOption, map};
 ghost use Rattle.std.specs.List.{zip};
 ghost use Rattle.std.proofs.Common.{suc};
 ghost use Rattle.modular_sums.specs.RuleTables.{HasRule, IsRuleTail, IsUnruled};
@@ -7,8 +7,6 @@ ghost use Rattle.row_sweeps.specs.Rules.{unruled};
 ghost use Rattle.row_sweeps.specs.Stored.{nothing_stored};
 
 use crate::Term;
-#[cfg(test)]
-use crate::testing::is_falling_tail;
 use std::alloc::{AllocError, Global};
 use std::marker::Model;
 
@@ -115,25 +113,6 @@ impl RuleTable {
         let from = self.coefs.len();
         self.coefs.extend_from_slice(coefs)?;
         Ok(from)
-    }
-
-    // Whether `add_rule` may be called with these, for tests: it also asks that the positions of the tail fall.
-    #[cfg(test)]
-    pub(crate) fn takes_rule(&self, position: usize, from: usize, tail: &[u32]) -> bool
-        ensures position { IsTrue result → position < length self.now.rules }
-        ensures from { IsTrue result → from + length tail.now ≤ length self.now.coefs }
-        ensures tail { IsTrue result → IsRuleTail self.now.q position (zip (slice_range self.now.coefs from (from + length tail.now)) tail.now) }
-    {
-        let len = self.coefs.len();
-        if position >= self.rules.len() || tail.len() > len || from > len - tail.len() {
-            return false;
-        }
-        is_falling_tail(
-            self.prime,
-            position,
-            tail,
-            &self.coefs[from..from + tail.len()],
-        )
     }
 
     /// Gives a position, which is below `len()`, the rule with the positions of this tail, whose coefficients are as many of those
