@@ -1,5 +1,5 @@
 -- Sums whose first term has the coefficient 1.
-use Rattle.std.proofs.Common.{◌≡◌, ℕ, ◌<◌, List, [], ◌∷◌, length, get_or, Some, refl, ap, sym, ◌∙◌, subst, arith}
+use Rattle.std.proofs.Common.{◌≡◌, ℕ, ◌<◌, List, [], ◌∷◌, length, get_or, Some, ap, sym, ◌∙◌, subst, arith}
 use Rattle.labelled_trees.specs.Trees.{Tree}
 use Rattle.shuffle_places.specs.Places.{IsPlace}
 use Rattle.tree_store.specs.Stores.{tree_at}

@@ -6,31 +6,27 @@ ghost use Rattle.shuffle_sums.specs.Shelves.{IsShelf};
 ghost use Rattle.row_sweeps.specs.Terms.{pairs};
 ghost use Rattle.division.specs.Cones.{IsCone};
 
-use crate::stores::shelve_all;
+use crate::stores::{end_id, shelve_all};
 use crate::terms::write_terms;
 use division::{Cone, RowFail as SweepFail, add_element, cone_of, meet_all, reduce_row};
 use path_orders::{Path, TreeOrder};
 use presentation_text::{Document, write_number};
 use row_sweeps::{Steps, Term};
-use rows::{RowFail, end_line, end_tree, most_leaves, number_of};
+use rows::{RowFail, end_line, most_leaves, number_of};
 use shuffle_passage::labels_of;
 use shuffle_sums::{Shelf, Term as IdTerm};
 use shuffle_trees::{Labels, all_trees};
 use sqlite_items::Items;
-use std::alloc::Global;
+use std::alloc::{AllocError, Global};
 use tree_store::{Store, TreeId};
 
-// The ids of all shuffle trees of arity 3 over the labels; `Refused` where there are none.
+// The ids of all shuffle trees of arity 3 over the labels.
 fn listing(alloc: Global, labels: &Labels, shelf: &mut Shelf) -> Result<Vec<TreeId>, RowFail>
     requires own { shelf.old.labels ≡ labels.now }
     ensures one_arity { IfOk result (λ ids. AreOfOneArity shelf.new.trees ids.items) }
 {
     let trees = all_trees(alloc, labels, 3)?;
-    let ids = shelve_all(alloc, shelf, labels, trees.as_slice())?;
-    let [_, ..] = ids.as_slice() else {
-        return Err(RowFail::Refused);
-    };
-    Ok(ids)
+    shelve_all(alloc, shelf, labels, trees.as_slice())
 }
 
 // The cone of these trees by an order, without elements.
@@ -40,7 +36,7 @@ fn free_cone<O: TreeOrder>(
     order: &O,
     prime: u32,
     all: &[TreeId],
-) -> Result<Cone, RowFail>
+) -> Result<Cone, AllocError>
     requires one_arity { AreOfOneArity shelf.old.trees all.now }
     requires shelf { IsShelf shelf.old }
     requires positive { 0 < prime }
@@ -54,7 +50,7 @@ fn free_cone<O: TreeOrder>(
     meet_all(alloc, &mut places, &mut ids, all)?;
     let mut found = Items::new(alloc);
     let mut kept = Items::new(alloc);
-    let cone = cone_of(
+    cone_of(
         alloc,
         shelf,
         order,
@@ -67,8 +63,7 @@ fn free_cone<O: TreeOrder>(
         &mut [],
         places,
         ids,
-    )?;
-    Ok(cone)
+    )
 }
 
 // Two terms at the positions 1 and 0, by residues other than 0.
@@ -139,14 +134,17 @@ fn rest_of(alloc: Global, cone: &Cone, place: usize, bound: u64) -> Result<Items
     )
 }
 
+// Writes that the bound was spent, and the row.
+fn write_spent(row: &[IdTerm], out: &mut Vec<u8>) -> Result<(), RowFail> {
+    end_line("Spent", out)?;
+    write_terms(row, out)
+}
+
 // Writes the terms of a rest by their ids; or that the bound was spent, and the row.
 fn write_rest(rest: Result<Items<IdTerm>, SweepFail>, out: &mut Vec<u8>) -> Result<(), RowFail> {
     match rest {
-        Ok(rest) => Ok(write_terms(rest.as_slice(), out)?),
-        Err(SweepFail::Spent { row }) => {
-            end_line("Spent", out)?;
-            Ok(write_terms(row.as_slice(), out)?)
-        }
+        Ok(rest) => write_terms(rest.as_slice(), out),
+        Err(SweepFail::Spent { row }) => write_spent(row.as_slice(), out),
         Err(SweepFail::NoMemory) => Err(RowFail::NoMemory),
     }
 }
@@ -158,33 +156,107 @@ fn write_ids(alloc: Global, store: &Store, ids: &[TreeId], out: &mut Vec<u8>) ->
     for id in ids {
         write_number(id.index() as u64, out)?;
         out.push(b' ')?;
-        end_tree(store.tree_of(alloc, *id)?.shape(), out)?;
+        end_id(alloc, store, *id, out)?;
     }
     Ok(())
 }
 
 // The prime of a document.
 fn prime_of(document: &Document) -> u32
-    ensures value { result ≡ document.now.field }
     ensures positive { 0 < result }
     ensures small { result ≤ 65537 }
 {
     document.field.prime()
 }
 
-// The cone of all trees of arity 3 by the order of paths; each is written with its id.
-fn write_cone(alloc: Global, document: &Document, out: &mut Vec<u8>) -> Result<Cone, RowFail>
+// The cone of these trees by the order of paths, each of which is written with its id; `Refused` where there are none.
+fn write_free(
+    alloc: Global,
+    shelf: &mut Shelf,
+    prime: u32,
+    all: &[TreeId],
+    out: &mut Vec<u8>,
+) -> Result<Cone, RowFail>
+    requires one_arity { AreOfOneArity shelf.old.trees all.now }
+    requires positive { 0 < prime }
+    requires small { prime ≤ 65537 }
     ensures cone { IfOk result (λ cone. (given : List ℕ) × IsCone given cone) }
-    ensures prime { IfOk result (λ cone. cone.table.q ≡ document.now.field - 1) }
+    ensures prime { IfOk result (λ cone. cone.table.q ≡ prime - 1) }
 {
-    let labels = labels_of(alloc, &document.gens)?;
-    let mut shelf = Shelf::new(alloc, &labels, most_leaves(&labels))?;
-    let all = listing(alloc, &labels, &mut shelf)?;
-    let prime = prime_of(document);
+    if all.is_empty() {
+        return Err(RowFail::Refused);
+    }
     let _ = shelf.store();
-    let cone = free_cone(alloc, &mut shelf, &Path {}, prime, all.as_slice())?;
+    let cone = free_cone(alloc, shelf, &Path {}, prime, all)?;
     write_ids(alloc, shelf.store(), cone.ids.as_slice(), out)?;
     Ok(cone)
+}
+
+// The same for all trees of arity 3, in this shelf for these labels.
+fn write_all(
+    alloc: Global,
+    labels: &Labels,
+    shelf: &mut Shelf,
+    prime: u32,
+    out: &mut Vec<u8>,
+) -> Result<Cone, RowFail>
+    requires own { shelf.old.labels ≡ labels.now }
+    requires positive { 0 < prime }
+    requires small { prime ≤ 65537 }
+    ensures cone { IfOk result (λ cone. (given : List ℕ) × IsCone given cone) }
+    ensures prime { IfOk result (λ cone. cone.table.q ≡ prime - 1) }
+{
+    let all = listing(alloc, labels, shelf)?;
+    write_free(alloc, shelf, prime, &all, out)
+}
+
+// The same in a shelf for these labels.
+fn write_over(
+    alloc: Global,
+    labels: &Labels,
+    prime: u32,
+    out: &mut Vec<u8>,
+) -> Result<Cone, RowFail>
+    requires positive { 0 < prime }
+    requires small { prime ≤ 65537 }
+    ensures cone { IfOk result (λ cone. (given : List ℕ) × IsCone given cone) }
+    ensures prime { IfOk result (λ cone. cone.table.q ≡ prime - 1) }
+{
+    let mut shelf = Shelf::new(alloc, labels, most_leaves(labels))?;
+    write_all(alloc, labels, &mut shelf, prime, out)
+}
+
+// The same for the labels of the document.
+fn write_cone(
+    alloc: Global,
+    document: &Document,
+    prime: u32,
+    out: &mut Vec<u8>,
+) -> Result<Cone, RowFail>
+    requires positive { 0 < prime }
+    requires small { prime ≤ 65537 }
+    ensures cone { IfOk result (λ cone. (given : List ℕ) × IsCone given cone) }
+    ensures prime { IfOk result (λ cone. cone.table.q ≡ prime - 1) }
+{
+    write_over(alloc, &labels_of(alloc, &document.gens)?, prime, out)
+}
+
+// Adds an element by these residues to the cone, and writes the rest of the greatest tree, by at most so many steps.
+fn write_reduced(
+    alloc: Global,
+    cone: &mut Cone,
+    prime: u32,
+    residues: (u32, u32),
+    bound: u64,
+    out: &mut Vec<u8>,
+) -> Result<(), RowFail>
+    requires cone { (given : List ℕ) × IsCone given cone.old }
+    requires prime { cone.old.table.q ≡ prime - 1 }
+{
+    let (high, low) = residues;
+    add_to(alloc, cone, prime, high, low)?;
+    let place = greatest(cone)?;
+    write_rest(rest_of(alloc, cone, place, bound), out)
 }
 
 /// Over the three shuffle trees of arity 3 by the order of paths, an element is added: the greatest tree and, with the second and
@@ -202,8 +274,7 @@ pub fn reduced(
     let bound = u64::from(number_of(bound)?);
     let high = number_of(high)?;
     let low = number_of(low)?;
-    let mut cone = write_cone(alloc, document, out)?;
-    add_to(alloc, &mut cone, prime_of(document), high, low)?;
-    let place = greatest(&cone)?;
-    write_rest(rest_of(alloc, &cone, place, bound), out)
+    let prime = prime_of(document);
+    let mut cone = write_cone(alloc, document, prime, out)?;
+    write_reduced(alloc, &mut cone, prime, (high, low), bound, out)
 }

@@ -1,4 +1,4 @@
-ghost use Rattle.std.specs.Prelude.{◌≡◌, ◌<◌, ◌∷◌, [], ℕ, length, IfOk, OnOk};
+ghost use Rattle.std.specs.Prelude.{◌≡◌, ◌<◌, ◌∷◌, [], ℕ, length, IfOk, IfSome, OnOk};
 ghost use Rattle.std.specs.List.{All};
 ghost use Rattle.shuffle_insertions.specs.ShuffleTrees.{IsShuffle};
 ghost use Rattle.tree_store.specs.Stores.{tree_at, HasLabel, IsStore};
@@ -6,11 +6,10 @@ ghost use Rattle.division.specs.Dividers.{HaveRoom};
 ghost use Rattle.division.specs.Gathered.{IsWorking};
 ghost use Rattle.division.specs.Insertions.{IsReducer};
 
-use crate::stores::{ids_of, write_trees};
+use crate::stores::{shelved_trees, write_trees};
 use division::{Reducer, divides_root, insert_at_root, step};
 use presentation_text::Document;
-use rows::{RowFail, end_line, most_leaves};
-use shuffle_passage::labels_of;
+use rows::{RowFail, end_line};
 use shuffle_sums::Shelf;
 use sqlite_items::Items;
 use std::alloc::{AllocError, Global};
@@ -19,13 +18,20 @@ use tree_store::{Store, TreeId};
 /// Room for the parts of a tree at a divisor.
 pub const ROOM: usize = 16;
 
+// The arity of the tree with this id, if its leaves are 1 to some number.
+fn arity_at(alloc: Global, store: &Store, id: TreeId) -> Result<Option<u8>, AllocError>
+    requires held { id < length store.now }
+    ensures shuffle { IfOk result (λ found. IfSome found (λ arity. IsShuffle arity (tree_at store.now id))) }
+{
+    Ok(store.tree_of(alloc, id)?.arity())
+}
+
 // Stops where the leaves of the tree aren't 1 to `arity`.
 fn check_tree(alloc: Global, store: &Store, id: TreeId, arity: u8) -> Result<(), RowFail>
     requires held { id < length store.now }
     ensures shuffle { OnOk result (IsShuffle arity (tree_at store.now id)) }
 {
-    let tree = store.tree_of(alloc, id)?;
-    let Some(leaves) = tree.arity() else {
+    let Some(leaves) = arity_at(alloc, store, id)? else {
         return Err(RowFail::Refused);
     };
     if leaves != arity {
@@ -110,7 +116,29 @@ pub fn lone_element(alloc: Global, store: &Store, ids: &[TreeId]) -> Result<Lone
     })
 }
 
-// Writes the trees of an insertion at the root, or `none` where the element doesn't divide the tree there.
+// Writes the trees of an insertion at the root, or `none` where the element doesn't divide the tree there. The parts are room
+// for those of the tree.
+fn write_insertion(
+    alloc: Global,
+    shelf: &mut Shelf,
+    reducer: &Reducer,
+    host: TreeId,
+    parts: &mut [TreeId],
+    out: &mut Vec<u8>,
+) -> Result<(), RowFail>
+    requires reducer { IsReducer shelf.old.trees reducer.now }
+    requires room { reducer.now.arity < length parts.old }
+    requires host { host < length shelf.old.trees }
+{
+    if !divides_root(shelf.store(), reducer.lead, reducer.arity, host, parts) {
+        return Ok(end_line("none", out)?);
+    }
+    let mut made = Items::new(alloc);
+    insert_at_root(shelf, alloc, reducer, host, parts, &mut made)?;
+    write_trees(alloc, shelf.store(), made.as_slice(), out)
+}
+
+// The same with room for the parts.
 fn write_inserted(
     alloc: Global,
     shelf: &mut Shelf,
@@ -123,18 +151,23 @@ fn write_inserted(
     requires host { host < length shelf.old.trees }
 {
     let mut parts = vec![in alloc; TreeId::numbered(0); ROOM]?;
-    if !divides_root(
-        shelf.store(),
-        reducer.lead,
-        reducer.arity,
-        host,
-        parts.as_mut_slice(),
-    ) {
-        return Ok(end_line("none", out)?);
-    }
-    let mut made = Items::new(alloc);
-    insert_at_root(shelf, alloc, reducer, host, parts.as_mut_slice(), &mut made)?;
-    write_trees(alloc, shelf.store(), made.as_slice(), out)
+    write_insertion(alloc, shelf, reducer, host, parts.as_mut_slice(), out)
+}
+
+// The same for the element whose trees stand behind the host.
+fn insert_behind(
+    alloc: Global,
+    shelf: &mut Shelf,
+    ids: &[TreeId],
+    out: &mut Vec<u8>,
+) -> Result<(), RowFail>
+    requires held { All (λ id. id < length shelf.old.trees) ids.now }
+{
+    let [host, trees @ ..] = ids else {
+        return Err(RowFail::Refused);
+    };
+    let reducer = element_of(alloc, shelf.store(), trees)?;
+    write_inserted(alloc, shelf, &reducer, *host, out)
 }
 
 /// Inserts an element, whose trees stand behind the host, at the root of that: what becomes of the trees of its tail.
@@ -144,14 +177,35 @@ pub fn inserted(
     words: &[String],
     out: &mut Vec<u8>,
 ) -> Result<(), RowFail> {
-    let labels = labels_of(alloc, &document.gens)?;
-    let mut shelf = Shelf::new(alloc, &labels, most_leaves(&labels))?;
-    let ids = ids_of(alloc, &mut shelf, &labels, words)?;
-    let [host, trees @ ..] = ids.as_slice() else {
-        return Err(RowFail::Refused);
-    };
-    let reducer = element_of(alloc, shelf.store(), trees)?;
-    write_inserted(alloc, &mut shelf, &reducer, *host, out)
+    let (mut shelf, ids) = shelved_trees(alloc, document, words)?;
+    insert_behind(alloc, &mut shelf, &ids, out)
+}
+
+// The trees of the tail of a step.
+fn tail_of(
+    alloc: Global,
+    shelf: &mut Shelf,
+    element: &LoneElement,
+    host: TreeId,
+) -> Result<Items<TreeId>, AllocError>
+    requires working { IsWorking shelf.old.trees element.now.reducers element.now.groups [] [] }
+    requires room { HaveRoom element.now.reducers 16 }
+    requires host { host < length shelf.old.trees }
+    ensures held { IfOk result (All (λ id. id < length shelf.new.trees)) }
+{
+    let mut parts = vec![in alloc; TreeId::numbered(0); ROOM]?;
+    let mut found = Items::new(alloc);
+    let mut kept = Items::new(alloc);
+    step(
+        shelf,
+        alloc,
+        element.reducers.as_slice(),
+        element.groups.as_slice(),
+        &mut found,
+        &mut kept,
+        parts.as_mut_slice(),
+        host,
+    )
 }
 
 // Writes the trees of the tail of a step.
@@ -166,20 +220,24 @@ fn write_step(
     requires room { HaveRoom element.now.reducers 16 }
     requires host { host < length shelf.old.trees }
 {
-    let mut parts = vec![in alloc; TreeId::numbered(0); ROOM]?;
-    let mut found = Items::new(alloc);
-    let mut kept = Items::new(alloc);
-    let tail = step(
-        shelf,
-        alloc,
-        element.reducers.as_slice(),
-        element.groups.as_slice(),
-        &mut found,
-        &mut kept,
-        parts.as_mut_slice(),
-        host,
-    )?;
+    let tail = tail_of(alloc, shelf, element, host)?;
     write_trees(alloc, shelf.store(), tail.as_slice(), out)
+}
+
+// The same for the element whose trees stand behind the host.
+fn step_behind(
+    alloc: Global,
+    shelf: &mut Shelf,
+    ids: &[TreeId],
+    out: &mut Vec<u8>,
+) -> Result<(), RowFail>
+    requires held { All (λ id. id < length shelf.old.trees) ids.now }
+{
+    let [host, trees @ ..] = ids else {
+        return Err(RowFail::Refused);
+    };
+    let element = lone_element(alloc, shelf.store(), trees)?;
+    write_step(alloc, shelf, &element, *host, out)
 }
 
 /// The trees to which an element, whose trees stand behind the host, leads from that, at the place that is taken: none where it
@@ -190,12 +248,6 @@ pub fn stepped(
     words: &[String],
     out: &mut Vec<u8>,
 ) -> Result<(), RowFail> {
-    let labels = labels_of(alloc, &document.gens)?;
-    let mut shelf = Shelf::new(alloc, &labels, most_leaves(&labels))?;
-    let ids = ids_of(alloc, &mut shelf, &labels, words)?;
-    let [host, trees @ ..] = ids.as_slice() else {
-        return Err(RowFail::Refused);
-    };
-    let element = lone_element(alloc, shelf.store(), trees)?;
-    write_step(alloc, &mut shelf, &element, *host, out)
+    let (mut shelf, ids) = shelved_trees(alloc, document, words)?;
+    step_behind(alloc, &mut shelf, &ids, out)
 }

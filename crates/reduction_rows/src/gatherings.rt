@@ -4,14 +4,13 @@ ghost use Rattle.division.specs.Dividers.{HaveRoom};
 ghost use Rattle.division.specs.Gathered.{ArePlaces, IsWorking};
 
 use crate::elements::{LoneElement, ROOM, lone_element};
-use crate::stores::{ids_of, write_trees};
+use crate::stores::{shelved_trees, write_trees};
 use division::{gather, meet, meet_all};
 use presentation_text::Document;
-use rows::{RowFail, end_line, end_number, most_leaves, write_next, write_text};
-use shuffle_passage::labels_of;
+use rows::{RowFail, end_line, end_number, write_next, write_text};
 use shuffle_sums::Shelf;
 use sqlite_items::Items;
-use std::alloc::Global;
+use std::alloc::{AllocError, Global};
 use tree_store::TreeId;
 
 // Ends a line by places, with a blank before each.
@@ -38,7 +37,7 @@ fn gather_all(
     element: &LoneElement,
     places: &mut Items<Option<u32>>,
     ids: &mut Items<TreeId>,
-) -> Result<Items<Items<u32>>, RowFail>
+) -> Result<Items<Items<u32>>, AllocError>
     requires working { IsWorking shelf.old.trees element.now.reducers element.now.groups [] [] }
     requires room { HaveRoom element.now.reducers 16 }
     requires places { ArePlaces places.old ids.old }
@@ -49,7 +48,7 @@ fn gather_all(
     let mut parts = vec![in alloc; TreeId::numbered(0); ROOM]?;
     let mut found = Items::new(alloc);
     let mut kept = Items::new(alloc);
-    let tails = gather(
+    gather(
         shelf,
         alloc,
         element.reducers.as_slice(),
@@ -59,8 +58,13 @@ fn gather_all(
         parts.as_mut_slice(),
         places,
         ids,
-    )?;
-    Ok(tails)
+    )
+}
+
+// Writes the places at which trees are met.
+fn write_met(places: &[u32], out: &mut Vec<u8>) -> Result<(), RowFail> {
+    write_text("met", out)?;
+    end_places(places, out)
 }
 
 // Meets the last tree and the first one once more, and writes their places.
@@ -77,12 +81,52 @@ fn meet_again(
         [first, .., last] => [*last, *first],
         _ => return Err(RowFail::Refused),
     };
-    let again = meet_all(alloc, places, ids, &pair)?;
-    write_text("met", out)?;
-    end_places(again.as_slice(), out)
+    write_met(meet_all(alloc, places, ids, &pair)?.as_slice(), out)
 }
 
-// Writes the place of the host, the places of the tail of each tree that is reached, the trees, and the places of two of them.
+// Gathers all trees that steps can reach from those of the list, and writes the places of the tail of each.
+fn write_reached(
+    alloc: Global,
+    shelf: &mut Shelf,
+    element: &LoneElement,
+    places: &mut Items<Option<u32>>,
+    ids: &mut Items<TreeId>,
+    out: &mut Vec<u8>,
+) -> Result<(), RowFail>
+    requires working { IsWorking shelf.old.trees element.now.reducers element.now.groups [] [] }
+    requires room { HaveRoom element.now.reducers 16 }
+    requires places { ArePlaces places.old ids.old }
+    requires held { All (λ id. id < length shelf.old.trees) ids.old }
+    ensures held { OnOk result (All (λ id. id < length shelf.new.trees) ids.new) }
+    ensures places { OnOk result (ArePlaces places.new ids.new) }
+{
+    let tails = gather_all(alloc, shelf, element, places, ids)?;
+    write_tails(tails.as_slice(), out)
+}
+
+// Writes the place of the only tree of the list, the places of the tail of each tree that is reached, the trees, and the places
+// of two of them.
+fn write_list(
+    alloc: Global,
+    shelf: &mut Shelf,
+    element: &LoneElement,
+    place: u32,
+    places: &mut Items<Option<u32>>,
+    ids: &mut Items<TreeId>,
+    out: &mut Vec<u8>,
+) -> Result<(), RowFail>
+    requires working { IsWorking shelf.old.trees element.now.reducers element.now.groups [] [] }
+    requires room { HaveRoom element.now.reducers 16 }
+    requires places { ArePlaces places.old ids.old }
+    requires held { All (λ id. id < length shelf.old.trees) ids.old }
+{
+    end_number(u64::from(place), out)?;
+    write_reached(alloc, shelf, element, places, ids, out)?;
+    write_trees(alloc, shelf.store(), ids.as_slice(), out)?;
+    meet_again(alloc, places, ids, out)
+}
+
+// The same for a list that begins with the host.
 fn write_gathered(
     alloc: Global,
     shelf: &mut Shelf,
@@ -96,11 +140,24 @@ fn write_gathered(
 {
     let mut places = Items::new(alloc);
     let mut ids = Items::new(alloc);
-    end_number(u64::from(meet(&mut places, &mut ids, host)?), out)?;
-    let tails = gather_all(alloc, shelf, element, &mut places, &mut ids)?;
-    write_tails(tails.as_slice(), out)?;
-    write_trees(alloc, shelf.store(), ids.as_slice(), out)?;
-    meet_again(alloc, &mut places, &mut ids, out)
+    let place = meet(&mut places, &mut ids, host)?;
+    write_list(alloc, shelf, element, place, &mut places, &mut ids, out)
+}
+
+// The same for the element whose trees stand behind the host.
+fn gather_behind(
+    alloc: Global,
+    shelf: &mut Shelf,
+    ids: &[TreeId],
+    out: &mut Vec<u8>,
+) -> Result<(), RowFail>
+    requires held { All (λ id. id < length shelf.old.trees) ids.now }
+{
+    let [host, trees @ ..] = ids else {
+        return Err(RowFail::Refused);
+    };
+    let element = lone_element(alloc, shelf.store(), trees)?;
+    write_gathered(alloc, shelf, &element, *host, out)
 }
 
 /// All trees to which an element, whose trees stand behind the host, leads from that.
@@ -110,12 +167,6 @@ pub fn gathered(
     words: &[String],
     out: &mut Vec<u8>,
 ) -> Result<(), RowFail> {
-    let labels = labels_of(alloc, &document.gens)?;
-    let mut shelf = Shelf::new(alloc, &labels, most_leaves(&labels))?;
-    let ids = ids_of(alloc, &mut shelf, &labels, words)?;
-    let [host, trees @ ..] = ids.as_slice() else {
-        return Err(RowFail::Refused);
-    };
-    let element = lone_element(alloc, shelf.store(), trees)?;
-    write_gathered(alloc, &mut shelf, &element, *host, out)
+    let (mut shelf, ids) = shelved_trees(alloc, document, words)?;
+    gather_behind(alloc, &mut shelf, &ids, out)
 }

@@ -1,3 +1,6 @@
+ghost use Rattle.std.specs.Prelude.{◌≡◌};
+ghost use Rattle.shuffle_sums.specs.Settings.{labels_of};
+
 use crate::adding::added;
 use crate::bases;
 use crate::inserting::inserted;
@@ -37,6 +40,42 @@ fn weighed(alloc: Global, document: &Document) -> Result<WeightPath, RowFail> {
     Ok(weight_order(alloc, &document.gens, document.weights.as_slice())?)
 }
 
+// Writes the sum that words spell, term by term.
+fn summed<O: TreeOrder>(
+    alloc: Global,
+    setting: &Setting<O>,
+    shelf: &mut Shelf,
+    words: &[String],
+    out: &mut Vec<u8>,
+) -> Result<(), RowFail>
+    requires own { shelf.old.labels ≡ labels_of setting.now }
+{
+    let sum = spelled_sum(alloc, setting, shelf, words)?;
+    write_sum(alloc, shelf, &sum, out)
+}
+
+// The call over a setting and a shelf.
+fn call_in<O: TreeOrder>(
+    alloc: Global,
+    setting: &Setting<O>,
+    shelf: &mut Shelf,
+    call: SumCall,
+    words: &[String],
+    out: &mut Vec<u8>,
+) -> Result<(), RowFail>
+    requires own { shelf.old.labels ≡ labels_of setting.now }
+{
+    match call {
+        SumCall::FromSum => summed(alloc, setting, shelf, words, out),
+        SumCall::AddScaled => added(alloc, setting, shelf, words, out),
+        SumCall::InsertAt => inserted(alloc, setting, shelf, words, out),
+        SumCall::SElement => s_element_of(alloc, setting, shelf, words, out),
+        SumCall::Add => bases::kept(alloc, setting, shelf, words, out),
+        SumCall::Candidates => bases::candidates(alloc, setting, shelf, words, out),
+        SumCall::Divider => bases::divider(alloc, setting, shelf, words, out),
+    }
+}
+
 // The call over a setting.
 fn call_over<O: TreeOrder>(
     alloc: Global,
@@ -47,18 +86,7 @@ fn call_over<O: TreeOrder>(
 ) -> Result<(), RowFail> {
     let most = most_leaves(setting.labels());
     let mut shelf = Shelf::new(alloc, setting.labels(), most)?;
-    match call {
-        SumCall::FromSum => {
-            let sum = spelled_sum(alloc, setting, &mut shelf, words)?;
-            write_sum(alloc, &shelf, &sum, out)
-        }
-        SumCall::AddScaled => added(alloc, setting, &mut shelf, words, out),
-        SumCall::InsertAt => inserted(alloc, setting, &mut shelf, words, out),
-        SumCall::SElement => s_element_of(alloc, setting, &mut shelf, words, out),
-        SumCall::Add => bases::kept(alloc, setting, &mut shelf, words, out),
-        SumCall::Candidates => bases::candidates(alloc, setting, &mut shelf, words, out),
-        SumCall::Divider => bases::divider(alloc, setting, &mut shelf, words, out),
-    }
+    call_in(alloc, setting, &mut shelf, call, words, out)
 }
 
 // The call over the document's field and generators, and an order.
@@ -102,6 +130,14 @@ fn write_labels(labels: &Labels, out: &mut Vec<u8>) -> Result<(), RowFail> {
     Ok(end_line("", out)?)
 }
 
+// Writes the prime and the number of generators of a setting in a line, and the arities of the labels.
+fn write_setting(setting: &Setting<Path>, out: &mut Vec<u8>) -> Result<(), RowFail> {
+    write_number(u64::from(setting.field().prime()), out)?;
+    write_next(u64::from(setting.table().len()), out)?;
+    end_line("", out)?;
+    write_labels(setting.labels(), out)
+}
+
 /// The prime, the number of generators, and the arities of the labels of the document's setting by `path`.
 pub fn setting(
     alloc: Global,
@@ -113,10 +149,16 @@ pub fn setting(
         return Err(RowFail::Refused);
     };
     let setting = Setting::new(alloc, document.field, &document.gens, Path {})?;
-    write_number(u64::from(setting.field().prime()), out)?;
-    write_next(u64::from(setting.table().len()), out)?;
-    end_line("", out)?;
-    write_labels(setting.labels(), out)
+    write_setting(&setting, out)
+}
+
+// Writes weights in a line.
+fn write_weights(weights: &[u32], out: &mut Vec<u8>) -> Result<(), RowFail> {
+    write_text("weights", out)?;
+    for weight in weights {
+        write_next(u64::from(*weight), out)?;
+    }
+    Ok(end_line("", out)?)
 }
 
 /// The weights of the labels by the document's weights.
@@ -129,10 +171,5 @@ pub fn weights(
     let [] = words else {
         return Err(RowFail::Refused);
     };
-    let order = weighed(alloc, document)?;
-    write_text("weights", out)?;
-    for weight in order.weights() {
-        write_next(u64::from(*weight), out)?;
-    }
-    Ok(end_line("", out)?)
+    write_weights(weighed(alloc, document)?.weights(), out)
 }

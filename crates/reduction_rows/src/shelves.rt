@@ -23,14 +23,19 @@ pub fn fits_shelf(shelf: &Shelf, labels: &Labels, tree: &STree) -> bool
     is_over(labels, arity, tree)
 }
 
+// Writes the letters of a word of a key in a line.
+fn write_word(letters: &[u16], out: &mut Vec<u8>) -> Result<(), RowFail> {
+    write_text("word", out)?;
+    for letter in letters {
+        write_next(u64::from(*letter), out)?;
+    }
+    Ok(end_line("", out)?)
+}
+
 // The words of the leaves of a key, each in a line, and its leaf row.
 fn write_key(key: &Key, out: &mut Vec<u8>) -> Result<(), RowFail> {
     for word in key.words() {
-        write_text("word", out)?;
-        for letter in word.as_slice() {
-            write_next(u64::from(*letter), out)?;
-        }
-        end_line("", out)?;
+        write_word(word.as_slice(), out)?;
     }
     write_text("row ", out)?;
     Ok(write_line(key.row(), out)?)
@@ -40,11 +45,13 @@ fn write_key(key: &Key, out: &mut Vec<u8>) -> Result<(), RowFail> {
 fn write_shelved(
     alloc: Global,
     labels: &Labels,
+    shelf: &mut Shelf,
     tree: &STree,
     out: &mut Vec<u8>,
-) -> Result<(), RowFail> {
-    let mut shelf = Shelf::new(alloc, labels, most_leaves(labels))?;
-    if !fits_shelf(&shelf, labels, tree) {
+) -> Result<(), RowFail>
+    requires own { shelf.old.labels ≡ labels.now }
+{
+    if !fits_shelf(shelf, labels, tree) {
         return Err(RowFail::Refused);
     }
     let first = shelf.shelve(alloc, tree)?;
@@ -58,6 +65,27 @@ fn write_shelved(
     }
 }
 
+// The same in a shelf for these labels.
+fn write_first(
+    alloc: Global,
+    labels: &Labels,
+    tree: &STree,
+    out: &mut Vec<u8>,
+) -> Result<(), RowFail> {
+    let mut shelf = Shelf::new(alloc, labels, most_leaves(labels))?;
+    write_shelved(alloc, labels, &mut shelf, tree, out)
+}
+
+// The same in a shelf for the labels of the document.
+fn write_tree(
+    alloc: Global,
+    document: &Document,
+    tree: &STree,
+    out: &mut Vec<u8>,
+) -> Result<(), RowFail> {
+    write_first(alloc, &labels_of(alloc, &document.gens)?, tree, out)
+}
+
 /// Shelves the tree twice: its id, and its id again, and then its key.
 pub fn shelve(
     alloc: Global,
@@ -68,7 +96,5 @@ pub fn shelve(
     let [word] = words else {
         return Err(RowFail::Refused);
     };
-    let labels = labels_of(alloc, &document.gens)?;
-    let tree = shuffle_of(alloc, word)?;
-    write_shelved(alloc, &labels, &tree, out)
+    write_tree(alloc, document, &shuffle_of(alloc, word)?, out)
 }

@@ -4,10 +4,12 @@ ghost use Rattle.shuffle_sums.specs.Putting.{ArePut};
 ghost use Rattle.shuffle_sums.specs.Shelves.{IsShelf, IsShelved, KeepsShelf};
 
 use crate::shelves::fits_shelf;
-use rows::{RowFail, end_tree, shuffles_of};
+use presentation_text::Document;
+use rows::{RowFail, end_tree, most_leaves, shuffles_of};
+use shuffle_passage::labels_of;
 use shuffle_sums::Shelf;
 use shuffle_trees::{Labels, STree};
-use std::alloc::Global;
+use std::alloc::{AllocError, Global};
 use tree_store::{Store, TreeId};
 
 // The id of the tree; `Refused` where it doesn't fit the shelf, which was made for the labels.
@@ -46,8 +48,8 @@ pub fn shelve_all(
     Ok(ids)
 }
 
-/// The ids of the trees that words spell.
-pub fn ids_of(
+// The ids of the trees that words spell.
+fn ids_of(
     alloc: Global,
     shelf: &mut Shelf,
     labels: &Labels,
@@ -60,6 +62,37 @@ pub fn ids_of(
     shelve_all(alloc, shelf, labels, trees.as_slice())
 }
 
+// The ids of the trees that words spell, in a shelf for these labels.
+fn shelved_over(
+    alloc: Global,
+    labels: &Labels,
+    words: &[String],
+) -> Result<(Shelf, Vec<TreeId>), RowFail>
+    ensures held { IfOk result (λ made. All (λ id. id < length made.0.trees) made.1.items) }
+{
+    let mut shelf = Shelf::new(alloc, labels, most_leaves(labels))?;
+    let ids = ids_of(alloc, &mut shelf, labels, words)?;
+    Ok((shelf, ids))
+}
+
+/// A shelf for the labels of the document, and the ids of the trees that words spell.
+pub fn shelved_trees(
+    alloc: Global,
+    document: &Document,
+    words: &[String],
+) -> Result<(Shelf, Vec<TreeId>), RowFail>
+    ensures held { IfOk result (λ made. All (λ id. id < length made.0.trees) made.1.items) }
+{
+    shelved_over(alloc, &labels_of(alloc, &document.gens)?, words)
+}
+
+/// Ends a line by the tree with this id.
+pub fn end_id(alloc: Global, store: &Store, id: TreeId, out: &mut Vec<u8>) -> Result<(), AllocError>
+    requires held { id < length store.now }
+{
+    end_tree(store.tree_of(alloc, id)?.shape(), out)
+}
+
 /// Writes each tree in a line.
 pub fn write_trees(
     alloc: Global,
@@ -70,7 +103,7 @@ pub fn write_trees(
     requires held { All (λ id. id < length store.now) ids.now }
 {
     for id in ids {
-        end_tree(store.tree_of(alloc, *id)?.shape(), out)?;
+        end_id(alloc, store, *id, out)?;
     }
     Ok(())
 }

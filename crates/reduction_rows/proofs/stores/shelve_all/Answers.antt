@@ -1,7 +1,6 @@
 use Rattle.std.proofs.Common.{◌∙◌, subst}
 use Rattle.std.proofs.lemmas.List.{take_all}
 use Rattle.shuffle_sums.specs.Putting.{ArePut}
-use Rattle.shuffle_sums.proofs.PutTrees.{none_put}
 use Rattle.reduction_rows.proofs.ShelvedLists.{shelved_more}
 use Rattle.reduction_rows.proofs.stores.shelve_all.Goals as goal
 

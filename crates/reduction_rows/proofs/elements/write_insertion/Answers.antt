@@ -3,7 +3,7 @@ use Rattle.std.specs.List.{All}
 use Rattle.tree_store.specs.Stores.{tree_at}
 use Rattle.division.specs.Insertions.{AddsInsertion}
 use Rattle.reduction_rows.proofs.LoneElement.{held_inserted}
-use Rattle.reduction_rows.proofs.elements.write_inserted.Goals as goal
+use Rattle.reduction_rows.proofs.elements.write_insertion.Goals as goal
 
 pub write_trees-requires : goal.write_trees-requires
 write_trees-requires c =

@@ -1,5 +1,0 @@
-use Rattle.reduction_rows.proofs.ShelvedLists.{held_tail}
-use Rattle.reduction_rows.proofs.elements.inserted.Goals as goal
-
-pub element_of-requires : goal.element_of-requires
-element_of-requires c = record { held = held_tail c.store.result.now c.ids_of.new.shelf.trees c.as_slice.result.now c.in_ok-ids.ids.items c.store.ensures.store c.as_slice.ensures.value c.in_ok-ids.ensures.held }
