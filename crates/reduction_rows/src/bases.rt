@@ -46,6 +46,26 @@ fn basis_of<O: TreeOrder>(
     Ok(basis)
 }
 
+// Gives the only element of the basis the sum of these terms as tail, and writes its residues and ids.
+fn keep_tail<O: TreeOrder>(
+    alloc: Global,
+    setting: &Setting<O>,
+    shelf: &mut Shelf,
+    basis: &mut Basis<O>,
+    words: &[String],
+    out: &mut Vec<u8>,
+) -> Result<(), RowFail>
+    requires own { shelf.old.labels ≡ labels_of setting.now }
+    requires one { length basis.old.elements ≡ 1 }
+{
+    let tail = spelled_sum(alloc, setting, shelf, words)?;
+    basis.set_tail(alloc, 0, tail)?;
+    for element in basis.elements() {
+        write_terms(element.terms(), out)?;
+    }
+    Ok(())
+}
+
 /// Keeps the sum of the terms before `+` in a basis, and gives it that of the terms behind as tail: the residues and ids of the
 /// element.
 pub fn kept<O: TreeOrder>(
@@ -62,12 +82,16 @@ pub fn kept<O: TreeOrder>(
         return Err(RowFail::Refused);
     };
     let mut basis = basis_of(alloc, setting, shelf, ones)?;
-    let tail = spelled_sum(alloc, setting, shelf, others)?;
-    basis.set_tail(alloc, 0, tail)?;
-    for element in basis.elements() {
-        write_terms(element.terms(), out)?;
+    keep_tail(alloc, setting, shelf, &mut basis, others, out)
+}
+
+// Writes positions in a line.
+fn write_positions(positions: &[u32], out: &mut Vec<u8>) -> Result<(), RowFail> {
+    write_text("positions", out)?;
+    for position in positions {
+        write_next(u64::from(*position), out)?;
     }
-    Ok(())
+    Ok(end_line("", out)?)
 }
 
 /// The positions, in the basis of the sum of the terms behind them, of elements that begin with a label and have an arity.
@@ -86,11 +110,7 @@ pub fn candidates<O: TreeOrder>(
     let label = u16::from(small_number_of(label)?);
     let arity = small_number_of(arity)?;
     let basis = basis_of(alloc, setting, shelf, terms)?;
-    write_text("positions", out)?;
-    for position in basis.candidates(shelf, label, arity) {
-        write_next(u64::from(*position), out)?;
-    }
-    Ok(end_line("", out)?)
+    write_positions(basis.candidates(shelf, label, arity), out)
 }
 
 // Writes the position of the first element whose leading tree divides a tree, and its first place; `none` where there is none.

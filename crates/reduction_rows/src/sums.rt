@@ -50,26 +50,32 @@ fn first_arity(terms: &[(u32, STree)]) -> u8 {
     }
 }
 
-// The term of a residue and a tree.
-fn term_of(alloc: Global, coef: &String, tree: &String) -> Result<(u32, STree), RowFail> {
+// Puts the term of a residue and a tree behind the others.
+fn push_term(
+    alloc: Global,
+    terms: &mut Items<(u32, STree)>,
+    coef: &String,
+    tree: &String,
+) -> Result<(), RowFail> {
     let coef = number_of(coef)?;
-    Ok((coef, shuffle_of(alloc, tree)?))
+    terms.push((coef, shuffle_of(alloc, tree)?))?;
+    Ok(())
 }
 
-/// The terms that words spell: for each a residue and a tree.
-pub fn spelled(alloc: Global, words: &[String]) -> Result<Items<(u32, STree)>, RowFail> {
+// The terms that words spell: for each a residue and a tree.
+fn spelled(alloc: Global, words: &[String]) -> Result<Items<(u32, STree)>, RowFail> {
     if words.len() % 2 == 1 {
         return Err(RowFail::Refused);
     }
     let mut terms = Items::new(alloc);
     for at in 0..words.len() / 2 {
-        terms.push(term_of(alloc, &words[2 * at], &words[2 * at + 1])?)?;
+        push_term(alloc, &mut terms, &words[2 * at], &words[2 * at + 1])?;
     }
     Ok(terms)
 }
 
-/// The sum of the terms. `Refused` where a number is no residue, or a tree none over the labels with the leaves 1 to `arity`.
-pub fn sum_of<O: TreeOrder>(
+// The sum of the terms. `Refused` where a number is no residue, or a tree none over the labels with the leaves 1 to `arity`.
+fn sum_of<O: TreeOrder>(
     alloc: Global,
     setting: &Setting<O>,
     shelf: &mut Shelf,
@@ -91,6 +97,24 @@ pub fn sum_of<O: TreeOrder>(
     Ok(SSum::from_sum(alloc, setting, shelf, terms)?)
 }
 
+/// The sum of the terms that words spell, whose trees have this arity.
+pub fn sum_of_arity<O: TreeOrder>(
+    alloc: Global,
+    setting: &Setting<O>,
+    shelf: &mut Shelf,
+    arity: u8,
+    words: &[String],
+) -> Result<SSum<O>, RowFail>
+    requires own { shelf.old.labels ≡ labels_of setting.now }
+    ensures falls { IfOk result (FallsBy (compares O.weights O.by_keys setting.now) (field_of setting.now) shelf.new) }
+    ensures trees { IfOk result (AreTrees shelf.new arity) }
+    ensures keeps { OnOk result (KeepsShelf shelf.old shelf.new) }
+    ensures shelf { OnOk result (IsShelf shelf.new) }
+{
+    let terms = spelled(alloc, words)?;
+    sum_of(alloc, setting, shelf, arity, terms.as_slice())
+}
+
 /// The sum of the terms that words spell, whose trees have the arity of the first.
 pub fn spelled_sum<O: TreeOrder>(
     alloc: Global,
@@ -108,7 +132,17 @@ pub fn spelled_sum<O: TreeOrder>(
     sum_of(alloc, setting, shelf, arity, terms.as_slice())
 }
 
-/// Writes each term in a line: its residue, and its tree.
+// Writes each term in a line: its residue, and its tree.
+fn write_spelled(terms: &[(u32, STree)], out: &mut Vec<u8>) -> Result<(), RowFail> {
+    for term in terms {
+        write_number(u64::from(term.0), out)?;
+        out.push(b' ')?;
+        end_tree(term.1.shape(), out)?;
+    }
+    Ok(())
+}
+
+/// Writes each term of the sum in a line: its residue, and its tree.
 pub fn write_sum<O: TreeOrder>(
     alloc: Global,
     shelf: &Shelf,
@@ -117,11 +151,5 @@ pub fn write_sum<O: TreeOrder>(
 ) -> Result<(), RowFail>
     requires stands { HaveKeys shelf.now sum.now }
 {
-    let terms = sum.to_sum(alloc, shelf)?;
-    for term in terms.as_slice() {
-        write_number(u64::from(term.0), out)?;
-        out.push(b' ')?;
-        end_tree(term.1.shape(), out)?;
-    }
-    Ok(())
+    write_spelled(sum.to_sum(alloc, shelf)?.as_slice(), out)
 }

@@ -7,9 +7,9 @@ use Rattle.tree_store.specs.Stores.{tree_at}
 use Rattle.reduction_rows.proofs.FitPlaces.{fit_place}
 use Rattle.reduction_rows.proofs.inserting.write_inserted.Goals as goal
 
-pub insert_at-requires-clause-fit : goal.insert_at-requires-clause-fit
-insert_at-requires-clause-fit g c =
-    let shelf = c.sum_of.new.shelf in
+pub write_insertion-requires-clause-fit : goal.write_insertion-requires-clause-fit
+write_insertion-requires-clause-fit g c =
+    let shelf = c.sum_of_arity.new.shelf in
     let found = c.in_ok-id.ensures.found in
     let host : tree_at shelf.trees c.in_ok-id.id ≡ c.args.host.now = tree_kept c.shelve.new.self shelf c.in_ok-sum.ensures.keeps c.in_ok-id.ensures.shelf c.in_ok-id.id found.0 ∙ found.1 in
     subst (λ (t : Tree ℕ). FitPlace c.args.place.now t (over shelf c.in_ok-sum.sum)) (sym host)
